@@ -50,8 +50,10 @@ def try_conversation():
 
 
 def is_modelled(words):
-    """Whether the model knows a command: its files are there, and it has no option."""
-    return words[0] in COMMANDS and None not in words and "--names" not in words
+    """Whether the model knows a command: its files are there, it has no option, and it is alone."""
+    if words[0] not in COMMANDS or None in words or "|" in words:
+        return False
+    return not any(type(word) is str and word.startswith("--") for word in words)
 
 
 def calls():

@@ -9,18 +9,22 @@ use self::progress::ProgressLine;
 use clap::Error;
 use clap::error::ErrorKind;
 use plan_cli::{
-    CliFault, FileOrder, Log, OfficeOrder, Order, ProofWatcher, Rows, SolveWatcher, Task, Unlogged,
-    Unwatched, capacities_of, command, explain_run, help, hint, listed_on_files, order_of,
-    overrides_of, run_on_file, template_run,
+    CliFault, FileOrder, ListedTask, Log, OfficeOrder, Order, ProofWatcher, Rows, SolveWatcher,
+    Task, Unlogged, Unwatched, capacities_of, command, explain_run, help, hint, listed_on_files,
+    order_of, overrides_of, run_on_file, template_run,
 };
-use plan_io::StdSink;
+use plan_formats::{Format, error_json};
+use plan_io::{MemSink, StdSink, write_whole};
 use plan_serve::{
     ServeFault, Service, Target, check_office_on_file, init_on_file, replay_on_files, serve_on_port,
 };
 use std::alloc::{AllocError, Global};
 use std::env;
-use std::io::{self, IsTerminal};
+use std::io::{self, IsTerminal, Write};
 use std::process::ExitCode;
+
+/// The status of `plan check --status` if the schedule isn't active.
+const NOT_ACTIVE: u8 = 3;
 
 /// The reason why no command starts.
 #[derive(Drop)]
@@ -83,16 +87,37 @@ fn do_task<V: ProofWatcher + SolveWatcher, L: Log>(
     run_on_file(rt, task, rows, watcher, log, path, &mut writer)
 }
 
-// Runs an order on files, and writes to standard output.
-fn do_file_order(rt: &HostRuntime, order: FileOrder<'_>, rows: Rows) -> Result<(), CliFault> {
+// Writes a verdict to standard output. Returns the status: 0 if it is `active`, else 3.
+fn do_check(
+    rt: &HostRuntime,
+    task: ListedTask<'_>,
+    rows: Rows,
+    path: &str,
+    starts: &str,
+) -> Result<u8, CliFault> {
+    let mut text = MemSink::new(Vec::new(rt.alloc()));
+    listed_on_files(rt, task, rows, path, starts, &mut text)?;
+    let text = text.into_bytes();
+    let mut writer = StdSink::new(io::writer(rt));
+    write_whole(&mut writer, &text).map_err(|_| CliFault::Output)?;
+    // No other verdict contains this word.
+    Ok(if text.windows(6).any(|word| word == b"active".as_slice()) {
+        0
+    } else {
+        NOT_ACTIVE
+    })
+}
+
+// Runs an order on files, and writes to standard output. Returns the status.
+fn do_file_order(rt: &HostRuntime, order: FileOrder<'_>, rows: Rows) -> Result<u8, CliFault> {
     let mut writer = StdSink::new(io::writer(rt));
     match order {
         FileOrder::Task(task, path) => {
-            do_task(rt, task, rows, &mut Unwatched, &mut Unlogged, path)
+            do_task(rt, task, rows, &mut Unwatched, &mut Unlogged, path)?;
         }
         FileOrder::Watched(task, path) => {
             let mut line = ProgressLine::new(rt);
-            do_task(rt, task, rows, &mut line, &mut Unlogged, path)
+            do_task(rt, task, rows, &mut line, &mut Unlogged, path)?;
         }
         FileOrder::Solve {
             task,
@@ -103,17 +128,27 @@ fn do_file_order(rt: &HostRuntime, order: FileOrder<'_>, rows: Rows) -> Result<(
             let mut line = ProgressLine::within(rt, seconds);
             let mut log = FileLog::create(rt, log)?;
             do_task(rt, task, rows, &mut line, &mut log, file)?;
-            log.end()
+            log.end()?;
         }
-        FileOrder::Listed { task, file, starts } => {
-            listed_on_files(rt, task, rows, file, starts, &mut writer)
-        }
-        FileOrder::New(template) => template_run(template, &mut writer),
+        FileOrder::Listed {
+            task,
+            file,
+            starts,
+            is_status: false,
+        } => listed_on_files(rt, task, rows, file, starts, &mut writer)?,
+        FileOrder::Listed {
+            task,
+            file,
+            starts,
+            ..
+        } => return do_check(rt, task, rows, file, starts),
+        FileOrder::New(template) => template_run(template, &mut writer)?,
         FileOrder::Explain(words) => {
             let line = words.join(rt.alloc(), " ")?;
-            explain_run(rt.alloc(), line.as_str(), &mut writer)
+            explain_run(rt.alloc(), line.as_str(), &mut writer)?;
         }
     }
+    Ok(0)
 }
 
 // Whether hints are printed: PLAN_HINTS decides if it is 1 or 0, else they are for a terminal only.
@@ -140,6 +175,14 @@ fn print_error(rt: &HostRuntime, file: Option<&str>, line: &str) -> u8 {
     let _ = eprintln!(rt; "{line}");
     if has_hints(rt) {
         print_hint(rt, hint(rt.alloc(), file, line));
+    }
+    1
+}
+
+// Prints an error line as JSON. Returns the status 1.
+fn print_json_error(rt: &HostRuntime, line: &str) -> u8 {
+    if let Ok(text) = error_json(rt.alloc(), line) {
+        let _ = rt.stderr().write_all(&text);
     }
     1
 }
@@ -196,7 +239,8 @@ fn do_order(rt: &HostRuntime, order: Order<'_>) -> Result<u8, Misuse> {
             _,
         ) => Err(Misuse::OneInput),
         Order::File(order, rows) => Ok(match do_file_order(rt, order, rows) {
-            Ok(()) => 0,
+            Ok(status) => status,
+            Err(fault) if rows == Rows::In(Format::Json) => print_json_error(rt, fault.line()),
             Err(fault) => print_error(rt, order.file_of(fault.line()), fault.line()),
         }),
         Order::Office(order) => Ok(match do_office_order(rt, order) {

@@ -11,8 +11,8 @@ use Rattle.plan_gantt.specs.ShopCharts.{IsShopCalendarTable, HasStepBeyond}
 use Rattle.plan_cli.specs.declared.fault.CliFault.{CliFault}
 use Rattle.plan_cli.specs.Run.{Refuses}
 use Rattle.plan_cli.specs.declared.origins.Origin.{Origin}
-use Rattle.plan_cli.specs.Scheduled.{IsShopScheduleBy, IsMadeFrom, IsMadeOfShop}
-use Rattle.plan_cli.specs.DaysRun.{TellsNoCalendar, TellsBeyond, IsDaysFrom, IsShopDaysBy, TellsNoDaysFrom, TellsNoShopDays}
+use Rattle.plan_cli.specs.Scheduled.{IsMadeFrom, IsMadeOfShopFrom}
+use Rattle.plan_cli.specs.DaysRun.{TellsNoCalendar, TellsBeyond, IsDaysFrom, IsShopDaysFrom, TellsNoDaysFrom, TellsNoShopDaysFrom}
 use Rattle.plan_cli.proofs.RunLemmas.{refuses_as}
 
 pub days_shown : (from : Origin) (start marks : List ℕ) (i : Planned) (m : Schedule) (c : Workdays) (net : Net)
@@ -43,28 +43,24 @@ days_beyond from start marks i m c net e made is same t =
       hidden = inr (c, is, (subst (λ (n : Net). HasActivityBeyond c n m.starts.items) same tells.0, tells.1));
     })) t
 
-made_shop_starts : (name : List ℕ) (s : JobShop) (m : Schedule) → IsMadeOfShop name s m
-    → IsShopScheduleBy name s m.starts.items
-made_shop_starts name s m (rule, named, by) = record { rule = rule; named = named; starts_are = by.starts_are; active = by.active }
-
-pub shop_days_shown : (name start marks : List ℕ) (s shop : JobShop) (m : Schedule) (c : Workdays)
+pub shop_days_shown : (from : Origin) (start marks : List ℕ) (s shop : JobShop) (m : Schedule) (c : Workdays)
     (text : List ℕ)
-    → IsMadeOfShop name s m → IsCalendar start marks c
-    → shop ≡ s → IsShopCalendarTable c shop m.starts.items text → IsShopDaysBy name start marks s text
-shop_days_shown name start marks s shop m c text made is same shown = record {
+    → IsMadeOfShopFrom from s m → IsCalendar start marks c
+    → shop ≡ s → IsShopCalendarTable c shop m.starts.items text → IsShopDaysFrom from start marks s text
+shop_days_shown from start marks s shop m c text made is same shown = record {
   starts = m.starts.items;
-  schedule = made_shop_starts name s m made;
+  schedule = made.starts;
   shown = (c, is, subst (λ (t : JobShop). IsShopCalendarTable c t m.starts.items text) same shown);
 }
 
-pub shop_days_beyond : (name start marks : List ℕ) (s shop : JobShop) (m : Schedule) (c : Workdays)
+pub shop_days_beyond : (from : Origin) (start marks : List ℕ) (s shop : JobShop) (m : Schedule) (c : Workdays)
     (e : CliFault)
-    → IsMadeOfShop name s m → IsCalendar start marks c
-    → shop ≡ s → Refuses (TellsBeyond (HasStepBeyond c shop m.starts.items)) e → Refuses (TellsNoShopDays name start marks s) e
-shop_days_beyond name start marks s shop m c e made is same t =
-    refuses_as (TellsBeyond (HasStepBeyond c shop m.starts.items)) (TellsNoShopDays name start marks s) e
+    → IsMadeOfShopFrom from s m → IsCalendar start marks c
+    → shop ≡ s → Refuses (TellsBeyond (HasStepBeyond c shop m.starts.items)) e → Refuses (TellsNoShopDaysFrom from start marks s) e
+shop_days_beyond from start marks s shop m c e made is same t =
+    refuses_as (TellsBeyond (HasStepBeyond c shop m.starts.items)) (TellsNoShopDaysFrom from start marks s) e
     (λ line tells. inr (record {
       starts = m.starts.items;
-      schedule = made_shop_starts name s m made;
+      schedule = made.starts;
       hidden = inr (c, is, (subst (λ (t : JobShop). HasStepBeyond c t m.starts.items) same tells.0, tells.1));
     })) t

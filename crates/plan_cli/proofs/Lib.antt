@@ -1,6 +1,7 @@
 pub mod CapacityLemmas
 pub mod RunLemmas
 pub mod PlanLemmas
+pub mod SlackLemmas
 pub mod OriginLemmas
 pub mod ScheduledLemmas
 pub mod StartLemmas

@@ -8,7 +8,11 @@ use Rattle.plan_sgs.specs.Problem.{makespan}
 use Rattle.plan_sgs.specs.declared.schedule.Schedule.{Schedule}
 use Rattle.plan_cli.specs.declared.fault.CliFault.{CliFault}
 use Rattle.plan_cli.specs.Run.{Refuses}
-use Rattle.plan_cli.specs.CheckRun.{TellsBadStarts}
+use Rattle.plan_shop.specs.Shop.{JobShop, count_steps}
+use Rattle.plan_shop.specs.Shop as shops
+use Rattle.plan_gantt.specs.Limits.{latest_end}
+use Rattle.plan_cli.specs.CheckRun.{TellsBadStarts, TellsNoShopStarts}
+use Rattle.plan_cli.specs.Scheduled.{IsMadeOfShop, IsMadeOfShopFrom, IsShopScheduleBy, IsShopScheduleFrom, IsShopShowable, TellsShopNotListed}
 use Rattle.plan_cli.specs.ScheduleRun.{TellsNeed}
 use Rattle.plan_cli.specs.Scheduled.{IsMade, IsMadeFrom, IsScheduleBy, IsScheduleFrom, IsShowable, TellsNotListed}
 use Rattle.plan_cli.specs.declared.origins.Origin.{Origin}
@@ -47,6 +51,37 @@ pub shows : (i : Planned) (m : Schedule) → length m.starts.items ≡ count_of 
     → All (λ t. t ≤ 10000000) m.starts.items → m.makespan ≡ makespan (problem_of i) m.starts.items
     → m.makespan ≤ greatest_end → IsShowable i m
 shows i m whole early is ends = record {
+  makespan = is;
+  fits = record { each_started = whole; in_time = λ k inside. early k 0 inside; ends = ends };
+}
+
+-- a text of starts of a job shop that is refused lists no schedule
+pub shop_unlisted : (listed : List ℕ) (s : JobShop) (e : CliFault) → Refuses (TellsNoShopStarts listed s) e
+    → Refuses (TellsShopNotListed listed s) e
+shop_unlisted listed s e refused =
+    refuses_as (TellsNoShopStarts listed s) (TellsShopNotListed listed s) e (λ line tells. inl tells) refused
+
+-- the starts of a job shop's schedule by the rule with this name
+pub shop_by_name : (name : List ℕ) (s : JobShop) (m : Schedule) → IsMadeOfShop name s m → IsShopScheduleBy name s m.starts.items
+shop_by_name name s m (rule, named, by) =
+    record { rule = rule; named = named; starts_are = by.starts_are; active = by.active }
+
+-- texts can show a job shop's schedule by the rule with this name
+pub shop_shown_by_name : (name : List ℕ) (s : JobShop) (m : Schedule) → IsMadeOfShop name s m → IsShopShowable s m
+shop_shown_by_name name s m (rule, named, by) = record { makespan = by.makespan; fits = by.fits }
+
+-- the schedule of a job shop, if its starts are those and texts can show it
+pub made_of_shop_from : {A : Type 0} (from : Origin) (r : Result (A × Schedule) CliFault) (s : JobShop)
+    → IfOk r (λ m. IsShopScheduleFrom from s m.1.starts.items) → IfOk r (λ m. IsShopShowable s m.1)
+    → IfOk r (λ m. IsMadeOfShopFrom from s m.1)
+made_of_shop_from from (Ok m) s are showable = record { starts = are; showable = showable }
+made_of_shop_from from (Err e) s are showable = tt
+
+-- texts can show a job shop's schedule with early starts and its makespan
+pub shows_shop : (s : JobShop) (m : Schedule) → length m.starts.items ≡ count_steps s
+    → All (λ t. t ≤ 10000000) m.starts.items → m.makespan ≡ makespan (shops.problem_of s) m.starts.items
+    → m.makespan ≤ latest_end → IsShopShowable s m
+shows_shop s m whole early is ends = record {
   makespan = is;
   fits = record { each_started = whole; in_time = λ k inside. early k 0 inside; ends = ends };
 }

@@ -20,12 +20,15 @@ use Rattle.plan_gantt.specs.FirstFaults.{TellsFirstFailing, TellsFirstShopFault}
 use Rattle.plan_gantt.specs.ScheduleText.{IsScheduleTextOf, TellsRefusal}
 use Rattle.plan_gantt.specs.ProjectBestText.{IsBestProjectTextOf, TellsBestProjectRefusal}
 use Rattle.plan_sgs.specs.Instances.{Planned}
-use Rattle.plan_cli.specs.Plans.{IsOfProject, RefusesFile}
-use Rattle.plan_cli.specs.Scheduled.{TellsNotMade}
-use Rattle.plan_cli.specs.ChartRun.{IsChartFrom, IsShopChartOf}
-use Rattle.plan_cli.specs.DaysRun.{IsDaysFrom, IsShopDaysOf, TellsNoDaysFrom, TellsWhyNoShopDays}
+use Rattle.plan_shop.specs.Shop.{JobShop}
+use Rattle.plan_formats.specs.declared.format.Format.{Format}
+use Rattle.plan_cli.specs.Plans.{IsOfProject, RefusesFile, IsOfShop, RefusesShop}
+use Rattle.plan_cli.specs.Scheduled.{TellsNotMade, TellsShopNotMade}
+use Rattle.plan_cli.specs.ChartRun.{IsChartFrom, IsShopChartFrom}
+use Rattle.plan_cli.specs.DaysRun.{IsDaysFrom, IsShopDaysFrom, TellsNoDaysFrom, TellsNoShopDaysFrom}
+use Rattle.plan_cli.specs.SlackRun.{IsSlackOf, TellsNoSlack}
 use Rattle.plan_cli.specs.NamesRun.{AreNamesOf, TellsNotPlain}
-use Rattle.plan_cli.specs.CheckRun.{IsVerdictOf, TellsWhyNoVerdict}
+use Rattle.plan_cli.specs.CheckRun.{IsVerdictOf, TellsWhyNoVerdict, TellsShopVerdict, TellsNoShopStarts}
 use Rattle.plan_cli.specs.ShopRun.{IsShopTableOf, TellsWhyNoShop}
 use Rattle.plan_cli.specs.BestRun.{IsBestTableOf, TellsWhyNoBest}
 use Rattle.plan_cli.specs.ProveRun.{IsProofTableOf, TellsWhyNoProof}
@@ -351,16 +354,14 @@ pub told_not_plain : (file : List ℕ) (first : FileFault) (e : CliFault)
 told_not_plain file first e (inl memory) t = refuses_as (Tells first) (TellsNotPlain file) e (λ line tells. absurd (tells.0 memory.0)) t
 told_not_plain file first e (inr failing) t = refuses_as (Tells first) (TellsNotPlain file) e (λ line tells. (first, failing, tells.1)) t
 
-shop_chart_front : (name instance : List ℕ) → HoldsByFront (IsShopChartOf name instance)
-shop_chart_front name instance file text (doc, says, shown) = (doc, says_shop_front instance file doc says, shown)
+-- the text for the shop in the front of a file is that for the file
+of_shop_front : (instance : List ℕ) (IsText : JobShop → List ℕ → Type 0) → HoldsByFront (IsOfShop instance IsText)
+of_shop_front instance IsText file text (doc, says, shown) = (doc, says_shop_front instance file doc says, shown)
 
-shop_days_front : (name start marks instance : List ℕ) → HoldsByFront (IsShopDaysOf name start marks instance)
-shop_days_front name start marks instance file text (doc, says, shown) = (doc, says_shop_front instance file doc says, shown)
-
-no_shop_days_front : (name start marks instance : List ℕ)
-    → HoldsByFront (TellsWhyNoShopDays name start marks instance)
-no_shop_days_front name start marks instance file line (inl first) = inl (first_front instance file line first)
-no_shop_days_front name start marks instance file line (inr (doc, says, tells)) = inr (doc, says_shop_front instance file doc says, tells)
+-- the line that refuses the front of a file is that for the file
+refuses_shop_front : (instance : List ℕ) (IsLine : JobShop → List ℕ → Type 0) → HoldsByFront (RefusesShop instance IsLine)
+refuses_shop_front instance IsLine file line (inl first) = inl (first_front instance file line first)
+refuses_shop_front instance IsLine file line (inr (doc, says, tells)) = inr (doc, says_shop_front instance file doc says, tells)
 
 verdict_front : (listed : List ℕ) → HoldsByFront (IsVerdictOf listed)
 verdict_front listed file text (p, says, told) = (p, project_front file p says, told)
@@ -436,11 +437,13 @@ task_front : (task : Task) → HoldsByFront (IsTextOf task)
 task_front task.Dates = table_front
 task_front (task.Schedule rule given) = of_project_front given.now (IsScheduleTextOf rule.now)
 task_front (task.Chart from given) = of_project_front given.now (IsChartFrom from)
-task_front (task.ShopChart rule instance) = shop_chart_front rule.now instance.now
+task_front (task.ShopChart from instance) = of_shop_front instance.now (IsShopChartFrom from)
 task_front (task.Days from dates given) = of_project_front given.now (IsDaysFrom from dates.start.now dates.marks.now)
-task_front (task.ShopDays rule dates instance) = shop_days_front rule.now dates.start.now dates.marks.now instance.now
+task_front (task.ShopDays from dates instance) = of_shop_front instance.now (IsShopDaysFrom from dates.start.now dates.marks.now)
 task_front task.Names = names_front
 task_front (task.Check starts) = verdict_front starts.now
+task_front (task.ShopCheck starts instance) = of_shop_front instance.now (TellsShopVerdict starts.now)
+task_front (task.Slack starts given) = of_project_front given.now (IsSlackOf starts.now)
 task_front (task.Shop rule instance) = shop_front rule.now instance.now
 task_front (task.Best budget instance) = best_front budget.now instance.now
 task_front (task.Prove nodes instance) = proof_front nodes.now instance.now
@@ -454,11 +457,13 @@ pub task_line_front : (task : Task) → HoldsByFront (IsLineOf task)
 task_line_front task.Dates = line_front
 task_line_front (task.Schedule rule given) = refuses_file_front given.now (TellsRefusal rule.now)
 task_line_front (task.Chart from given) = refuses_file_front given.now (TellsNotMade from)
-task_line_front (task.ShopChart rule instance) = no_shop_front rule.now instance.now
+task_line_front (task.ShopChart from instance) = refuses_shop_front instance.now (TellsShopNotMade from)
 task_line_front (task.Days from dates given) = refuses_file_front given.now (TellsNoDaysFrom from dates.start.now dates.marks.now)
-task_line_front (task.ShopDays rule dates instance) = no_shop_days_front rule.now dates.start.now dates.marks.now instance.now
+task_line_front (task.ShopDays from dates instance) = refuses_shop_front instance.now (TellsNoShopDaysFrom from dates.start.now dates.marks.now)
 task_line_front task.Names = not_plain_front
 task_line_front (task.Check starts) = no_verdict_front starts.now
+task_line_front (task.ShopCheck starts instance) = refuses_shop_front instance.now (TellsNoShopStarts starts.now)
+task_line_front (task.Slack starts given) = refuses_file_front given.now (TellsNoSlack starts.now)
 task_line_front (task.Shop rule instance) = no_shop_front rule.now instance.now
 task_line_front (task.Best budget instance) = no_best_front budget.now instance.now
 task_line_front (task.Prove nodes instance) = no_proof_front nodes.now instance.now
@@ -481,11 +486,13 @@ file_short : (task : Task) (file text : List ℕ) → IsTextOf task file text �
 file_short task.Dates file text (p, says, rest) = project_short file p says
 file_short (task.Schedule rule given) file text (p, says, rest) = project_short file p says
 file_short (task.Chart from given) file text (p, says, rest) = project_short file p says
-file_short (task.ShopChart rule instance) file text (doc, says, rest) = shop_short instance.now file doc says
+file_short (task.ShopChart from instance) file text (doc, says, rest) = shop_short instance.now file doc says
 file_short (task.Days from dates given) file text (p, says, rest) = project_short file p says
-file_short (task.ShopDays rule dates instance) file text (doc, says, rest) = shop_short instance.now file doc says
+file_short (task.ShopDays from dates instance) file text (doc, says, rest) = shop_short instance.now file doc says
 file_short task.Names file text (readable, is) = plain_short file readable
 file_short (task.Check starts) file text (p, says, rest) = project_short file p says
+file_short (task.ShopCheck starts instance) file text (doc, says, rest) = shop_short instance.now file doc says
+file_short (task.Slack starts given) file text (p, says, rest) = project_short file p says
 file_short (task.Shop rule instance) file text (doc, says, rest) = shop_short instance.now file doc says
 file_short (task.Best budget instance) file text (doc, says, rest) = shop_short instance.now file doc says
 file_short (task.Prove nodes instance) file text (doc, says, rest) = shop_short instance.now file doc says
@@ -507,7 +514,20 @@ named_front task file text (unnamed, is, named) = by_length (cases_lt longest_te
         let few = file_short task (take (longest_text + 1) file) unnamed is in
         absurd (omega (arith, m, few, long))
 
--- the text of a task for the front of a file, with names or without, is that for the file
+-- the text of a task in a format for the front of a file is that for the file
+formatted_front : (task : Task) (format : Format) → HoldsByFront (ShowsTask (rows.In format) task)
+formatted_front task format file text (plain, is, made) = by_length (cases_lt longest_text (length file))
+  where
+    by_length : (longest_text < length file) ⊎ (length file ≤ longest_text) → ShowsTask (rows.In format) task file text
+    by_length (inr short) =
+        subst (λ front. ShowsTask (rows.In format) task front text) (take_all (longest_text + 1) file (omega (arith, short))) (plain, is, made)
+    by_length (inl long) =
+        let m = length-take (longest_text + 1) file in
+        let few = file_short task (take (longest_text + 1) file) plain is in
+        absurd (omega (arith, m, few, long))
+
+-- the text of a task for the front of a file, with these rows, is that for the file
 pub shown_front : (task : Task) (names : Rows) → HoldsByFront (ShowsTask names task)
 shown_front task rows.Plain = task_front task
 shown_front task rows.Named = named_front task
+shown_front task (rows.In format) = formatted_front task format

@@ -1,10 +1,7 @@
 -- The output of `plan days` for the bytes that it reads (docs/definitions.md, "Runs").
 use Rattle.std.specs.Prelude.{◌≡◌, ◌⊎◌, ℕ, List}
-use Rattle.plan_orlib.specs.Shop as docs
-use Rattle.plan_orlib.specs.Says.{Says}
 use Rattle.plan_sgs.specs.Instances.{Planned}
 use Rattle.plan_shop.specs.Shop.{JobShop}
-use Rattle.plan_shop.specs.Docs.{shop_of}
 use Rattle.plan_calendar.specs.WorkingDay.{Workdays}
 use Rattle.plan_calendar.specs.CalendarText.{IsCalendar, RefusesTexts}
 use Rattle.plan_gantt.specs.CalendarTable.{IsCalendarTable, HasActivityBeyond}
@@ -14,9 +11,7 @@ use Rattle.plan_calendar.specs.declared.calendar.CalendarFault.{CalendarFault}
 use Rattle.plan_calendar.specs.declared.calendar.CalendarFault.TheVariants as fault
 use Rattle.plan_gantt.specs.declared.days.DaysFault.{DaysFault}
 use Rattle.plan_gantt.specs.declared.days.DaysFault.TheVariants as days
-use Rattle.plan_gantt.specs.FirstFaults.{TellsFirstShopFault}
-use Rattle.plan_gantt.specs.ShopText.{TellsNoRule}
-use Rattle.plan_cli.specs.Scheduled.{IsScheduleFrom, TellsNotMade, IsShopScheduleBy}
+use Rattle.plan_cli.specs.Scheduled.{IsScheduleFrom, TellsNotMade, IsShopScheduleFrom, TellsShopNotMade}
 use Rattle.plan_cli.specs.declared.origins.Origin.{Origin}
 
 -- a text shows days of the calendar that two texts spell: its first date and its marks
@@ -64,30 +59,19 @@ abbrev pub TellsNoDaysFrom : Origin → List ℕ → List ℕ → Planned → Li
 TellsNoDaysFrom from start marks i line =
     TellsNotMade from i line ⊎ HidesDays from start marks i line
 
--- a text is the table of working days of a shop's schedule by the rule with this name
-pub record IsShopDaysBy (name start marks : List ℕ) (s : JobShop) (text : List ℕ) : Type 0 where
+-- a text is the table of working days of a shop's schedule
+pub record IsShopDaysFrom (from : Origin) (start marks : List ℕ) (s : JobShop) (text : List ℕ) : Type 0 where
   pub starts : List ℕ
-  pub schedule : IsShopScheduleBy name s starts
+  pub schedule : IsShopScheduleFrom from s starts
   pub shown : ShowsDays start marks (λ c. IsShopCalendarTable c s starts) text
 
--- a text is that of the shop of an instance in a file
-abbrev pub IsShopDaysOf : List ℕ → List ℕ → List ℕ → List ℕ → List ℕ → List ℕ → Type 0
-IsShopDaysOf name start marks instance file text =
-    (doc : docs.Shop) × Says instance file doc × IsShopDaysBy name start marks (shop_of doc) text
-
 -- a line refuses the days of a shop's schedule, by its schedule
-pub record HidesShopDays (name start marks : List ℕ) (s : JobShop) (line : List ℕ) : Type 0 where
+pub record HidesShopDays (from : Origin) (start marks : List ℕ) (s : JobShop) (line : List ℕ) : Type 0 where
   pub starts : List ℕ
-  pub schedule : IsShopScheduleBy name s starts
+  pub schedule : IsShopScheduleFrom from s starts
   pub hidden : TellsNoDays start marks (λ c. HasStepBeyond c s starts) line
 
--- a line reports that no rule has this name, or else refuses the days of a shop's schedule
-abbrev pub TellsNoShopDays : List ℕ → List ℕ → List ℕ → JobShop → List ℕ → Type 0
-TellsNoShopDays name start marks s line =
-    TellsNoRule name line ⊎ HidesShopDays name start marks s line
-
--- a line gives the first check that a file fails, or else refuses the days of its shop
-abbrev pub TellsWhyNoShopDays : List ℕ → List ℕ → List ℕ → List ℕ → List ℕ → List ℕ → Type 0
-TellsWhyNoShopDays name start marks instance file line = TellsFirstShopFault instance file line
-    ⊎ ((doc : docs.Shop) × Says instance file doc
-    × TellsNoShopDays name start marks (shop_of doc) line)
+-- a line refuses the schedule of a shop, or else its days
+abbrev pub TellsNoShopDaysFrom : Origin → List ℕ → List ℕ → JobShop → List ℕ → Type 0
+TellsNoShopDaysFrom from start marks s line =
+    TellsShopNotMade from s line ⊎ HidesShopDays from start marks s line

@@ -35,6 +35,8 @@ pub mod NamesRun
 pub mod Starts
 pub mod VerdictText
 pub mod CheckRun
+pub mod SlackRun
+pub mod FormattedText
 pub mod Codes
 pub mod ExplainRun
 pub mod HintText

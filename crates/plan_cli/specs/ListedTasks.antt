@@ -1,4 +1,4 @@
--- Tasks on a project and a list of starts, each in a file (docs/definitions.md, "Runs").
+-- Tasks on a project or a job shop and a list of starts, each in a file (docs/definitions.md, "Runs").
 use Rattle.std.specs.Prelude.{◌≡◌, ℕ, ◌+◌, ◌≤◌, List, Option, Result, Err, length}
 use Rattle.plan_psplib.specs.Plain.{longest_text}
 use Rattle.plan_cli.specs.Tasks.{AreRead, DoesTask}
@@ -14,6 +14,14 @@ use Rattle.plan_cli.specs.declared.tasks.Task.TheVariants as task
 -- a task is this one with the starts in a text
 abbrev pub HasStarts : ListedTask → List ℕ → Task → Type 0
 HasStarts listed.Check text (task.Check starts) = starts.now ≡ text
+HasStarts (listed.ShopCheck instance) text (task.ShopCheck starts name) =
+    (name ≡ instance) × (starts.now ≡ text)
+HasStarts (listed.Slack given) text (task.Slack starts capacities) =
+    (capacities ≡ given) × (starts.now ≡ text)
+HasStarts (listed.ShopChart instance) text (task.ShopChart (origin.Starts starts) name) =
+    (name ≡ instance) × (starts.now ≡ text)
+HasStarts (listed.ShopDays dates instance) text (task.ShopDays (origin.Starts starts) shown name) =
+    (shown ≡ dates) × (name ≡ instance) × (starts.now ≡ text)
 HasStarts (listed.Chart given) text (task.Chart (origin.Starts starts) capacities) =
     (capacities ≡ given) × (starts.now ≡ text)
 HasStarts (listed.Days dates given) text (task.Days (origin.Starts starts) shown capacities) =

@@ -1,9 +1,13 @@
--- Texts and lines for the project in a file, with given capacities in place of those of the file
--- (docs/definitions.md, "Runs").
+-- Texts and lines for the project in a file, with given capacities in place of those of the file,
+-- and for an instance in a job shop file (docs/definitions.md, "Runs").
 use Rattle.std.specs.Prelude.{◌⊎◌, ℕ, List}
 use Rattle.plan_psplib.specs.Project.{Project, SaysProject}
 use Rattle.plan_sgs.specs.Instances.{Planned, planned}
-use Rattle.plan_gantt.specs.FirstFaults.{TellsFirstFailing}
+use Rattle.plan_orlib.specs.Shop as docs
+use Rattle.plan_orlib.specs.Says.{Says}
+use Rattle.plan_shop.specs.Shop.{JobShop}
+use Rattle.plan_shop.specs.Docs.{shop_of}
+use Rattle.plan_gantt.specs.FirstFaults.{TellsFirstFailing, TellsFirstShopFault}
 use Rattle.plan_cli.specs.Capacities.{Replaces, TellsUnknown}
 use Rattle.plan_cli.specs.declared.capacities.Capacity.{Capacity}
 
@@ -27,3 +31,13 @@ IsOfProject given IsText file text =
 abbrev pub RefusesFile : List Capacity → (Planned → List ℕ → Type 0) → List ℕ → List ℕ → Type 0
 RefusesFile given IsLine file line = TellsFirstFailing file line
     ⊎ ((p : Project) × SaysProject file p × RefusesWith given p IsLine line)
+
+-- a text is one for the shop of an instance in a file
+abbrev pub IsOfShop : List ℕ → (JobShop → List ℕ → Type 0) → List ℕ → List ℕ → Type 0
+IsOfShop instance IsText file text =
+    (doc : docs.Shop) × Says instance file doc × IsText (shop_of doc) text
+
+-- a line gives the first check that a file fails, or else refuses its shop
+abbrev pub RefusesShop : List ℕ → (JobShop → List ℕ → Type 0) → List ℕ → List ℕ → Type 0
+RefusesShop instance IsLine file line = TellsFirstShopFault instance file line
+    ⊎ ((doc : docs.Shop) × Says instance file doc × IsLine (shop_of doc) line)

@@ -12,10 +12,11 @@ use Rattle.plan_shop.specs.Names as shop_names
 use Rattle.plan_shop.specs.declared.rule.ShopRule.{ShopRule}
 use Rattle.plan_gantt.specs.Limits.{latest_start, latest_end}
 use Rattle.plan_gantt.specs.ScheduleText.{IsSchedule, TellsRefusal}
-use Rattle.plan_gantt.specs.ShopText.{rule_starts}
+use Rattle.plan_gantt.specs.ShopText.{rule_starts, TellsNoRule}
 use Rattle.plan_cli.specs.ScheduleRun.{TellsNeed}
-use Rattle.plan_cli.specs.Starts.{SaysStarts}
+use Rattle.plan_report.specs.StartsText.{SaysStarts, activity_sheet, step_sheet}
 use Rattle.plan_cli.specs.CheckRun.{TellsBadStarts, TellsWhyInfeasible}
+use Rattle.plan_cli.specs.CheckRun.{TellsNoShopStarts, TellsShopInfeasible}
 use Rattle.plan_cli.specs.declared.origins.Origin.{Origin}
 use Rattle.plan_cli.specs.declared.origins.Origin.TheVariants as origin
 
@@ -64,7 +65,7 @@ IsMadeOfShop name s schedule =
 
 -- the starts are those of a feasible list in a text
 pub record IsListed (listed : List ℕ) (i : Planned) (starts : List ℕ) : Type 0 where
-  pub said : SaysStarts (count_of i.project.network) listed starts
+  pub said : SaysStarts (activity_sheet i.project.network) listed starts
   pub feasible : IsFeasible (problem_of i) starts
 
 -- the starts are those of the schedule of an instance
@@ -85,7 +86,7 @@ pub record IsMadeFrom (from : Origin) (i : Planned) (schedule : Schedule) : Type
 -- a line refuses the starts in a text: the text fails a check, or else they aren't feasible
 abbrev pub TellsNotListed : List ℕ → Planned → List ℕ → Type 0
 TellsNotListed listed i line = TellsBadStarts listed i line
-    ⊎ ((starts : List ℕ) × SaysStarts (count_of i.project.network) listed starts
+    ⊎ ((starts : List ℕ) × SaysStarts (activity_sheet i.project.network) listed starts
     × TellsWhyInfeasible (problem_of i) starts line)
 
 -- a line refuses the schedule of an instance: a need is above its capacity, or else no rule has the
@@ -93,3 +94,34 @@ TellsNotListed listed i line = TellsBadStarts listed i line
 abbrev pub TellsNotMade : Origin → Planned → List ℕ → Type 0
 TellsNotMade (origin.Rule name) i line = TellsRefusal name.now i line
 TellsNotMade (origin.Starts listed) i line = TellsNeed i line ⊎ TellsNotListed listed.now i line
+
+-- the starts are those of a feasible list in a text, for a job shop
+pub record IsShopListed (listed : List ℕ) (s : JobShop) (starts : List ℕ) : Type 0 where
+  pub said : SaysStarts (step_sheet s) listed starts
+  pub feasible : IsFeasible (shops.problem_of s) starts
+
+-- the starts are those of the schedule of a job shop
+abbrev pub IsShopScheduleFrom : Origin → JobShop → List ℕ → Type 0
+IsShopScheduleFrom (origin.Rule name) = IsShopScheduleBy name.now
+IsShopScheduleFrom (origin.Starts listed) = IsShopListed listed.now
+
+-- a schedule of a job shop that texts can show, with its makespan
+pub record IsShopShowable (s : JobShop) (schedule : Schedule) : Type 0 where
+  pub makespan : schedule.makespan ≡ makespan (shops.problem_of s) schedule.starts.items
+  pub fits : CanBeShown (count_steps s) schedule
+
+-- the schedule of a job shop, with its makespan
+pub record IsMadeOfShopFrom (from : Origin) (s : JobShop) (schedule : Schedule) : Type 0 where
+  pub starts : IsShopScheduleFrom from s schedule.starts.items
+  pub showable : IsShopShowable s schedule
+
+-- a line refuses the starts in a text, for a job shop
+abbrev pub TellsShopNotListed : List ℕ → JobShop → List ℕ → Type 0
+TellsShopNotListed listed s line = TellsNoShopStarts listed s line
+    ⊎ ((starts : List ℕ) × SaysStarts (step_sheet s) listed starts
+    × TellsShopInfeasible s starts line)
+
+-- a line refuses the schedule of a job shop: no rule has the name, or the starts are refused
+abbrev pub TellsShopNotMade : Origin → JobShop → List ℕ → Type 0
+TellsShopNotMade (origin.Rule name) s line = TellsNoRule name.now line
+TellsShopNotMade (origin.Starts listed) s line = TellsShopNotListed listed.now s line

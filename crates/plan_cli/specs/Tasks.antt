@@ -5,12 +5,15 @@ use Rattle.std.specs.Prelude.{codes, bytes_eq, if◌then◌else◌}
 use Rattle.plan_gantt.specs.FirstFaults.{TellsFirstFailing, TellsFirstShopFault}
 use Rattle.plan_gantt.specs.ScheduleText.{IsScheduleTextOf, TellsRefusal}
 use Rattle.plan_cli.specs.Run.{IsDateTableOf, ReadsFront}
-use Rattle.plan_cli.specs.Plans.{IsOfProject, RefusesFile}
-use Rattle.plan_cli.specs.Scheduled.{TellsNotMade}
-use Rattle.plan_cli.specs.ChartRun.{IsChartFrom, IsShopChartOf}
-use Rattle.plan_cli.specs.DaysRun.{IsDaysFrom, IsShopDaysOf, TellsNoDaysFrom, TellsWhyNoShopDays}
+use Rattle.plan_cli.specs.Plans.{IsOfProject, RefusesFile, IsOfShop, RefusesShop}
+use Rattle.plan_cli.specs.Scheduled.{TellsNotMade, TellsShopNotMade}
+use Rattle.plan_cli.specs.ChartRun.{IsChartFrom, IsShopChartFrom}
+use Rattle.plan_cli.specs.DaysRun.{IsDaysFrom, IsShopDaysFrom, TellsNoDaysFrom, TellsNoShopDaysFrom}
+use Rattle.plan_cli.specs.SlackRun.{IsSlackOf, TellsNoSlack}
+use Rattle.plan_cli.specs.FormattedText.{formatted}
+use Rattle.plan_formats.specs.declared.format.Format.{Format}
 use Rattle.plan_cli.specs.NamesRun.{AreNamesOf, TellsNotPlain}
-use Rattle.plan_cli.specs.CheckRun.{IsVerdictOf, TellsWhyNoVerdict}
+use Rattle.plan_cli.specs.CheckRun.{IsVerdictOf, TellsWhyNoVerdict, IsShopVerdictOf, TellsWhyNoShopVerdict}
 use Rattle.plan_cli.specs.ShopRun.{IsShopTableOf, TellsWhyNoShop}
 use Rattle.plan_cli.specs.BestRun.{IsBestTableOf, TellsWhyNoBest}
 use Rattle.plan_cli.specs.ProveRun.{IsProofTableOf, TellsWhyNoProof}
@@ -35,13 +38,15 @@ abbrev pub IsTextOf : Task → List ℕ → List ℕ → Type 0
 IsTextOf task.Dates = IsDateTableOf
 IsTextOf (task.Schedule rule given) = IsOfProject given.now (IsScheduleTextOf rule.now)
 IsTextOf (task.Chart from given) = IsOfProject given.now (IsChartFrom from)
-IsTextOf (task.ShopChart rule instance) = IsShopChartOf rule.now instance.now
+IsTextOf (task.ShopChart from instance) = IsOfShop instance.now (IsShopChartFrom from)
 IsTextOf (task.Days from dates given) =
     IsOfProject given.now (IsDaysFrom from dates.start.now dates.marks.now)
-IsTextOf (task.ShopDays rule dates instance) =
-    IsShopDaysOf rule.now dates.start.now dates.marks.now instance.now
+IsTextOf (task.ShopDays from dates instance) =
+    IsOfShop instance.now (IsShopDaysFrom from dates.start.now dates.marks.now)
 IsTextOf task.Names = AreNamesOf
 IsTextOf (task.Check starts) = IsVerdictOf starts.now
+IsTextOf (task.ShopCheck starts instance) = IsShopVerdictOf starts.now instance.now
+IsTextOf (task.Slack starts given) = IsOfProject given.now (IsSlackOf starts.now)
 IsTextOf (task.Shop rule instance) = IsShopTableOf rule.now instance.now
 IsTextOf (task.Best budget instance) = IsBestTableOf budget.now instance.now
 IsTextOf (task.Prove nodes instance) = IsProofTableOf nodes.now instance.now
@@ -56,13 +61,15 @@ abbrev pub IsLineOf : Task → List ℕ → List ℕ → Type 0
 IsLineOf task.Dates = TellsFirstFailing
 IsLineOf (task.Schedule rule given) = RefusesFile given.now (TellsRefusal rule.now)
 IsLineOf (task.Chart from given) = RefusesFile given.now (TellsNotMade from)
-IsLineOf (task.ShopChart rule instance) = TellsWhyNoShop rule.now instance.now
+IsLineOf (task.ShopChart from instance) = RefusesShop instance.now (TellsShopNotMade from)
 IsLineOf (task.Days from dates given) =
     RefusesFile given.now (TellsNoDaysFrom from dates.start.now dates.marks.now)
-IsLineOf (task.ShopDays rule dates instance) =
-    TellsWhyNoShopDays rule.now dates.start.now dates.marks.now instance.now
+IsLineOf (task.ShopDays from dates instance) =
+    RefusesShop instance.now (TellsNoShopDaysFrom from dates.start.now dates.marks.now)
 IsLineOf task.Names = TellsNotPlain
 IsLineOf (task.Check starts) = TellsWhyNoVerdict starts.now
+IsLineOf (task.ShopCheck starts instance) = TellsWhyNoShopVerdict starts.now instance.now
+IsLineOf (task.Slack starts given) = RefusesFile given.now (TellsNoSlack starts.now)
 IsLineOf (task.Shop rule instance) = TellsWhyNoShop rule.now instance.now
 IsLineOf (task.Best budget instance) = TellsWhyNoBest budget.now instance.now
 IsLineOf (task.Prove nodes instance) = TellsWhyNoProof nodes.now instance.now
@@ -79,11 +86,12 @@ names_for task.Dates file = names_behind activity_key file
 names_for (task.Schedule rule given) file = names_behind activity_key file
 names_for (task.Chart from given) file = names_behind activity_key file
 names_for (task.Days from dates given) file = names_behind activity_key file
+names_for (task.Slack starts given) file = names_behind activity_key file
 names_for (task.BestProject budget given) file = names_behind activity_key file
 names_for (task.Solve conflicts capacities) file = names_behind activity_key file
 names_for (task.Shop rule instance) file = instance_names order_key instance.now file
-names_for (task.ShopChart rule instance) file = instance_names machine_key instance.now file
-names_for (task.ShopDays rule dates instance) file = instance_names order_key instance.now file
+names_for (task.ShopChart from instance) file = instance_names machine_key instance.now file
+names_for (task.ShopDays from dates instance) file = instance_names order_key instance.now file
 names_for (task.Best budget instance) file = instance_names order_key instance.now file
 names_for (task.Prove nodes instance) file = instance_names order_key instance.now file
 names_for (task.SolveShop conflicts instance) file = instance_names order_key instance.now file
@@ -94,10 +102,16 @@ abbrev pub IsNamedText : Task → List ℕ → List ℕ → Type 0
 IsNamedText t file text = (plain : List ℕ) × IsTextOf t file plain
     × (text ≡ with_names (names_for t file) plain)
 
--- the texts that a task writes for a file, without names or with them
+-- a text is the text of a task for a file in a format, with the names of the rows
+abbrev pub IsFormattedText : Format → Task → List ℕ → List ℕ → Type 0
+IsFormattedText format t file text = (plain : List ℕ) × IsTextOf t file plain
+    × (text ≡ formatted t format (names_for t file) plain)
+
+-- the texts that a task writes for a file, with these rows
 abbrev pub ShowsTask : Rows → Task → List ℕ → List ℕ → Type 0
 ShowsTask rows.Plain t = IsTextOf t
 ShowsTask rows.Named t = IsNamedText t
+ShowsTask (rows.In format) t = IsFormattedText format t
 
 -- Unless the input fails or memory runs out, a task writes its text or line for the bytes that were
 -- read. If the bytes of the file are known, these are the first of them.

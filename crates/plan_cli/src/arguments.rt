@@ -14,6 +14,9 @@ const HELP_END: &str =
 // The names of the templates.
 const KINDS: &[&str] = &["project", "shop"];
 
+// The formats of tables.
+const FORMATS: &[&str] = &["text", "json", "csv"];
+
 // The column in which the help describes a command.
 const ABOUT_COLUMN: usize = 14;
 
@@ -54,6 +57,8 @@ enum Form {
     NameUnlessStarts,
     /// An option with the name of a file of starts.
     Starts,
+    /// An option with the format of the output.
+    Format,
     /// An option without a value.
     Flag,
     /// An option without a value and without effect, which the help doesn't list.
@@ -155,10 +160,17 @@ const FILE_UNLESS_STARTS: Argument = Argument {
     help: "the input file, or - for standard input",
 };
 
+// The file of starts of a command that always has one.
+const GIVEN_STARTS: Argument = Argument {
+    name: "STARTS",
+    form: Form::Text,
+    help: "the start times: numbers, a printed schedule or its CSV; - for standard input",
+};
+
 const STARTS: Argument = Argument {
     name: "starts",
     form: Form::Starts,
-    help: "show the schedule with these starts; RULE is left out: plan chart --starts STARTS FILE",
+    help: "show the schedule with the start times in this file, or - for standard input; leave out RULE",
 };
 
 const INSTANCE: Argument = Argument {
@@ -191,6 +203,13 @@ const NAMES: Argument = Argument {
     name: "names",
     form: Form::Flag,
     help: "print the names of activities, orders or machines",
+};
+
+// The option of commands that print a table.
+const FORMAT: Argument = Argument {
+    name: "format",
+    form: Form::Format,
+    help: "print text, JSON or CSV",
 };
 
 const DATABASE: Argument = Argument {
@@ -230,37 +249,46 @@ const LIST_COMMANDS: [Entry; 2] = [
     },
 ];
 
-const PROJECT_COMMANDS: [Entry; 4] = [
+const PROJECT_COMMANDS: [Entry; 5] = [
     Entry {
         name: "cpm",
         about: "Prints the critical-path dates of a project",
         examples: "Example:\n  plan cpm examples/house.sm",
-        arguments: &[FILE, NAMES],
+        arguments: &[FILE, NAMES, FORMAT],
     },
     Entry {
         name: "schedule",
         about: "Prints a schedule of a project by a priority rule",
         examples: "Examples:\n  plan schedule lft examples/house.sm\n  plan schedule --capacity R1=4 lft examples/house.sm",
-        arguments: &[PROJECT_RULE, FILE, CAPACITY, NAMES],
+        arguments: &[PROJECT_RULE, FILE, CAPACITY, NAMES, FORMAT],
     },
     Entry {
         name: "best-project",
         about: "Searches for a shortest schedule of a project",
         examples: "Example:\n  plan best-project 200000 examples/house.sm",
-        arguments: &[BUDGET, FILE, CAPACITY, NAMES],
+        arguments: &[BUDGET, FILE, CAPACITY, NAMES, FORMAT],
     },
     Entry {
         name: "check",
-        about: "Checks start times of a project, and prints the first violation",
-        examples: "Example:\n  plan check examples/six.sm examples/starts.txt",
+        about: "Checks the start times of a schedule, and prints the first violation",
+        examples: "Examples:\n  plan check examples/six.sm examples/starts.txt\n  plan shop mwkr examples/shops.txt ft06 | plan check examples/shops.txt - ft06",
         arguments: &[
             FILE,
+            GIVEN_STARTS,
+            INSTANCE_IF_SHOP,
+            FORMAT,
             Argument {
-                name: "STARTS",
-                form: Form::Text,
-                help: "a file with one start time per activity, or - for standard input",
+                name: "status",
+                form: Form::Flag,
+                help: "exit with status 3 if the schedule isn't active",
             },
         ],
+    },
+    Entry {
+        name: "slack",
+        about: "Prints by how much each activity of a schedule can start later",
+        examples: "Examples:\n  plan slack examples/six.sm examples/starts.txt\n  plan schedule lft examples/house.sm | plan slack --names examples/house.sm -",
+        arguments: &[FILE, GIVEN_STARTS, CAPACITY, NAMES],
     },
 ];
 
@@ -269,19 +297,19 @@ const SHOP_COMMANDS: [Entry; 4] = [
         name: "names",
         about: "Prints the names of the instances in a job shop file",
         examples: "Example:\n  plan names examples/shops.txt",
-        arguments: &[FILE],
+        arguments: &[FILE, FORMAT],
     },
     Entry {
         name: "shop",
         about: "Prints a schedule of a job shop by a priority rule",
         examples: "Example:\n  plan shop mwkr examples/shops.txt ft06",
-        arguments: &[SHOP_RULE, FILE, INSTANCE, NAMES],
+        arguments: &[SHOP_RULE, FILE, INSTANCE, NAMES, FORMAT],
     },
     Entry {
         name: "best",
         about: "Searches for a shortest schedule of a small job shop",
         examples: "Example:\n  plan best 200000 examples/shops.txt ft06",
-        arguments: &[BUDGET, FILE, INSTANCE, NAMES],
+        arguments: &[BUDGET, FILE, INSTANCE, NAMES, FORMAT],
     },
     Entry {
         name: "prove",
@@ -297,6 +325,7 @@ const SHOP_COMMANDS: [Entry; 4] = [
                 help: "",
             },
             NAMES,
+            FORMAT,
         ],
     },
 ];
@@ -321,6 +350,7 @@ const SCHEDULE_COMMANDS: [Entry; 3] = [
             },
             CAPACITY_IF_PROJECT,
             NAMES,
+            FORMAT,
             Argument {
                 name: "log",
                 form: Form::Output,
@@ -362,6 +392,7 @@ const SCHEDULE_COMMANDS: [Entry; 3] = [
             STARTS,
             CAPACITY_IF_PROJECT,
             NAMES,
+            FORMAT,
         ],
     },
 ];
@@ -536,6 +567,11 @@ fn arg_of<'a>(alloc: Global, argument: &Argument) -> Result<Arg<'a>, AllocError>
             .long(argument.name)
             .value_name("STARTS")
             .conflicts_with("INSTANCE")?,
+        Form::Format => arg
+            .long(argument.name)
+            .value_name("FORMAT")
+            .value_parser(FORMATS)
+            .default_value("text"),
         Form::Output => arg
             .long(argument.name)
             .value_name("LOG")

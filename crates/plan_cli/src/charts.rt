@@ -3,18 +3,17 @@
 ghost use Rattle.std.specs.Prelude.{◌≡◌, IfErr, length};
 ghost use Rattle.plan_sgs.specs.Instances.{planned};
 ghost use Rattle.plan_shop.specs.Docs.{shop_of};
-ghost use Rattle.plan_gantt.specs.ShopText.{TellsNoRule};
 ghost use Rattle.plan_cli.specs.Run.{IfText, Refuses};
 ghost use Rattle.plan_cli.specs.Plans.{IsOfProject, PlannedWith, RefusesFile, RefusesWith};
-ghost use Rattle.plan_cli.specs.Scheduled.{TellsNotMade};
-ghost use Rattle.plan_cli.specs.ShopRun.{TellsWhyNoShop};
-ghost use Rattle.plan_cli.specs.ChartRun.{IsChartFrom, IsShopChartBy, IsShopChartOf};
+ghost use Rattle.plan_cli.specs.Plans.{IsOfShop, RefusesShop};
+ghost use Rattle.plan_cli.specs.Scheduled.{TellsNotMade, TellsShopNotMade};
+ghost use Rattle.plan_cli.specs.ChartRun.{IsChartFrom, IsShopChartFrom};
 
 use crate::capacities::{Capacity, replaced};
 use crate::fault::CliFault;
 use crate::origins::Origin;
 use crate::projects::{read_project, schedule_from};
-use crate::shops::{read_instance, shop_schedule_by};
+use crate::shops::{read_instance, shop_schedule_from};
 use plan_gantt::{chart, shop_chart};
 use plan_orlib::ShopDoc;
 use plan_psplib::ProjectDoc;
@@ -70,24 +69,25 @@ pub(crate) fn chart_text(
 }
 
 // Returns the chart of a job shop.
-fn doc_text(alloc: Global, name: &str, doc: &ShopDoc) -> Result<String, CliFault>
-    ensures made { IfText result (IsShopChartBy name.now (shop_of doc.now)) }
-    ensures refused { IfErr result (Refuses (TellsNoRule name.now)) }
+fn doc_text(alloc: Global, origin: Origin<'_>, doc: &ShopDoc) -> Result<String, CliFault>
+    ensures made { IfText result (IsShopChartFrom origin.entry (shop_of doc.now)) }
+    ensures refused { IfErr result (Refuses (TellsShopNotMade origin.entry (shop_of doc.now))) }
 {
-    let (shop, schedule) = shop_schedule_by(alloc, name, doc)?;
+    let (shop, schedule) = shop_schedule_from(alloc, origin, doc)?;
     Ok(shop_chart(alloc, &shop, &schedule.starts, schedule.makespan)?)
 }
 
 /// Returns the chart of an instance in a job shop file.
 pub(crate) fn shop_chart_text(
     alloc: Global,
-    name: &str,
+    origin: Origin<'_>,
     instance: &str,
     file: &[u8],
 ) -> Result<String, CliFault>
-    ensures made { IfText result (IsShopChartOf name.now instance.now file.now) }
-    ensures refused { IfErr result (Refuses (TellsWhyNoShop name.now instance.now file.now)) }
+    ensures made { IfText result (IsOfShop instance.now (IsShopChartFrom origin.entry) file.now) }
+    ensures refused { IfErr result (Refuses
+        (RefusesShop instance.now (TellsShopNotMade origin.entry) file.now)) }
 {
     let doc = read_instance(alloc, instance, file)?;
-    doc_text(alloc, name, &doc)
+    doc_text(alloc, origin, &doc)
 }

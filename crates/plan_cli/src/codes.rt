@@ -44,6 +44,7 @@ pub(crate) enum Code {
     BadBudget,
     BadNodes,
     NoResource,
+    LateEnd,
     BadDate,
     BadDays,
     BeyondCalendar,
@@ -119,6 +120,7 @@ impl Code {
             "S6" => Some(Code::BadBudget),
             "S7" => Some(Code::BadNodes),
             "S8" => Some(Code::NoResource),
+            "S9" => Some(Code::LateEnd),
             "G1" => Some(Code::BadDate),
             "G2" => Some(Code::BadDays),
             "G3" => Some(Code::BeyondCalendar),
@@ -194,6 +196,7 @@ impl Code {
             Code::BadBudget => "S6",
             Code::BadNodes => "S7",
             Code::NoResource => "S8",
+            Code::LateEnd => "S9",
             Code::BadDate => "G1",
             Code::BadDays => "G2",
             Code::BeyondCalendar => "G3",
@@ -268,6 +271,7 @@ impl Code {
             Code::BadBudget => "the budget is invalid",
             Code::BadNodes => "the number of nodes is invalid",
             Code::NoResource => "the project has no such resource",
+            Code::LateEnd => "the schedule ends too late",
             Code::BadDate => "the first date is invalid",
             Code::BadDays => "the weekday marks are invalid",
             Code::BeyondCalendar => "the last day is after 9999-12-31",
@@ -420,6 +424,9 @@ impl Code {
             }
             Code::NoResource => {
                 "S8 no resource NAME\nThe project has no resource with this name.\nName a resource by its number in the file, for example R2=4 for the second.\n"
+            }
+            Code::LateEnd => {
+                "S9 late\nThe schedule ends after 10,000,000.\nStart the activities earlier, or use larger time units.\n"
             }
             Code::BadDate => {
                 "G1 date\nThe first date isn't a date from 1900-01-01 to 2199-12-31 in the form 2024-03-01.\nCorrect the date.\n"

@@ -10,6 +10,7 @@ ghost use Rattle.plan_gantt.specs.CalendarTable.{IsCalendarTable, HasActivityBey
 ghost use Rattle.plan_gantt.specs.ShopCharts.{IsShopCalendarTable, HasStepBeyond};
 ghost use Rattle.plan_cli.specs.Run.{IfText, Refuses};
 ghost use Rattle.plan_cli.specs.Plans.{IsOfProject, PlannedWith, RefusesFile, RefusesWith};
+ghost use Rattle.plan_cli.specs.Plans.{IsOfShop, RefusesShop};
 ghost use Rattle.plan_cli.specs.Scheduled.{CanBeShown};
 ghost use Rattle.plan_cli.specs.DaysRun as spec;
 
@@ -18,7 +19,7 @@ use crate::fault::CliFault;
 use crate::origins::Origin;
 use crate::projects::{read_project, schedule_from};
 use crate::refusals::{calendar_refusal, days_refusal};
-use crate::shops::{read_instance, shop_schedule_by};
+use crate::shops::{read_instance, shop_schedule_from};
 use plan_gantt::{Calendar, calendar_table, shop_calendar_table};
 use plan_net::Network;
 use plan_orlib::ShopDoc;
@@ -134,13 +135,18 @@ fn shop_schedule_days(
 }
 
 // Returns the working days of a job shop.
-fn doc_text(alloc: Global, name: &str, dates: Dates<'_>, doc: &ShopDoc) -> Result<String, CliFault>
-    ensures made { IfText result
-        (spec.IsShopDaysBy name.now dates.entry.start.now dates.entry.marks.now (shop_of doc.now)) }
-    ensures refused { IfErr result (Refuses
-        (spec.TellsNoShopDays name.now dates.entry.start.now dates.entry.marks.now (shop_of doc.now))) }
+fn doc_text(
+    alloc: Global,
+    origin: Origin<'_>,
+    dates: Dates<'_>,
+    doc: &ShopDoc,
+) -> Result<String, CliFault>
+    ensures made { IfText result (spec.IsShopDaysFrom
+        origin.entry dates.entry.start.now dates.entry.marks.now (shop_of doc.now)) }
+    ensures refused { IfErr result (Refuses (spec.TellsNoShopDaysFrom
+        origin.entry dates.entry.start.now dates.entry.marks.now (shop_of doc.now))) }
 {
-    let (shop, schedule) = shop_schedule_by(alloc, name, doc)?;
+    let (shop, schedule) = shop_schedule_from(alloc, origin, doc)?;
     let calendar = calendar_of(alloc, dates.start, dates.marks)?;
     shop_schedule_days(alloc, &shop, &schedule, &calendar)
 }
@@ -148,16 +154,16 @@ fn doc_text(alloc: Global, name: &str, dates: Dates<'_>, doc: &ShopDoc) -> Resul
 /// Returns the working days of an instance in a job shop file.
 pub(crate) fn shop_days_text(
     alloc: Global,
-    name: &str,
+    origin: Origin<'_>,
     dates: Dates<'_>,
     instance: &str,
     file: &[u8],
 ) -> Result<String, CliFault>
-    ensures made { IfText result (spec.IsShopDaysOf
-        name.now dates.entry.start.now dates.entry.marks.now instance.now file.now) }
-    ensures refused { IfErr result (Refuses (spec.TellsWhyNoShopDays
-        name.now dates.entry.start.now dates.entry.marks.now instance.now file.now)) }
+    ensures made { IfText result (IsOfShop instance.now (spec.IsShopDaysFrom
+        origin.entry dates.entry.start.now dates.entry.marks.now) file.now) }
+    ensures refused { IfErr result (Refuses (RefusesShop instance.now (spec.TellsNoShopDaysFrom
+        origin.entry dates.entry.start.now dates.entry.marks.now) file.now)) }
 {
     let doc = read_instance(alloc, instance, file)?;
-    doc_text(alloc, name, dates, &doc)
+    doc_text(alloc, origin, dates, &doc)
 }

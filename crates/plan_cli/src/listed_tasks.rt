@@ -1,4 +1,4 @@
-//! Tasks on a project and a list of starts, each in a file.
+//! Tasks on a project or a job shop and a list of starts, each in a file.
 
 ghost use Rattle.plan_cli.specs.ListedTasks.{HasStarts};
 
@@ -7,16 +7,29 @@ use crate::days::Dates;
 use crate::origins::Origin;
 use crate::tasks::Task;
 
-/// A task on a project and a list of starts. What it writes is that of the [`Task`] of this name.
+/// A task on a project or a job shop and a list of starts. What it writes is that of the [`Task`] of this name.
 #[derive(Clone, Copy, Debug, Drop)]
 pub enum ListedTask<'a> {
     Check,
+    ShopCheck {
+        instance: &'a str,
+    },
+    Slack {
+        capacities: &'a [Capacity<'a>],
+    },
     Chart {
         capacities: &'a [Capacity<'a>],
+    },
+    ShopChart {
+        instance: &'a str,
     },
     Days {
         dates: Dates<'a>,
         capacities: &'a [Capacity<'a>],
+    },
+    ShopDays {
+        dates: Dates<'a>,
+        instance: &'a str,
     },
 }
 
@@ -26,9 +39,20 @@ pub(crate) fn with_starts<'a>(task: ListedTask<'a>, starts: &'a [u8]) -> Task<'a
 {
     match task {
         ListedTask::Check => Task::Check { starts },
+        ListedTask::ShopCheck { instance } => Task::ShopCheck { starts, instance },
+        ListedTask::Slack { capacities } => Task::Slack { starts, capacities },
         ListedTask::Chart { capacities } => Task::Chart {
             origin: Origin::Starts(starts),
             capacities,
+        },
+        ListedTask::ShopChart { instance } => Task::ShopChart {
+            origin: Origin::Starts(starts),
+            instance,
+        },
+        ListedTask::ShopDays { dates, instance } => Task::ShopDays {
+            origin: Origin::Starts(starts),
+            dates,
+            instance,
         },
         ListedTask::Days { dates, capacities } => Task::Days {
             origin: Origin::Starts(starts),

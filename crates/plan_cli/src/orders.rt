@@ -7,6 +7,7 @@ use crate::origins::Origin;
 use crate::tasks::{Rows, Task};
 use crate::templates::Template;
 use clap::ArgMatches;
+use plan_formats::Format;
 use plan_solve::MOST_CONFLICTS;
 use plan_table::Override;
 use std::alloc::{AllocError, Global};
@@ -35,11 +36,13 @@ pub enum FileOrder<'a> {
         seconds: Option<u32>,
         log: Option<&'a str>,
     },
-    /// A task on the project in one file and the starts in another.
+    /// A task on the project or job shop in one file and the starts in another. The status is 3 if
+    /// `is_status` and the verdict isn't `active`.
     Listed {
         task: ListedTask<'a>,
         file: &'a str,
         starts: &'a str,
+        is_status: bool,
     },
     /// A table to start from.
     New(Template),
@@ -128,12 +131,10 @@ fn chart_task<'a>(
     capacities: &'a [Capacity<'a>],
 ) -> Option<Task<'a>> {
     let rule = arguments.get_str("RULE")?;
+    let origin = Origin::Rule(rule);
     Some(match arguments.get_str("INSTANCE") {
-        Some(instance) => Task::ShopChart { rule, instance },
-        None => Task::Chart {
-            origin: Origin::Rule(rule),
-            capacities,
-        },
+        Some(instance) => Task::ShopChart { origin, instance },
+        None => Task::Chart { origin, capacities },
     })
 }
 
@@ -147,14 +148,15 @@ fn days_task<'a>(
         start: arguments.get_str("START")?,
         marks: arguments.get_str("MARKS")?,
     };
+    let origin = Origin::Rule(rule);
     Some(match arguments.get_str("INSTANCE") {
         Some(instance) => Task::ShopDays {
-            rule,
+            origin,
             dates,
             instance,
         },
         None => Task::Days {
-            origin: Origin::Rule(rule),
+            origin,
             dates,
             capacities,
         },
@@ -238,7 +240,9 @@ fn capacity_of(text: &str) -> Option<Capacity<'_>> {
 // Returns the arguments of a command that has the option `capacity` for the resources of a file.
 fn planning<'a, 'b>(matches: &'a ArgMatches<'b>) -> Option<&'a ArgMatches<'b>> {
     match matches.subcommand()? {
-        ("schedule" | "best-project" | "solve" | "chart" | "days", arguments) => Some(arguments),
+        ("schedule" | "best-project" | "solve" | "chart" | "days" | "slack", arguments) => {
+            Some(arguments)
+        }
         _ => None,
     }
 }
@@ -309,12 +313,56 @@ fn template_of(arguments: &ArgMatches<'_>) -> Option<Template> {
     }
 }
 
-// Returns the rows that a command prints: with names if it has the option `names` and it is given.
+// Whether a command has the option `names`.
+fn has_names(name: &str) -> bool {
+    matches!(
+        name,
+        "cpm"
+            | "schedule"
+            | "best-project"
+            | "shop"
+            | "best"
+            | "prove"
+            | "solve"
+            | "chart"
+            | "days"
+            | "slack"
+    )
+}
+
+// Whether a command has the option `format`.
+fn has_formats(name: &str) -> bool {
+    matches!(
+        name,
+        "cpm"
+            | "schedule"
+            | "best-project"
+            | "shop"
+            | "best"
+            | "prove"
+            | "solve"
+            | "days"
+            | "check"
+            | "names"
+    )
+}
+
+// Returns the rows of a format: without names, or with names.
+fn text_rows(is_named: bool) -> Rows {
+    if is_named { Rows::Named } else { Rows::Plain }
+}
+
+// Returns the rows that a command prints.
 fn rows_of(name: &str, arguments: &ArgMatches<'_>) -> Rows {
-    match name {
-        "cpm" | "schedule" | "best-project" | "shop" | "best" | "prove" | "solve" | "chart" | "days"
-            if arguments.get_flag("names") => { Rows::Named }
-        _ => Rows::Plain,
+    let format = if has_formats(name) {
+        arguments.get_str("format")
+    } else {
+        None
+    };
+    match format {
+        Some("json") => Rows::In(Format::Json),
+        Some("csv") => Rows::In(Format::Csv),
+        _ => text_rows(has_names(name) && arguments.get_flag("names")),
     }
 }
 
@@ -366,20 +414,25 @@ fn import_order<'a>(
     Some(FileOrder::Task(task, arguments.get_str("FILE")?))
 }
 
-// Returns the order of `chart` with a list of starts: FILE is the first argument.
+// Returns the order of `chart` with a list of starts: FILE is the first argument, INSTANCE the
+// second.
 fn listed_chart<'a>(
     arguments: &'a ArgMatches<'_>,
     starts: &'a str,
     capacities: &'a [Capacity<'a>],
 ) -> Option<FileOrder<'a>> {
     Some(FileOrder::Listed {
-        task: ListedTask::Chart { capacities },
+        task: match arguments.get_str("FILE") {
+            Some(instance) => ListedTask::ShopChart { instance },
+            None => ListedTask::Chart { capacities },
+        },
         file: arguments.get_str("RULE")?,
         starts,
+        is_status: false,
     })
 }
 
-// Returns the order of `days` with a list of starts: START is the first argument.
+// Returns the order of `days` with a list of starts: START is the first argument, and so on.
 fn listed_days<'a>(
     arguments: &'a ArgMatches<'_>,
     starts: &'a str,
@@ -390,9 +443,26 @@ fn listed_days<'a>(
         marks: arguments.get_str("START")?,
     };
     Some(FileOrder::Listed {
-        task: ListedTask::Days { dates, capacities },
+        task: match arguments.get_str("FILE") {
+            Some(instance) => ListedTask::ShopDays { dates, instance },
+            None => ListedTask::Days { dates, capacities },
+        },
         file: arguments.get_str("MARKS")?,
         starts,
+        is_status: false,
+    })
+}
+
+// Returns the order of `check`.
+fn check_order<'a>(arguments: &'a ArgMatches<'_>) -> Option<FileOrder<'a>> {
+    Some(FileOrder::Listed {
+        task: match arguments.get_str("INSTANCE") {
+            Some(instance) => ListedTask::ShopCheck { instance },
+            None => ListedTask::Check,
+        },
+        file: arguments.get_str("FILE")?,
+        starts: arguments.get_str("STARTS")?,
+        is_status: arguments.get_flag("status"),
     })
 }
 
@@ -432,10 +502,12 @@ fn file_order<'a>(
         "explain" => Some(FileOrder::Explain(arguments.get_strs("CODE")?)),
         "prove" => proof_order(arguments),
         "solve" => solve_order(arguments, capacities),
-        "check" => Some(FileOrder::Listed {
-            task: ListedTask::Check,
+        "check" => check_order(arguments),
+        "slack" => Some(FileOrder::Listed {
+            task: ListedTask::Slack { capacities },
             file: arguments.get_str("FILE")?,
             starts: arguments.get_str("STARTS")?,
+            is_status: false,
         }),
         _ => match listed_order(name, arguments, capacities) {
             Some(order) => Some(order),

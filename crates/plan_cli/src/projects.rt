@@ -81,7 +81,7 @@ fn listed_schedule(alloc: Global, listed: &[u8], instance: &Instance) -> Result<
     ensures showable { IfOk result (IsShowable instance.now) }
     ensures refused { IfErr result (Refuses (TellsNotListed listed.now instance.now)) }
 {
-    let starts = read_starts(alloc, instance.network().len(), listed)?;
+    let starts = read_starts(alloc, instance.network(), listed)?;
     check_feasible(alloc, instance, &starts)?;
     let makespan = makespan_of(instance, &starts);
     Ok(Schedule { starts, makespan })

@@ -1,15 +1,24 @@
 //! Job shops that are read from files, and their schedules by a priority rule.
 
-ghost use Rattle.std.specs.Prelude.{◌≡◌, IfOk, IfErr};
+ghost use Rattle.std.specs.Prelude.{◌≡◌, ◌≤◌, All, IfOk, IfErr, length};
+ghost use Rattle.plan_profile.specs.Usage.{IsInTime};
+ghost use Rattle.plan_sgs.specs.Problem.{makespan};
+ghost use Rattle.plan_shop.specs.Shop.{count_steps, problem_of};
+ghost use Rattle.plan_gantt.specs.Limits.{latest_end};
 ghost use Rattle.plan_orlib.specs.Says.{Says};
 ghost use Rattle.plan_shop.specs.Docs.{shop_of};
 ghost use Rattle.plan_gantt.specs.FirstFaults.{TellsFirstShopFault};
 ghost use Rattle.plan_gantt.specs.ShopText.{TellsNoRule};
 ghost use Rattle.plan_cli.specs.Run.{Refuses};
-ghost use Rattle.plan_cli.specs.Scheduled.{IsMadeOfShop, IsMadeOfShopBy};
+ghost use Rattle.plan_cli.specs.Scheduled.{IsMadeOfShop, IsMadeOfShopBy, IsMadeOfShopFrom};
+ghost use Rattle.plan_cli.specs.Scheduled.{IsShopListed, IsShopShowable};
+ghost use Rattle.plan_cli.specs.Scheduled.{TellsShopNotListed, TellsShopNotMade};
 
 use crate::fault::CliFault;
+use crate::origins::Origin;
 use crate::refusals::{file_refusal, shop_refusal};
+use crate::starts::read_shop_starts;
+use crate::verdicts::check_shop_feasible;
 use plan_orlib::{ShopDoc, read_shop};
 use plan_sgs::Schedule;
 use plan_shop::{Shop, ShopFault, ShopRule, giffler};
@@ -61,4 +70,66 @@ pub(crate) fn shop_schedule_by(
     let shop = open_shop(alloc, doc)?;
     let schedule = shop_schedule_by_rule(alloc, &shop, rule)?;
     Ok((shop, schedule))
+}
+
+// Returns the makespan of starts of a job shop.
+fn makespan_of(shop: &Shop, starts: &[u64]) -> u64
+    requires whole { length starts.now ≡ count_steps shop.now }
+    requires limit { All IsInTime starts.now }
+    ensures value { result ≡ makespan (problem_of shop.now) starts.now }
+    ensures ends { result ≤ latest_end }
+{
+    let mut latest = 0u64;
+    for x in 0..shop.jobs() * shop.machines() {
+        latest = latest.max(starts[x as usize] + shop.step(x).time);
+    }
+    latest
+}
+
+// Returns the schedule of a job shop with the starts in a text.
+fn listed_schedule(alloc: Global, listed: &[u8], shop: &Shop) -> Result<Schedule, CliFault>
+    ensures listed { IfOk result (λ schedule.
+        IsShopListed listed.now shop.now schedule.starts.items) }
+    ensures showable { IfOk result (IsShopShowable shop.now) }
+    ensures refused { IfErr result (Refuses (TellsShopNotListed listed.now shop.now)) }
+{
+    let starts = read_shop_starts(alloc, shop, listed)?;
+    check_shop_feasible(alloc, shop, &starts)?;
+    let makespan = makespan_of(shop, &starts);
+    Ok(Schedule { starts, makespan })
+}
+
+// Returns the job shop of a file with all machines open, and its schedule with the starts in a
+// text.
+fn shop_schedule_listed(
+    alloc: Global,
+    listed: &[u8],
+    doc: &ShopDoc,
+) -> Result<(Shop, Schedule), CliFault>
+    ensures shop { IfOk result (λ made. made.0 ≡ shop_of doc.now) }
+    ensures listed { IfOk result (λ made.
+        IsShopListed listed.now (shop_of doc.now) made.1.starts.items) }
+    ensures showable { IfOk result (λ made. IsShopShowable (shop_of doc.now) made.1) }
+    ensures refused { IfErr result (Refuses (TellsShopNotListed listed.now (shop_of doc.now))) }
+{
+    let shop = open_shop(alloc, doc)?;
+    let schedule = listed_schedule(alloc, listed, &shop)?;
+    Ok((shop, schedule))
+}
+
+/// Returns the job shop of a file with all machines open, and its schedule.
+pub(crate) fn shop_schedule_from(
+    alloc: Global,
+    origin: Origin<'_>,
+    doc: &ShopDoc,
+) -> Result<(Shop, Schedule), CliFault>
+    ensures shop { IfOk result (λ made. made.0 ≡ shop_of doc.now) }
+    ensures made { IfOk result (λ made. IsMadeOfShopFrom origin.entry (shop_of doc.now) made.1) }
+    ensures refused { IfErr result (Refuses
+        (TellsShopNotMade origin.entry (shop_of doc.now))) }
+{
+    match origin {
+        Origin::Rule(name) => shop_schedule_by(alloc, name, doc),
+        Origin::Starts(listed) => shop_schedule_listed(alloc, listed, doc),
+    }
 }

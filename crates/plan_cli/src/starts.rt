@@ -1,74 +1,28 @@
-//! A text of starts: one number for each activity, in order.
+//! Texts of starts, and their errors.
 
-ghost use Rattle.std.specs.Prelude.{◌≡◌, ℕ, List, [], true, false, IfOk, IfErr, MatchResult};
-ghost use Rattle.std.specs.Prelude.{string_bytes};
-ghost use Rattle.plan_psplib.specs.Tokens.{Gives};
+ghost use Rattle.std.specs.Prelude.{◌≡◌, All, IfOk, IfErr, length, string_bytes};
+ghost use Rattle.plan_net.specs.Network.{count_of};
+ghost use Rattle.plan_profile.specs.Usage.{IsInTime};
+ghost use Rattle.plan_shop.specs.Shop.{count_steps};
+ghost use Rattle.plan_report.specs.StartsText.{SaysStarts, activity_sheet, step_sheet};
 ghost use Rattle.plan_cli.specs.Run.{Refuses};
 ghost use Rattle.plan_cli.specs.Starts as spec;
-ghost use Rattle.plan_cli.specs.declared.fault.CliFault.TheVariants.{Memory};
 
 use crate::fault::{CliFault, refusal_by};
 use plan_gantt::file_fault_text;
-use plan_psplib::{
-    FileCode, FileFault, Layout, Lines, ReadError, StreamWords, check_text, end, within,
-};
+use plan_net::Network;
+use plan_psplib::{FileCode, FileFault, ReadError};
+use plan_report::{read_shop_starts_text, read_starts_text};
+use plan_shop::Shop;
 use std::alloc::{AllocError, Global};
 
-/// The latest start, in whole time units.
-const LATEST_START: u64 = 10_000_000;
-
-/// The layout in which every line of a text belongs to the section.
-#[derive(Drop)]
-struct AllLines;
-
-impl Layout for AllLines {
-    ghost takes = { λ _. true };
-
-    ghost ends = { λ _. false };
-
-    fn is_taken(_line: &[u8]) -> bool {
-        true
-    }
-
-    fn is_end(_line: &[u8]) -> bool {
-        false
-    }
-}
-
-// Returns all tokens of a text.
-#[tactic(auto, using(crate::proofs::StartLemmas::all_rows))]
-fn all_tokens(text: &[u8]) -> StreamWords<'_, AllLines>
-    ensures { result ≡ spec.all_tokens text.now }
+// Returns the line of an error of a text of starts.
+fn starts_fault_text(alloc: Global, fault: &FileFault) -> Result<String, AllocError>
+    ensures { IfOk result (λ text. string_bytes text ≡ spec.starts_fault_text_of fault.now) }
 {
-    StreamWords::new(0, Lines::new(text))
-}
-
-// Reads the next `count` starts.
-fn next_starts(
-    alloc: Global,
-    tokens: &mut StreamWords<'_, AllLines>,
-    count: usize,
-) -> Result<Vec<u64>, ReadError>
-    ensures { Gives (λ v. (v.items, tokens.new)) result (spec.starts_at count [] tokens.old) }
-{
-    let mut starts = Vec::new(alloc);
-    for _ in 0..count {
-        let start = within(tokens, LATEST_START)?;
-        starts.push(start)?;
-    }
-    Ok(starts)
-}
-
-// Reads the starts in a text, or returns the first check that fails.
-#[tactic(auto, unfolding(crate::specs::Starts::starts_in))]
-fn read_all(alloc: Global, count: usize, text: &[u8]) -> Result<Vec<u64>, ReadError>
-    ensures { Gives (λ v. v.items) result (spec.starts_in count text.now) }
-{
-    check_text(text)?;
-    let mut tokens = all_tokens(text);
-    let starts = next_starts(alloc, &mut tokens, count)?;
-    end(&mut tokens)?;
-    Ok(starts)
+    let mut text = file_fault_text(alloc, fault)?;
+    text.push_str(" of the starts")?;
+    Ok(text)
 }
 
 // Returns the error of a text of starts.
@@ -81,15 +35,6 @@ fn starts_refusal(alloc: Global, fault: &FileFault) -> CliFault
     refusal_by(starts_fault_text(alloc, fault))
 }
 
-// Returns the line of an error of a text of starts.
-fn starts_fault_text(alloc: Global, fault: &FileFault) -> Result<String, AllocError>
-    ensures { IfOk result (λ text. string_bytes text ≡ spec.starts_fault_text_of fault.now) }
-{
-    let mut text = file_fault_text(alloc, fault)?;
-    text.push_str(" of the starts")?;
-    Ok(text)
-}
-
 // Returns the error of a text of starts that can't be read.
 fn read_refusal(alloc: Global, error: ReadError) -> CliFault
     ensures told { spec.IsStartsError error result }
@@ -97,13 +42,33 @@ fn read_refusal(alloc: Global, error: ReadError) -> CliFault
     starts_refusal(alloc, &FileFault::of(alloc, error))
 }
 
-/// Reads the starts in a text, one for each of `count` activities.
-pub(crate) fn read_starts(alloc: Global, count: usize, text: &[u8]) -> Result<Vec<u64>, CliFault>
-    ensures said { IfOk result (λ starts. spec.SaysStarts count text.now starts.items) }
-    // The starts in a text are read, unless memory runs out.
-    ensures only { (starts : List ℕ) → spec.SaysStarts count text.now starts →
-        MatchResult result (λ read. read.items ≡ starts) (λ e. e ≡ Memory) }
-    ensures refused { IfErr result (Refuses (spec.TellsNoStarts count text.now)) }
+/// Reads the starts of a project's activities.
+pub(crate) fn read_starts(
+    alloc: Global,
+    network: &Network,
+    text: &[u8],
+) -> Result<Vec<u64>, CliFault>
+    ensures said { IfOk result (λ starts.
+        SaysStarts (activity_sheet network.now) text.now starts.items) }
+    ensures whole { IfOk result (λ starts. length starts.items ≡ count_of network.now) }
+    ensures in_time { IfOk result (λ starts. All IsInTime starts.items) }
+    ensures refused { IfErr result (Refuses
+        (spec.TellsNoStarts (activity_sheet network.now) text.now)) }
 {
-    read_all(alloc, count, text).map_err(|error| read_refusal(alloc, error))
+    read_starts_text(alloc, network, text).map_err(|error| read_refusal(alloc, error))
+}
+
+/// Reads the starts of a job shop's steps, in flat order.
+pub(crate) fn read_shop_starts(
+    alloc: Global,
+    shop: &Shop,
+    text: &[u8],
+) -> Result<Vec<u64>, CliFault>
+    ensures said { IfOk result (λ starts.
+        SaysStarts (step_sheet shop.now) text.now starts.items) }
+    ensures whole { IfOk result (λ starts. length starts.items ≡ count_steps shop.now) }
+    ensures in_time { IfOk result (λ starts. All IsInTime starts.items) }
+    ensures refused { IfErr result (Refuses (spec.TellsNoStarts (step_sheet shop.now) text.now)) }
+{
+    read_shop_starts_text(alloc, shop, text).map_err(|error| read_refusal(alloc, error))
 }

@@ -3,22 +3,25 @@
 ghost use Rattle.std.specs.Prelude.{◌≡◌, map, IfOk, IfErr};
 ghost use Rattle.plan_table.specs.Names.{name_of};
 ghost use Rattle.plan_cli.specs.Run.{Refuses};
-ghost use Rattle.plan_cli.specs.Tasks.{IsTextOf, IsLineOf, ShowsTask, names_for};
+ghost use Rattle.plan_cli.specs.Tasks.{IsFormattedText, IsTextOf, IsLineOf, ShowsTask, names_for};
 
 use crate::capacities::Capacity;
 use crate::charts::{chart_text, shop_chart_text};
 use crate::days::{Dates, days_text, shop_days_text};
 use crate::fault::CliFault;
+use crate::formatted::formatted;
 use crate::imports::{import_text, shop_import_text};
 use crate::names::names_text;
 use crate::origins::Origin;
 use crate::proof::proof_text;
 use crate::row_names::with_names;
+use crate::slacks::slacks_text;
 use crate::solutions::{project_best_text, shop_best_text};
 use crate::solver::{shop_solution_text, solution_text};
 use crate::tables::{date_text, schedule_text, shop_text};
-use crate::verdicts::check_text;
+use crate::verdicts::{check_text, shop_check_text};
 use crate::watchers::{Log, ProofWatcher, SolveWatcher};
+use plan_formats::Format;
 use plan_table::{NameLine, Override, activity_names, machine_names, order_names};
 use std::alloc::{AllocError, Global};
 
@@ -49,7 +52,7 @@ pub enum Task<'a> {
     },
     /// The Gantt chart of a job shop's schedule: a line of cells for each machine.
     ShopChart {
-        rule: &'a str,
+        origin: Origin<'a>,
         instance: &'a str,
     },
     /// The working days of a project's schedule, those of the first and of the last time unit of
@@ -62,7 +65,7 @@ pub enum Task<'a> {
     },
     /// The working days of a job shop's schedule, those of each step.
     ShopDays {
-        rule: &'a str,
+        origin: Origin<'a>,
         dates: Dates<'a>,
         instance: &'a str,
     },
@@ -76,6 +79,20 @@ pub enum Task<'a> {
     /// those of the starts (`F1`, `F2`, `F6`, `F9`, `F10`), whose line ends with `of the starts`.
     Check {
         starts: &'a [u8],
+    },
+    /// The same for a job shop: a step that starts before the one before it in the job ends, two
+    /// steps at a time on a machine, a step that can start earlier by itself.
+    ShopCheck {
+        starts: &'a [u8],
+        instance: &'a str,
+    },
+    /// The slack of each activity in a feasible schedule: the time by which it can start later while
+    /// all others keep their starts and the makespan stays. The last line is a chain of activities
+    /// without slack. Errors: those of [`Task::Check`], the verdict if the starts aren't feasible,
+    /// `S9` (the end is after 10,000,000).
+    Slack {
+        starts: &'a [u8],
+        capacities: &'a [Capacity<'a>],
     },
     /// The schedule table of a job shop by a rule: `spt`, `mwkr` or `fcfs` (Giffler and Thompson
     /// 1960). Error: `S3`.
@@ -135,6 +152,8 @@ pub enum Rows {
     Plain,
     /// With the names of activities, orders or machines that the file contains.
     Named,
+    /// As JSON or CSV, with these names. A text that is no table stays as it is.
+    In(Format),
 }
 
 // Returns the text of a task for a file, without names.
@@ -174,14 +193,20 @@ fn text_of<V: ProofWatcher + SolveWatcher, L: Log>(
         )?.into_bytes()),
         Task::Check { starts } => Ok(check_text(alloc, starts, file)?.into_bytes()),
         Task::Shop { rule, instance } => Ok(shop_text(alloc, rule, instance, file)?.into_bytes()),
-        Task::ShopChart { rule, instance } => Ok(shop_chart_text(
-            alloc, rule, instance, file,
+        Task::ShopChart { origin, instance } => Ok(shop_chart_text(
+            alloc, origin, instance, file,
         )?.into_bytes()),
         Task::ShopDays {
-            rule,
+            origin,
             dates,
             instance,
-        } => Ok(shop_days_text(alloc, rule, dates, instance, file)?.into_bytes()),
+        } => Ok(shop_days_text(alloc, origin, dates, instance, file)?.into_bytes()),
+        Task::ShopCheck { starts, instance } => Ok(shop_check_text(
+            alloc, starts, instance, file,
+        )?.into_bytes()),
+        Task::Slack { starts, capacities } => Ok(slacks_text(
+            alloc, starts, capacities, file,
+        )?.into_bytes()),
         Task::Best { budget, instance } => Ok(shop_best_text(
             alloc, budget, instance, file,
         )?.into_bytes()),
@@ -207,6 +232,7 @@ fn names_for<'a>(
         | Task::Schedule { .. }
         | Task::Chart { .. }
         | Task::Days { .. }
+        | Task::Slack { .. }
         | Task::BestProject { .. }
         | Task::Solve { .. } => activity_names(alloc, file),
         Task::Shop { instance, .. }
@@ -235,8 +261,25 @@ fn named_text<V: ProofWatcher + SolveWatcher, L: Log>(
     Ok(with_names(alloc, &names, &text)?)
 }
 
-/// Returns the text of a task for a file, without names or with them. The watcher is called during
-/// a search of `prove` or `solve`.
+// Returns the text of a task for a file in a format.
+fn formatted_text<V: ProofWatcher + SolveWatcher, L: Log>(
+    alloc: Global,
+    task: Task<'_>,
+    format: Format,
+    file: &[u8],
+    watcher: &mut V,
+    log: &mut L,
+) -> Result<Vec<u8>, CliFault>
+    ensures made { IfOk result (λ text. IsFormattedText format task.entry file.now text.items) }
+    ensures refused { IfErr result (Refuses (IsLineOf task.entry file.now)) }
+{
+    let text = text_of(alloc, task, file, watcher, log)?;
+    let names = names_for(alloc, task, file)?;
+    Ok(formatted(alloc, task, format, &names, text)?)
+}
+
+/// Returns the text of a task for a file, with these rows. The watcher is called during a search of
+/// `prove` or `solve`.
 pub(crate) fn shown_text<V: ProofWatcher + SolveWatcher, L: Log>(
     alloc: Global,
     task: Task<'_>,
@@ -251,5 +294,6 @@ pub(crate) fn shown_text<V: ProofWatcher + SolveWatcher, L: Log>(
     match rows {
         Rows::Plain => text_of(alloc, task, file, watcher, log),
         Rows::Named => named_text(alloc, task, file, watcher, log),
+        Rows::In(format) => formatted_text(alloc, task, format, file, watcher, log),
     }
 }

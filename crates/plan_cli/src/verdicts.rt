@@ -7,44 +7,40 @@ ghost use Rattle.plan_sgs.specs.Instances.{problem_of};
 ghost use Rattle.plan_sgs.specs.Problem.{IsFeasible};
 ghost use Rattle.plan_cli.specs.Run.{IfText, Refuses};
 ghost use Rattle.plan_cli.specs.ScheduleRun.{as_available};
-ghost use Rattle.plan_cli.specs.VerdictText.{sentence_of, verdict_text_of, broken_text, over_text};
+ghost use Rattle.plan_report.specs.VerdictText.{sentence_of, shop_sentence_of};
+ghost use Rattle.plan_shop.specs.Docs.{shop_of};
+ghost use Rattle.plan_shop.specs.Shop.{count_steps};
+ghost use Rattle.plan_shop.specs.Shop as shops;
+ghost use Rattle.plan_cli.specs.VerdictText.{verdict_text_of};
 ghost use Rattle.plan_cli.specs.CheckRun as spec;
 
 use crate::fault::{CliFault, refusal_by};
 use crate::projects::{instance_of, read_project};
-use crate::starts::read_starts;
+use crate::shops::{open_shop, read_instance};
+use crate::starts::{read_shop_starts, read_starts};
+use plan_orlib::ShopDoc;
 use plan_psplib::ProjectDoc;
+use plan_report::{push_sentence, push_shop_sentence, shop_verdict_text};
 use plan_sgs::{Instance, Verdict, check};
+use plan_shop::{self, Shop};
 use std::alloc::{AllocError, Global};
 
-// Returns the sentence that an activity starts before its predecessor ends.
-fn broken_text(alloc: Global, activity: u32, predecessor: u32) -> Result<String, AllocError>
-    ensures { IfOk result (λ text. string_bytes text ≡ broken_text activity predecessor) }
-{
-    let mut text = format!(in alloc; "activity {activity} starts before {predecessor}")?;
-    text.push_str(" ends")?;
-    Ok(text)
-}
-
-// Returns the sentence that more of resource k is in use at time t than its capacity.
-fn over_text(alloc: Global, t: u64, k: u32) -> Result<String, AllocError>
-    ensures { IfOk result (λ text. string_bytes text ≡ over_text t k) }
-{
-    let mut text = format!(in alloc; "at time {t} more of resource {k}")?;
-    text.push_str(" is needed than there is")?;
-    Ok(text)
-}
-
-// Returns the sentence of a verdict, without an end of line.
-fn sentence(alloc: Global, verdict: Verdict) -> Result<String, AllocError>
+/// Returns the sentence of a verdict, without an end of line.
+pub(crate) fn sentence(alloc: Global, verdict: Verdict) -> Result<String, AllocError>
     ensures { IfOk result (λ text. string_bytes text ≡ sentence_of verdict) }
 {
-    match verdict {
-        Verdict::Arc(i, j) => broken_text(alloc, j, i),
-        Verdict::Over(t, k) => over_text(alloc, t, k),
-        Verdict::Shift(j) => format!(in alloc; "activity {j} can start earlier"),
-        Verdict::Active => "active".to_string(alloc),
-    }
+    let mut text = String::new(alloc);
+    push_sentence(&mut text, verdict)?;
+    Ok(text)
+}
+
+// Returns the sentence of a verdict on a job shop, without an end of line.
+fn shop_sentence(alloc: Global, shop: &Shop, verdict: Verdict) -> Result<String, AllocError>
+    ensures { IfOk result (λ text. string_bytes text ≡ shop_sentence_of shop.now verdict) }
+{
+    let mut text = String::new(alloc);
+    push_shop_sentence(&mut text, shop, verdict)?;
+    Ok(text)
 }
 
 // Returns the sentence of a verdict, with its end of line.
@@ -80,7 +76,7 @@ fn instance_text(alloc: Global, listed: &[u8], instance: &Instance) -> Result<St
     ensures made { IfText result (spec.TellsVerdictOn listed.now instance.now) }
     ensures refused { IfErr result (Refuses (spec.TellsBadStarts listed.now instance.now)) }
 {
-    let starts = read_starts(alloc, instance.network().len(), listed)?;
+    let starts = read_starts(alloc, instance.network(), listed)?;
     let verdict = check(alloc, instance, &starts).map_err(|_| CliFault::Memory)?;
     Ok(verdict_text(alloc, verdict)?)
 }
@@ -102,4 +98,50 @@ pub(crate) fn check_text(alloc: Global, listed: &[u8], file: &[u8]) -> Result<St
 {
     let project = read_project(alloc, file)?;
     project_text(alloc, listed, &project)
+}
+
+/// Refuses a list of starts of a job shop that isn't feasible, with its first verdict.
+pub(crate) fn check_shop_feasible(
+    alloc: Global,
+    shop: &Shop,
+    starts: &[u64],
+) -> Result<(), CliFault>
+    requires whole { length starts.now ≡ count_steps shop.now }
+    requires limit { All IsInTime starts.now }
+    ensures ok { IfOk result (λ _. IsFeasible (shops.problem_of shop.now) starts.now) }
+    ensures refused { IfErr result (Refuses (spec.TellsShopInfeasible shop.now starts.now)) }
+{
+    let verdict = plan_shop::check(shop, starts);
+    match verdict {
+        Verdict::Arc(_, _) | Verdict::Over(_, _) => {
+            Err(refusal_by(shop_sentence(alloc, shop, verdict)))
+        }
+        Verdict::Shift(_) | Verdict::Active => Ok(()),
+    }
+}
+
+// Returns the verdict on the starts in a text, for a job shop.
+fn doc_text(alloc: Global, listed: &[u8], doc: &ShopDoc) -> Result<String, CliFault>
+    ensures made { IfText result (spec.TellsShopVerdict listed.now (shop_of doc.now)) }
+    ensures refused { IfErr result (Refuses
+        (spec.TellsNoShopStarts listed.now (shop_of doc.now))) }
+{
+    let shop = open_shop(alloc, doc)?;
+    let starts = read_shop_starts(alloc, &shop, listed)?;
+    Ok(shop_verdict_text(alloc, &shop, &starts)?)
+}
+
+/// Returns the verdict on the starts in one text, for an instance in a job shop file.
+pub(crate) fn shop_check_text(
+    alloc: Global,
+    listed: &[u8],
+    instance: &str,
+    file: &[u8],
+) -> Result<String, CliFault>
+    ensures made { IfText result (spec.IsShopVerdictOf listed.now instance.now file.now) }
+    ensures refused { IfErr result (Refuses
+        (spec.TellsWhyNoShopVerdict listed.now instance.now file.now)) }
+{
+    let doc = read_instance(alloc, instance, file)?;
+    doc_text(alloc, listed, &doc)
 }

@@ -60,7 +60,8 @@ IsCandidate p s j due c =
     (c + duration p j ≡ due) ⊎ ((i : ℕ) × (i < count p) × (get_or s i 0 ≡ c + duration p j))
 
 -- no earlier than a start with room there is such a start with room
-pub candidate_since : (p : Problem) (s : List ℕ) (j due n t : ℕ) → length s ≡ count p → j < count p → KeepsArcs p s → LetEnd p s j due → get_or s j 0 ≤ t → n + (t + duration p j) ≡ due → HasRoomAt p s j t
+pub candidate_since : (p : Problem) (s : List ℕ) (j due n t : ℕ) → length s ≡ count p → j < count p → KeepsArcs p s → LetEnd p s j due
+    → get_or s j 0 ≤ t → n + (t + duration p j) ≡ due → HasRoomAt p s j t
     → (c : ℕ) × (t ≤ c) × (c + duration p j ≤ due) × HasRoomAt p s j c × IsCandidate p s j due c
 candidate_since p s j due zero t whole inside arcs lets since left room = (t, omega arith, omega (arith, left), room, inl (omega (arith, left)))
 candidate_since p s j due (suc n) t whole inside arcs lets since left room =

@@ -20,7 +20,8 @@ pub arc_kept : (i : Planned) (s : List ℕ) (j h : ℕ) → KeepsArcs (problem_o
 arc_kept i s j h kept arc = link_at i (λ a. get_or s a.from 0 + duration (problem_of i) a.from + a.lag ≤ get_or s a.to 0) kept j h arc
 
 -- a successor lets an activity end by its start less the lag
-pub arc_lets : (i : Planned) (s : List ℕ) (j h end : ℕ) → IsSound i.project.network → IsArc i.project.network j h → LetEnd (problem_of i) s (j - 1) end → end + lag_of i.project.network j h ≤ get_or s (h - 1) 0
+pub arc_lets : (i : Planned) (s : List ℕ) (j h end : ℕ) → IsSound i.project.network → IsArc i.project.network j h
+    → LetEnd (problem_of i) s (j - 1) end → end + lag_of i.project.network j h ≤ get_or s (h - 1) 0
 arc_lets i s j h end sound arc lets =
     let ends = ends_of i j h sound arc in
     link_at i (λ a. a.from ≡ j - 1 → a.to ≢ j - 1 → end + a.lag ≤ get_or s a.to 0) lets j h arc refl (λ same.

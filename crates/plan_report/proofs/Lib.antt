@@ -2,3 +2,11 @@ pub mod MoveLemmas
 pub mod CandidateLemmas
 pub mod SlackLemmas
 pub mod DueLemmas
+pub mod LinkLemmas
+pub mod ReachLemmas
+pub mod ChainLemmas
+pub mod NumberLemmas
+pub mod SheetLemmas
+pub mod TextLemmas
+pub mod EntryLemmas
+pub mod SentenceLemmas

@@ -33,7 +33,8 @@ usage_moved p s j t u k whole inside =
           let changed = total_changed (count p) (amount_at p s u k) (amount_at p (set s j t) u k) j (amount_at p (set s j t) u k j - amount_at p s u k j) inside same (omega (arith, more)) in
           omega (arith, changed, here, was, is, more)
       | inr less ↦
-          let changed = total_changed (count p) (amount_at p (set s j t) u k) (amount_at p s u k) j (amount_at p s u k j - amount_at p (set s j t) u k j) inside (λ i below apart. sym (same i below apart)) (omega (arith, less)) in
+          let changed = total_changed (count p) (amount_at p (set s j t) u k) (amount_at p s u k) j (amount_at p s u k j - amount_at p
+          (set s j t) u k j) inside (λ i below apart. sym (same i below apart)) (omega (arith, less)) in
           omega (arith, changed, here, was, is, less)
     ]
 

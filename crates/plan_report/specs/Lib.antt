@@ -1,2 +1,9 @@
 pub mod Slack
+pub mod Chain
+pub mod SlackText
+pub mod StartNumbers
+pub mod Sheet
+pub mod StartsText
+pub mod VerdictText
+pub mod Comparison
 pub use Rattle.plan_sgs.specs.Problem

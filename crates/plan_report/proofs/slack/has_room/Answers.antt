@@ -24,7 +24,8 @@ returns c =
     let used = in_use c.args.profile.now in
     let whole = c.requires.feasible.each_started in
     let inside : at < count p = omega (arith, c.requires.activity.0, c.requires.activity.1, count-problem i) in
-    let asked = asked_here i c.network-network.result.now s c.args.j END d c.args.profile.now needs c.network-network.ensures.network c.requires.activity c.requires.holds c.duration-d.ensures.value c.needs-needs.ensures.row in
+    let asked = asked_here i c.network-network.result.now s c.args.j END d c.args.profile.now needs
+    c.network-network.ensures.network c.requires.activity c.requires.holds c.duration-d.ensures.value c.needs-needs.ensures.row in
     let ends : t + d ≤ END = omega (arith, c.requires.ends, asked.lasts) in (
       λ yes. room_from_after p s at t whole inside c.requires.feasible.capacities c.requires.since
           (after_from_fits p s at t c.max-from.result END caps used d needs asked c.max-from.ensures ends (c.fits.ensures.0 yes)),

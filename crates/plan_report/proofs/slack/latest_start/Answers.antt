@@ -7,31 +7,37 @@ use Rattle.plan_report.specs.Slack.{HasRoomAt}
 use Rattle.plan_report.proofs.DueLemmas.{same_duration}
 use Rattle.plan_report.proofs.SlackLemmas.{latest_of_candidates}
 use Rattle.plan_report.proofs.slack.latest_start.Goals as goal
-use Rattle.plan_report.proofs.slack.latest_start.Goals.{then-latest-d+then-end-due+then-has_room-2, else-latest-d, else-latest-d-via-then-latest-d+then-end-due+else-has_room-2, else-latest-d-via-then-latest-d+else-end-due, else-latest-d-via-else-latest-d}
+use Rattle.plan_report.proofs.slack.latest_start.Goals.{then-latest-d+then-end-due+then-has_room-2, else-latest-d}
+use Rattle.plan_report.proofs.slack.latest_start.Goals.{else-latest-d-via-then-latest-d+then-end-due+else-has_room-2, else-latest-d-via-then-latest-d+else-end-due, else-latest-d-via-else-latest-d}
 
 pub overflow_sub-due : goal.overflow_sub-due
 overflow_sub-due c =
-    let lasts = same_duration c.args.instance.now c.network-network.result.now c.args.j c.duration-d.result c.network-network.ensures.network c.requires.activity c.duration-d.ensures.value in
+    let lasts = same_duration c.args.instance.now c.network-network.result.now c.args.j c.duration-d.result
+    c.network-network.ensures.network c.requires.activity c.duration-d.ensures.value in
     omega (arith, lasts, c.requires.due.ended)
 
 pub has_room-requires-clause-since : goal.has_room-requires-clause-since
 has_room-requires-clause-since c =
-    let lasts = same_duration c.args.instance.now c.network-network.result.now c.args.j c.duration-d.result c.network-network.ensures.network c.requires.activity c.duration-d.ensures.value in
+    let lasts = same_duration c.args.instance.now c.network-network.result.now c.args.j c.duration-d.result
+    c.network-network.ensures.network c.requires.activity c.duration-d.ensures.value in
     omega (arith, lasts, c.requires.due.ended)
 
 pub has_room-requires-clause-ends : goal.has_room-requires-clause-ends
 has_room-requires-clause-ends c =
-    let lasts = same_duration c.args.instance.now c.network-network.result.now c.args.j c.duration-d.result c.network-network.ensures.network c.requires.activity c.duration-d.ensures.value in
+    let lasts = same_duration c.args.instance.now c.network-network.result.now c.args.j c.duration-d.result
+    c.network-network.ensures.network c.requires.activity c.duration-d.ensures.value in
     omega (arith, lasts, c.requires.due.ended, c.requires.ends)
 
 pub overflow_sub-result : goal.overflow_sub-result
 overflow_sub-result c =
-    let lasts = same_duration c.args.instance.now c.network-network.result.now c.args.j c.duration-d.result c.network-network.ensures.network c.requires.activity c.duration-d.ensures.value in
+    let lasts = same_duration c.args.instance.now c.network-network.result.now c.args.j c.duration-d.result
+    c.network-network.ensures.network c.requires.activity c.duration-d.ensures.value in
     omega (arith, lasts, c.requires.due.ended)
 
 pub returns-then-has_room : goal.returns-then-has_room
 returns-then-has_room c =
-    let lasts = same_duration c.args.instance.now c.network-network.result.now c.args.j c.duration-d.result c.network-network.ensures.network c.requires.activity c.duration-d.ensures.value in
+    let lasts = same_duration c.args.instance.now c.network-network.result.now c.args.j c.duration-d.result
+    c.network-network.ensures.network c.requires.activity c.duration-d.ensures.value in
     record {
       since = omega (arith, lasts, c.requires.due.ended);
       ends = omega (arith, lasts, c.requires.due.ended);
@@ -41,7 +47,8 @@ returns-then-has_room c =
 
 pub has_room-requires-then-end-due-clause-ends : goal.has_room-requires-then-end-due-clause-ends
 has_room-requires-then-end-due-clause-ends c =
-    let lasts = same_duration c.args.instance.now c.network-network.result.now c.args.j c.duration-d.result c.network-network.ensures.network c.requires.activity c.duration-d.ensures.value in
+    let lasts = same_duration c.args.instance.now c.network-network.result.now c.args.j c.duration-d.result
+    c.network-network.ensures.network c.requires.activity c.duration-d.ensures.value in
     omega (arith, lasts, c.if-latest-d.true, c.if-end-due.true, c.requires.ends)
 
 pub loop-end-preserved : goal.loop-end-preserved
@@ -54,7 +61,8 @@ loop-end-preserved c =
     let due = c.args.due in
     let latest = c.if-latest-d.latest in
     let before = c.loop-end.invariant in
-    let lasts : d ≡ duration p at = same_duration c.args.instance.now c.network-network.result.now c.args.j c.duration-d.result c.network-network.ensures.network c.requires.activity c.duration-d.ensures.value in
+    let lasts : d ≡ duration p at = same_duration c.args.instance.now c.network-network.result.now c.args.j c.duration-d.result
+    c.network-network.ensures.network c.requires.activity c.duration-d.ensures.value in
     elim c.if-latest-d.branch [
       | then-latest-d+then-end-due+then-has_room-2 w ↦ record {
         since = omega (arith, before.since, w.if-latest-d.true, w.latest-is);
@@ -87,7 +95,8 @@ returns c =
     let at = c.args.j - 1 in
     let d = c.duration-d.result in
     let due = c.args.due in
-    let lasts : d ≡ duration p at = same_duration c.args.instance.now c.network-network.result.now c.args.j c.duration-d.result c.network-network.ensures.network c.requires.activity c.duration-d.ensures.value in
+    let lasts : d ≡ duration p at = same_duration c.args.instance.now c.network-network.result.now c.args.j c.duration-d.result
+    c.network-network.ensures.network c.requires.activity c.duration-d.ensures.value in
     let inside : at < count p = omega (arith, c.requires.activity.0, c.requires.activity.1, count-problem c.args.instance.now) in
     let same : due - duration p at ≡ due - d = ap (λ (x : ℕ). due - x) (sym lasts) in
     record {

@@ -1,0 +1,37 @@
+-- The slacks of the starts in a text.
+use Rattle.std.proofs.Common.{◌≡◌, inr, ℕ, List, Result, Ok, Err, subst}
+use Rattle.std.specs.Prelude.{IfErr}
+use Rattle.plan_net.specs.Network.{Net}
+use Rattle.plan_sgs.specs.Instances.{Planned, problem_of}
+use Rattle.plan_report.specs.Slack.{RefusesSlack}
+use Rattle.plan_report.specs.SlackText.{IsSlackText}
+use Rattle.plan_report.specs.StartsText.{SaysStarts, activity_sheet}
+use Rattle.plan_report.specs.declared.slack.SlackFault.{SlackFault}
+use Rattle.plan_cli.specs.declared.fault.CliFault.{CliFault}
+use Rattle.plan_cli.specs.Run.{Refuses}
+use Rattle.plan_cli.specs.SlackRun.{IsSlackOf, TellsSlackFault, TellsBadSlack, TellsNoSlack}
+use Rattle.plan_cli.proofs.RunLemmas.{refuses_as}
+
+-- the starts of a network in a text are those of an instance with that network
+said_of : (listed starts : List ℕ) (i : Planned) (net : Net) → net ≡ i.project.network
+    → SaysStarts (activity_sheet net) listed starts → SaysStarts (activity_sheet i.project.network) listed starts
+said_of listed starts i net same said = subst (λ (n : Net). SaysStarts (activity_sheet n) listed starts) same said
+
+pub slack_shown : (listed : List ℕ) (i : Planned) (net : Net) (starts text : List ℕ) → net ≡ i.project.network
+    → SaysStarts (activity_sheet net) listed starts → IsSlackText i starts text → IsSlackOf listed i text
+slack_shown listed i net starts text same said shown = (starts, said_of listed starts i net same said, shown)
+
+pub slack_refused : (listed : List ℕ) (i : Planned) (net : Net) (starts : List ℕ) (first : SlackFault) (e : CliFault)
+    → net ≡ i.project.network → SaysStarts (activity_sheet net) listed starts → RefusesSlack (problem_of i) starts first
+    → Refuses (TellsSlackFault first) e → Refuses (TellsBadSlack listed i) e
+slack_refused listed i net starts first e same said refused t =
+    refuses_as (TellsSlackFault first) (TellsBadSlack listed i) e
+    (λ line tells. inr (starts, said_of listed starts i net same said, (first, refused, tells))) t
+
+-- if no need is above its capacity, the starts are refused
+pub no_slack : {A : Type 0} (listed : List ℕ) (i made : Planned) (r : Result A CliFault) → made ≡ i
+    → IfErr r (Refuses (TellsBadSlack listed made)) → IfErr r (Refuses (TellsNoSlack listed i))
+no_slack listed i made (Ok text) same t = tt
+no_slack listed i made (Err e) same t =
+    refuses_as (TellsBadSlack listed made) (TellsNoSlack listed i) e
+    (λ line tells. inr (subst (λ (p : Planned). TellsBadSlack listed p line) same tells)) t

@@ -1,0 +1,3 @@
+pub mod CsvLemmas
+pub mod JsonLemmas
+pub mod ListLemmas

@@ -1,0 +1,13 @@
+pub mod Cells
+pub mod Tables
+pub mod NameColumns
+pub mod Shapes
+pub mod Parts
+pub mod RowTables
+pub mod LineTables
+pub mod TextTables
+pub mod CsvText
+pub mod JsonData
+pub mod JsonText
+pub mod ErrorLines
+pub mod Formats

@@ -1,0 +1,128 @@
+//! Tables as CSV.
+
+ghost use Rattle.std.specs.Prelude.{◌≡◌, ◌++◌, ◌∷◌, [], map, decimal, IfOk, OnOk};
+ghost use Rattle.csv.specs.Records.{fields_of, partial_of};
+ghost use Rattle.csv.specs.Writing.{default_writer, row_text};
+ghost use Rattle.plan_formats.specs.Cells.{cell_of, field_of};
+ghost use Rattle.plan_formats.specs.Tables.{cells_of, rows_of, table_of};
+ghost use Rattle.plan_formats.specs.CsvText as spec;
+
+use crate::cell::Cell;
+use crate::table::Table;
+use csv::{ByteRecord, Error, WriterBuilder};
+use std::alloc::{AllocError, Global};
+
+// Returns the text of a record.
+fn record_text(alloc: Global, row: &ByteRecord) -> Result<Vec<u8>, Error>
+    ensures { IfOk result (λ text. text.items ≡ row_text default_writer (fields_of row.now)) }
+{
+    let mut writer = WriterBuilder::new().from_writer(Vec::new(alloc));
+    writer.write_byte_record(row)?;
+    match writer.into_inner() {
+        Ok(text) => Ok(text),
+        Err(e) => Err(e.into_error()),
+    }
+}
+
+// Appends a record. Writing to memory fails only if memory runs out.
+fn push_record(alloc: Global, text: &mut Vec<u8>, row: &ByteRecord) -> Result<(), AllocError>
+    ensures { OnOk result (text.new.items
+        ≡ text.old.items ++ row_text default_writer (fields_of row.now)) }
+{
+    let Ok(bytes) = record_text(alloc, row) else {
+        return Err(AllocError);
+    };
+    text.extend_from_slice(&bytes)
+}
+
+// Appends a number as a field.
+fn push_number(alloc: Global, row: &mut ByteRecord, n: u64) -> Result<(), AllocError>
+    requires { partial_of row.old ≡ [] }
+    ensures fields { OnOk result (fields_of row.new ≡ fields_of row.old ++ decimal n ∷ []) }
+    ensures whole { OnOk result (partial_of row.new ≡ []) }
+{
+    let text = format!(in alloc; "{n}")?;
+    row.push_field(text.as_bytes())
+}
+
+// Appends a cell as a field.
+fn push_cell(alloc: Global, row: &mut ByteRecord, cell: &Cell<'_>) -> Result<(), AllocError>
+    requires { partial_of row.old ≡ [] }
+    ensures fields { OnOk result (fields_of row.new
+        ≡ fields_of row.old ++ field_of (cell_of cell.now) ∷ []) }
+    ensures whole { OnOk result (partial_of row.new ≡ []) }
+{
+    match cell {
+        Cell::Number(n) => push_number(alloc, row, *n),
+        Cell::Text(text) => row.push_field(text),
+        Cell::Flag(true) => row.push_field(b"true"),
+        Cell::Flag(false) => row.push_field(b"false"),
+        Cell::Empty => row.push_field(b""),
+    }
+}
+
+// Returns the record of a row.
+fn row_record(alloc: Global, cells: &[Cell<'_>]) -> Result<ByteRecord, AllocError>
+    ensures { IfOk result (λ row. fields_of row ≡ map field_of (cells_of cells.now)) }
+{
+    let mut row = ByteRecord::new(alloc);
+    for cell in cells {
+        push_cell(alloc, &mut row, cell)?;
+    }
+    Ok(row)
+}
+
+// Returns the record with the names of the columns.
+fn name_record(alloc: Global, names: &[&[u8]]) -> Result<ByteRecord, AllocError>
+    ensures { IfOk result (λ row. fields_of row ≡ map (λ name. name.now) names.now) }
+{
+    let mut row = ByteRecord::new(alloc);
+    for name in names {
+        row.push_field(name)?;
+    }
+    Ok(row)
+}
+
+// Appends the record of a row.
+fn push_row(alloc: Global, text: &mut Vec<u8>, cells: &[Cell<'_>]) -> Result<(), AllocError>
+    ensures { OnOk result (text.new.items ≡ text.old.items
+        ++ row_text default_writer (map field_of (cells_of cells.now))) }
+{
+    let row = row_record(alloc, cells)?;
+    push_record(alloc, text, &row)
+}
+
+// Appends the records of rows.
+fn push_rows(alloc: Global, text: &mut Vec<u8>, rows: &[Vec<Cell<'_>>]) -> Result<(), AllocError>
+    ensures { OnOk result (text.new.items
+        ≡ text.old.items ++ spec.csv_text_of (spec.records_of_rows (rows_of rows.now))) }
+{
+    for row in rows {
+        push_row(alloc, text, row)?;
+    }
+    Ok(())
+}
+
+// Returns the text of the records of a table.
+fn records_text(alloc: Global, table: &Table<'_>) -> Result<Vec<u8>, AllocError>
+    ensures { IfOk result (λ text.
+        text.items ≡ spec.csv_text_of (spec.records_of (table_of table.now))) }
+{
+    let mut text = Vec::new(alloc);
+    let names = name_record(alloc, &table.columns)?;
+    push_record(alloc, &mut text, &names)?;
+    push_rows(alloc, &mut text, &table.rows)?;
+    Ok(text)
+}
+
+/// Returns a table as CSV (RFC 4180, with LF): a record with the names of the columns, then one for
+/// each row. Its named values are left out. A number is its digits, a flag `true` or `false`, and
+/// an empty cell an empty field.
+pub fn csv_text(alloc: Global, table: &Table<'_>) -> Result<Vec<u8>, AllocError>
+    ensures text { IfOk result (λ text.
+        text.items ≡ spec.csv_text_of (spec.records_of (table_of table.now))) }
+    ensures reads { IfOk result (λ text. spec.HaveFields (spec.records_of (table_of table.now))
+        → spec.ReadsAs text.items (spec.records_of (table_of table.now))) }
+{
+    records_text(alloc, table)
+}

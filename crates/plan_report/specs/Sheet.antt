@@ -1,0 +1,135 @@
+-- Sheets of starts: rows of cells, from a printed table or its CSV (docs/definitions.md,
+-- "Reports").
+use Rattle.std.specs.Prelude.{◌≡◌, ℕ, ◌+◌, ◌≤◌, ◌==◌, ◌&&◌, Bool, true, false, List, [], ◌∷◌, ◌++◌, Option, Some, None, Result, Ok, map}
+use Rattle.std.specs.Prelude.{bytes_eq, nat_le}
+use Rattle.std.specs.Borrow.{Bor}
+use Rattle.plan_psplib.specs.declared.text.fault.Fault.{Fault}
+use Rattle.plan_psplib.specs.declared.text.fault.FileCode.TheVariants as code
+use Rattle.plan_psplib.specs.Numbers.{number}
+use Rattle.plan_psplib.specs.Tokens.{◌>>=◌, fault, check}
+use Rattle.plan_gantt.specs.Limits.{latest_start}
+use Rattle.plan_report.specs.declared.sheet.Entry as declared_entry
+use Rattle.plan_report.specs.declared.sheet.Sheet as declared_sheet
+use Rattle.plan_report.specs.declared.sheet.Row as declared_row
+
+-- a row: the number of its line, and its cells
+pub record Row : Type 0 where
+  pub line : ℕ
+  pub cells : List (List ℕ)
+
+-- the numbers of a row before its start. The last of them is the duration.
+pub record Entry : Type 0 where
+  pub keys : List ℕ
+  pub duration : ℕ
+
+-- the names of the columns, and an entry for each row
+pub record Sheet : Type 0 where
+  pub columns : List (List ℕ)
+  pub entries : List Entry
+
+-- the same, as the program keeps them
+abbrev pub entry_of : declared_entry.Entry → Entry
+entry_of entry = record { keys = entry.keys.items; duration = entry.duration }
+
+abbrev pub sheet_of : declared_sheet.Sheet → Sheet
+sheet_of sheet = record {
+  columns = map (λ name. name.now) sheet.columns.now;
+  entries = map entry_of sheet.entries.items;
+}
+
+abbrev pub cells_of : List (Bor (List ℕ)) → List (List ℕ)
+cells_of cells = map (λ cell. cell.now) cells
+
+abbrev pub row_of : declared_row.Row → Row
+row_of row = record { line = row.line; cells = cells_of row.cells.items }
+
+-- the first cells spell these numbers, and other cells may follow
+abbrev pub BeginsWith : List (List ℕ) → List ℕ → Type 0
+BeginsWith cells [] = Unit {0}
+BeginsWith [] (n ∷ ns) = ⊥
+BeginsWith (cell ∷ cells) (n ∷ ns) = (number cell ≡ Some n) × BeginsWith cells ns
+
+-- a row shows a start: the numbers of its entry, the start and the end, and perhaps a name
+pub record ShowsStart (entry : Entry) (start : ℕ) (row : Row) : Type 0 where
+  pub spelled : BeginsWith row.cells (entry.keys ++ start ∷ (start + entry.duration) ∷ [])
+  pub in_time : start ≤ latest_start
+
+-- each row shows the start of its entry
+abbrev pub ShowStarts : List Entry → List ℕ → List Row → Type 0
+ShowStarts [] [] [] = Unit {0}
+ShowStarts (entry ∷ entries) (start ∷ starts) (row ∷ rows) =
+    ShowsStart entry start row × ShowStarts entries starts rows
+ShowStarts _ _ _ = ⊥
+
+-- the first cells are these names
+unfoldable pub has_columns : List (List ℕ) → List (List ℕ) → Bool
+has_columns [] cells = true
+has_columns (name ∷ names) [] = false
+has_columns (name ∷ names) (cell ∷ cells) = bytes_eq cell name && has_columns names cells
+
+-- rows show starts: a row with the names of the columns, a row for each start, and then the rest
+pub record ShowsSheet (sheet : Sheet) (rows : List Row) (starts : List ℕ)
+    (rest : List Row) : Type 0 where
+  pub head : Row
+  pub body : List Row
+  pub split : rows ≡ head ∷ body ++ rest
+  pub named : has_columns sheet.columns head.cells ≡ true
+  pub shown : ShowStarts sheet.entries starts body
+
+-- Reading from the first row to the last, up to the first check that fails. A fault has the line of
+-- its row.
+
+-- the number in a cell
+abbrev pub as_number : ℕ → Option ℕ → Result ℕ Fault
+as_number line None = fault code.BadNumber line
+as_number line (Some n) = Ok n
+
+-- a cell that must be a number
+unfoldable pub cell_is : ℕ → ℕ → List ℕ → Result (Unit {0}) Fault
+cell_is line wanted cell = do
+  n ← as_number line (number cell)
+  check (n == wanted) code.JobOrder line
+
+-- the cells behind the next ones, which must be these numbers
+unfoldable pub expect_all : ℕ → List ℕ → List (List ℕ) → Result (List (List ℕ)) Fault
+expect_all line [] cells = Ok cells
+expect_all line (n ∷ ns) [] = fault code.Count line
+expect_all line (n ∷ ns) (cell ∷ cells) = do
+  same ← cell_is line n cell
+  expect_all line ns cells
+
+-- the start in the next cell, and the cells behind it
+unfoldable pub start_at : ℕ → List (List ℕ) → Result (ℕ × List (List ℕ)) Fault
+start_at line [] = fault code.Count line
+start_at line (cell ∷ cells) = do
+  start ← as_number line (number cell)
+  early ← check (nat_le start latest_start) code.Limit line
+  Ok (start, cells)
+
+-- the start in a row
+unfoldable pub start_in : Entry → Row → Result ℕ Fault
+start_in entry row = do
+  rest ← expect_all row.line entry.keys row.cells
+  start ← start_at row.line rest
+  end ← expect_all row.line ((start.0 + entry.duration) ∷ []) start.1
+  Ok start.0
+
+-- the starts in the next rows, after those before, and the rows behind them
+unfoldable pub starts_after : List ℕ → ℕ → List Entry → List Row → Result (List ℕ × List Row) Fault
+starts_after before last [] rows = Ok (before, rows)
+starts_after before last (entry ∷ entries) [] = fault code.Count last
+starts_after before last (entry ∷ entries) (row ∷ rows) = do
+  start ← start_in entry row
+  starts_after (before ++ start ∷ []) row.line entries rows
+
+-- the starts in a sheet, and the rows behind it
+unfoldable pub sheet_at : Sheet → List Row → Result (List ℕ × List Row) Fault
+sheet_at sheet [] = fault code.MissingHead 0
+sheet_at sheet (head ∷ rows) = do
+  named ← check (has_columns sheet.columns head.cells) code.MissingHead head.line
+  starts_after [] head.line sheet.entries rows
+
+-- no row is left
+abbrev pub nothing_left : List Row → Result (Unit {0}) Fault
+nothing_left [] = Ok tt
+nothing_left (row ∷ rows) = fault code.Count row.line

@@ -1,0 +1,180 @@
+//! Sheets of starts: rows of cells, from a printed table or its CSV.
+
+ghost use Rattle.std.specs.Prelude.{◌≡◌, ◌≤◌, [], All, IfOk, map};
+ghost use Rattle.plan_psplib.specs.Numbers.{number as spells};
+ghost use Rattle.plan_psplib.specs.Tokens.{Gives, Reads};
+ghost use Rattle.plan_report.specs.Sheet as spec;
+
+use crate::start_numbers::LATEST_START;
+use plan_psplib::{Fault, FileCode, ReadError, number};
+use std::alloc::Global;
+
+/// The numbers of a row before its start. The last of them is the duration.
+#[derive(Drop)]
+pub struct Entry {
+    pub keys: Vec<u64>,
+    pub duration: u64,
+}
+
+/// The names of the columns, and an entry for each row.
+#[derive(Drop)]
+pub struct Sheet<'a> {
+    pub columns: &'a [&'a str],
+    pub entries: Vec<Entry>,
+}
+
+/// A row: the number of its line, and its cells.
+#[derive(Drop)]
+pub struct Row<'a> {
+    pub line: u64,
+    pub cells: Vec<&'a [u8]>,
+}
+
+// Returns the number in a cell.
+fn cell_number(line: u64, cell: &[u8]) -> Result<u64, Fault>
+    ensures { Reads (λ n. n) result (spec.as_number line (spells cell.now)) }
+{
+    match number(cell) {
+        Some(n) => Ok(n),
+        None => Err(Fault::new(FileCode::BadNumber, line)),
+    }
+}
+
+// Checks that a cell is the number `wanted`.
+#[tactic(auto, unfolding(crate::specs::Sheet::cell_is))]
+fn check_cell(line: u64, wanted: u64, cell: &[u8]) -> Result<(), Fault>
+    ensures { Reads (λ _. tt) result (spec.cell_is line wanted cell.now) }
+{
+    let n = cell_number(line, cell)?;
+    if n != wanted {
+        return Err(Fault::new(FileCode::JobOrder, line));
+    }
+    Ok(())
+}
+
+/// Returns the cells behind the next ones, which must be the numbers `wanted`.
+#[tactic(auto, unfolding(crate::specs::Sheet::expect_all))]
+pub(crate) fn expect_all<'a, 'b>(
+    line: u64,
+    wanted: &[u64],
+    cells: &'a [&'b [u8]],
+) -> Result<&'a [&'b [u8]], Fault>
+    ensures { Reads (λ rest. spec.cells_of rest.now) result
+        (spec.expect_all line wanted.now (spec.cells_of cells.now)) }
+{
+    let mut rest = cells;
+    for &n in wanted {
+        let [cell, others @ ..] = rest else {
+            return Err(Fault::new(FileCode::Count, line));
+        };
+        check_cell(line, n, cell)?;
+        rest = others;
+    }
+    Ok(rest)
+}
+
+// Returns the start in the next cell, and the cells behind it.
+#[tactic(auto, unfolding(crate::specs::Sheet::start_at))]
+fn next_start<'a, 'b>(line: u64, cells: &'a [&'b [u8]]) -> Result<(u64, &'a [&'b [u8]]), Fault>
+    ensures start { Reads (λ next. (next.0, spec.cells_of next.1.now)) result
+        (spec.start_at line (spec.cells_of cells.now)) }
+    ensures early { IfOk result (λ next. next.0 ≤ LATEST_START) }
+{
+    let [cell, rest @ ..] = cells else {
+        return Err(Fault::new(FileCode::Count, line));
+    };
+    let start = cell_number(line, cell)?;
+    if start > LATEST_START {
+        return Err(Fault::new(FileCode::Limit, line));
+    }
+    Ok((start, rest))
+}
+
+// Returns the start in a row.
+#[tactic(auto, unfolding(crate::specs::Sheet::start_in))]
+fn start_in(entry: &Entry, row: &Row<'_>) -> Result<u64, Fault>
+    requires { entry.now.duration ≤ 10000 }
+    ensures { Reads (λ n. n) result
+        (spec.start_in (spec.entry_of entry.now) (spec.row_of row.now)) }
+{
+    let rest = expect_all(row.line, &entry.keys, &row.cells)?;
+    let (start, rest) = next_start(row.line, rest)?;
+    expect_all(row.line, &[start + entry.duration], rest)?;
+    Ok(start)
+}
+
+// Returns the starts in the next rows, and the rows behind them. `last` is the line before them.
+#[tactic(auto, unfolding(crate::specs::Sheet::starts_after))]
+fn starts_after<'a, 'b>(
+    alloc: Global,
+    entries: &[Entry],
+    last: u64,
+    rows: &'a [Row<'b>],
+) -> Result<(Vec<u64>, &'a [Row<'b>]), ReadError>
+    requires { All (λ entry. entry.duration ≤ 10000) entries.now }
+    ensures { Gives (λ read. (read.0.items, map spec.row_of read.1.now)) result
+        (spec.starts_after [] last (map spec.entry_of entries.now) (map spec.row_of rows.now)) }
+{
+    let mut starts = Vec::new(alloc);
+    let mut line = last;
+    let mut rest = rows;
+    for entry in entries {
+        let [row, others @ ..] = rest else {
+            return Err(ReadError::Fault(Fault::new(FileCode::Count, line)));
+        };
+        let start = start_in(entry, row)?;
+        starts.push(start)?;
+        line = row.line;
+        rest = others;
+    }
+    Ok((starts, rest))
+}
+
+// Tests whether the first cells are these names.
+#[tactic(auto, unfolding(crate::specs::Sheet::has_columns))]
+fn has_columns(columns: &[&str], cells: &[&[u8]]) -> bool
+    ensures { result ≡
+        spec.has_columns (map (λ name. name.now) columns.now) (spec.cells_of cells.now) }
+{
+    let mut rest = cells;
+    for name in columns {
+        let [cell, others @ ..] = rest else {
+            return false;
+        };
+        if *cell != name.as_bytes() {
+            return false;
+        }
+        rest = others;
+    }
+    true
+}
+
+/// Returns the starts in a sheet, and the rows behind it.
+#[tactic(auto, unfolding(crate::specs::Sheet::sheet_at))]
+pub(crate) fn read_sheet<'a, 'b>(
+    alloc: Global,
+    sheet: &Sheet<'_>,
+    rows: &'a [Row<'b>],
+) -> Result<(Vec<u64>, &'a [Row<'b>]), ReadError>
+    requires { All (λ entry. entry.duration ≤ 10000) sheet.now.entries.items }
+    ensures { Gives (λ read. (read.0.items, map spec.row_of read.1.now)) result
+        (spec.sheet_at (spec.sheet_of sheet.now) (map spec.row_of rows.now)) }
+{
+    let [head, rest @ ..] = rows else {
+        return Err(ReadError::Fault(Fault::new(FileCode::MissingHead, 0)));
+    };
+    if !has_columns(sheet.columns, &head.cells) {
+        return Err(ReadError::Fault(Fault::new(FileCode::MissingHead, head.line)));
+    }
+    starts_after(alloc, &sheet.entries, head.line, rest)
+}
+
+/// Checks that no row is left.
+pub(crate) fn check_end(rows: &[Row<'_>]) -> Result<(), Fault>
+    ensures { Reads (λ _. tt) result (spec.nothing_left (map spec.row_of rows.now)) }
+{
+    match rows {
+        [] => Ok(()),
+        [row, ..] => Err(Fault::new(FileCode::Count, row.line)),
+    }
+}
