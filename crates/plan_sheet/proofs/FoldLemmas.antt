@@ -1,0 +1,94 @@
+-- The folding of content lines, and the lengths of folded lines.
+use Rattle.std.proofs.Common.{◌≡◌, ℕ, ◌+◌, ◌<◌, ◌≤◌, Bool, true, false, ◌&&◌, ◌||◌, ◌==◌, if◌then◌else◌, nat_le, nat_lt, List, [], ◌∷◌, ◌++◌, length, flat_map, chars, encode_utf8, IsUtf8, refl, sym, ap, ◌∙◌, subst, arith, append_assoc, append-nil}
+use Rattle.std.specs.Char.{len_utf8}
+use Rattle.std.proofs.lemmas.Bool.{leb-true}
+use Rattle.std.proofs.lemmas.Bool.Decides.{nat_tests}
+use Rattle.std.proofs.lemmas.Str.{chars_past_char, chars-nil, length-encode, len_utf8_bounds}
+use Rattle.std.proofs.lemmas.List.{nil_from_length}
+use Rattle.plan_sheet.specs.Ics.{has_room, used_with, folded_char, folded, line_end, content_line, event_of, events_of, ics_text, are_short}
+use Rattle.plan_sheet.specs.declared.ics.Event.{Event}
+use Rattle.plan_sheet.proofs.EscapeLemmas.{if_cases}
+
+-- a character of the line is written
+pub fold_step : (old new rest after : List ℕ) (used now : ℕ) (c : ℕ) (whole : List ℕ) →
+    IsUtf8 rest → rest ≡ encode_utf8 c ++ after → new ≡ old ++ folded_char used c → now ≡ used_with used c →
+    old ++ folded used (chars rest) ≡ whole → new ++ folded now (chars after) ≡ whole
+fold_step old new rest after used now c whole utf8 parts step count held =
+    ap (λ bytes. bytes ++ folded now (chars after)) step
+    ∙ ap (λ n. (old ++ folded_char used c) ++ folded n (chars after)) count
+    ∙ append_assoc old (folded_char used c) (folded (used_with used c) (chars after))
+    ∙ ap (λ cs. old ++ folded used cs) (sym (chars_past_char rest after c utf8 parts))
+    ∙ held
+
+-- the whole line is written
+pub fold_end : (written rest whole : List ℕ) (used : ℕ) → length rest ≡ 0 → written ++ folded used (chars rest) ≡ whole → written ≡ whole
+fold_end written rest whole used none held =
+    sym (append-nil written) ∙ ap (λ cs. written ++ folded used cs) (sym (ap chars (nil_from_length rest none) ∙ chars-nil)) ∙ held
+
+-- bytes for which the line has room
+short_step : (n : ℕ) (bytes rest : List ℕ) → n + length bytes ≤ 75 → ((m : ℕ) → m ≤ n + length bytes → are_short m rest ≡ true) →
+    are_short n (bytes ++ rest) ≡ true
+short_step n [] rest room ends = ends n (omega arith)
+short_step n (b ∷ bytes) rest room ends =
+    let small : nat_lt n 75 ≡ true = grind (arith, nat_tests) in
+    if_cases (λ short. short ≡ true) (b == 13 || b == 10) _ _
+    (λ _. short_step 0 bytes rest (omega (arith, room)) (λ m le. ends m (omega (arith, le))))
+    (λ _. rw small (short_step (n + 1) bytes rest (omega (arith, room)) (λ m le. ends m (omega (arith, le)))))
+
+-- a character, before a rest that is short behind any line with room
+short_char : (b : Bool) (n used c : ℕ) (tail : ℕ → List ℕ) → has_room used c ≡ b → n ≤ used → used ≤ 75 →
+    ((m u : ℕ) → m ≤ u → u ≤ 75 → are_short m (tail u) ≡ true) →
+    are_short n (folded_char used c ++ tail (used_with used c)) ≡ true
+unfolding folded_char used_with
+short_char true n used c tail yes less room ends =
+    let fits : used + len_utf8 c ≤ 75 = leb-true (used + len_utf8 c) 75 yes in
+    let size : length (encode_utf8 c) ≡ len_utf8 c = length-encode c in
+    rw yes (short_step n (encode_utf8 c) (tail (used + len_utf8 c)) (omega (arith, size, fits, less)) (λ m le.
+    ends m (used + len_utf8 c) (omega (arith, size, le, less)) fits))
+short_char false n used c tail no less room ends =
+    let size : length (encode_utf8 c) ≡ len_utf8 c = length-encode c in
+    let most : len_utf8 c ≤ 4 = (len_utf8_bounds c).1 in
+    rw no (short_step 1 (encode_utf8 c) (tail (1 + len_utf8 c)) (omega (arith, size, most)) (λ m le.
+    ends m (1 + len_utf8 c) (omega (arith, size, le)) (omega (arith, most))))
+
+-- a folded line keeps to 75 bytes
+short_folded : (n used : ℕ) (cs rest : List ℕ) → n ≤ used → used ≤ 75 → ((m : ℕ) → m ≤ 75 → are_short m rest ≡ true) →
+    are_short n (folded used cs ++ rest) ≡ true
+short_folded n used [] rest less room ends = ends n (omega (arith, less, room))
+short_folded n used (c ∷ cs) rest less room ends =
+    subst (λ bytes. are_short n bytes ≡ true) (sym (append_assoc (folded_char used c) (folded (used_with used c) cs) rest))
+    (short_char (has_room used c) n used c (λ u. folded u cs ++ rest) refl less room (λ m u le small. short_folded m u cs rest le small ends))
+
+-- short lines stay short behind these bytes
+abbrev KeepsShort : List ℕ → Type 0
+KeepsShort bytes = (rest : List ℕ) → are_short 0 rest ≡ true → are_short 0 (bytes ++ rest) ≡ true
+
+keeps_both : (one two : List ℕ) → KeepsShort one → KeepsShort two → KeepsShort (one ++ two)
+keeps_both one two first second rest short =
+    subst (λ bytes. are_short 0 bytes ≡ true) (sym (append_assoc one two rest)) (first (two ++ rest) (second rest short))
+
+keeps_line : (line : List ℕ) → KeepsShort (content_line line)
+unfolding content_line
+keeps_line line rest short =
+    subst (λ bytes. are_short 0 bytes ≡ true) (sym (append_assoc (folded 0 (chars line)) line_end rest))
+    (short_folded 0 0 (chars line) (line_end ++ rest) (omega arith) (omega arith) (λ m le. short))
+
+keeps_event : (stamp : List ℕ) (event : Event) → KeepsShort (event_of stamp event)
+unfolding event_of
+keeps_event stamp event =
+    keeps_both _ _ (keeps_line _) (keeps_both _ _
+    (keeps_both _ _ (keeps_line _) (keeps_both _ _ (keeps_line _) (keeps_both _ _ (keeps_line _) (keeps_both _ _ (keeps_line _) (keeps_line _)))))
+    (keeps_line _))
+
+keeps_events : (stamp : List ℕ) (events : List Event) → KeepsShort (events_of stamp events)
+keeps_events stamp [] rest short = short
+keeps_events stamp (event ∷ events) = keeps_both (event_of stamp event) (events_of stamp events) (keeps_event stamp event) (keeps_events stamp events)
+
+-- no line of a calendar file has more than 75 bytes
+pub short_file : (stamp : List ℕ) (events : List Event) → are_short 0 (ics_text stamp events) ≡ true
+unfolding ics_text
+short_file stamp events =
+    let whole : KeepsShort (ics_text stamp events) =
+    keeps_both _ _ (keeps_line _) (keeps_both _ _ (keeps_line _) (keeps_both _ _ (keeps_line _)
+    (keeps_both _ _ (keeps_events stamp events) (keeps_line _)))) in
+    subst (λ bytes. are_short 0 bytes ≡ true) (append-nil (ics_text stamp events)) (whole [] refl)

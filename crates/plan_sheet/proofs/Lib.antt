@@ -1,0 +1,4 @@
+pub mod EscapeLemmas
+pub mod FoldLemmas
+pub mod StepLemmas
+pub mod AxisLemmas

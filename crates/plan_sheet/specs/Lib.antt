@@ -1,0 +1,10 @@
+pub mod Escape
+pub mod Place
+pub mod Numbered
+pub mod Chart
+pub mod Usage
+pub mod Table
+pub mod Page
+pub mod Steps
+pub mod Axis
+pub mod Ics
