@@ -1,14 +1,14 @@
 -- The marks of an axis.
 use Rattle.std.proofs.Common.{◌≡◌, ℕ, ◌+◌, ◌*◌, ◌/◌, ◌<◌, ◌≤◌, List, [], ◌∷◌, ◌++◌, map, refl, sym, ap, ◌∙◌, arith}
 use Rattle.std.specs.Fmt.{decimal}
-use Rattle.std.proofs.Math.Nat.{div-mul-le_self, mul-mono}
+use Rattle.std.proofs.Math.Nat.{le-div_iff_mul-le}
 use Rattle.std.proofs.lemmas.List.{map_push}
 use Rattle.std.proofs.lemmas.List.FromFn.{map-range_with_len_more}
 use Rattle.plan_sheet.specs.Axis.{multiples}
 
 -- a mark is within the span
-pub within_span : (span distance k : ℕ) → k < span / distance + 1 → k * distance ≤ span
-within_span span distance k below = omega (arith, below, mul-mono k (span / distance) distance, div-mul-le_self span distance)
+pub within_span : (span distance k : ℕ) → 1 ≤ distance → k < span / distance + 1 → k * distance ≤ span
+within_span span distance k some below = (le-div_iff_mul-le (omega (arith, some))).0 (omega (arith, below))
 
 -- one more multiple
 pub multiples_more : (distance k : ℕ) → multiples distance (k + 1) ≡ multiples distance k ++ (k * distance) ∷ []

@@ -1,17 +1,17 @@
 -- The laws of escaped text.
-use Rattle.std.proofs.Common.{◌≡◌, ℕ, ◌<◌, ◌≤◌, Bool, true, false, ◌||◌, ◌==◌, if◌then◌else◌, Option, Some, None, List, [], ◌∷◌, ◌++◌, length, get_or, flat_map, chars, encode_utf8, inl, inr, refl, sym, ap, ◌∙◌, subst, arith, append_assoc, append-nil}
+use Rattle.std.proofs.Common.{◌≡◌, ℕ, ◌<◌, ◌≤◌, Bool, true, false, ◌||◌, ◌==◌, if◌then◌else◌, Option, Some, None, List, [], ◌∷◌, ◌++◌, length, get_or, flat_map, chars, codes, encode_utf8, inl, inr, refl, sym, ap, ◌∙◌, subst, arith, append_assoc, append-nil}
 use Rattle.std.specs.List.{list_any}
 use Rattle.std.proofs.lemmas.Bool.{cases_lt, eqb-true}
 use Rattle.std.proofs.lemmas.Bool.Decides.{nat_tests}
 use Rattle.std.proofs.lemmas.List.Elements.{All-from_get_or}
 use Rattle.std.proofs.lemmas.List.Folds.{list_any-append, list_any_none}
-use Rattle.std.proofs.lemmas.Str.{inside_one}
-use Rattle.plan_sheet.specs.Escape.{is_hidden, shown, is_markup, escaped_char, escaped, shown_text, read_from}
+use Rattle.std.proofs.lemmas.Str.{inside_one, encode_ascii}
+use Rattle.plan_sheet.specs.Escape.{is_hidden, shown, is_markup, escaped_char, escaped, shown_text, with_char, read_from}
 
 -- a fact of both choices
 pub if_cases : {A : Type 0} (P : A → Type 0) (b : Bool) (x y : A) → (b ≡ true → P x) → (b ≡ false → P y) → P (if b then x else y)
-if_cases P true x y yes no = yes refl
-if_cases P false x y yes no = no refl
+if_cases P true x y at_true at_false = at_true refl
+if_cases P false x y at_true at_false = at_false refl
 
 or_left : (a b : Bool) → (a || b) ≡ false → a ≡ false
 or_left false b e = refl
@@ -63,15 +63,24 @@ read_plain [] rest text plain reads = reads
 read_plain (b ∷ bytes) rest text plain reads =
     rw (or_left (b == 38) _ plain, read_plain bytes rest text (or_right (b == 38) _ plain) reads)
 
+shown_ascii : (c : ℕ) → c < 128 → is_hidden c ≡ false → encode_utf8 (shown c) ≡ c ∷ []
+shown_ascii c small plain = ap (λ hidden. encode_utf8 (if hidden then 0xFFFD else c)) plain ∙ encode_ascii c small
+
+read_entity : (k c : ℕ) (rest text bytes : List ℕ) → read_from None bytes ≡ with_char (Some k) (read_from None rest) → k < 128 → is_hidden k ≡ false →
+    c ≡ k → read_from None rest ≡ Some text → read_from None bytes ≡ Some (encode_utf8 (shown c) ++ text)
+read_entity k c rest text bytes begins small plain is reads =
+    begins ∙ ap (with_char (Some k)) reads
+    ∙ ap (λ char. Some (char ++ text)) (sym (ap (λ d. encode_utf8 (shown d)) is ∙ shown_ascii k small plain))
+
 read_char : (c : ℕ) (rest text : List ℕ) → read_from None rest ≡ Some text → read_from None (escaped_char c ++ rest) ≡ Some (encode_utf8 (shown c) ++ text)
 unfolding escaped_char
 read_char c rest text reads =
     let P : List ℕ → Type 0 = λ bytes. read_from None (bytes ++ rest) ≡ Some (encode_utf8 (shown c) ++ text) in
-    if_cases P (c == 38) _ _ (λ e. rw (eqb-true c 38 e, reads)) (λ ampersand.
-    if_cases P (c == 60) _ _ (λ e. rw (eqb-true c 60 e, reads)) (λ _.
-    if_cases P (c == 62) _ _ (λ e. rw (eqb-true c 62 e, reads)) (λ _.
-    if_cases P (c == 34) _ _ (λ e. rw (eqb-true c 34 e, reads)) (λ _.
-    if_cases P (c == 39) _ _ (λ e. rw (eqb-true c 39 e, reads)) (λ _.
+    if_cases P (c == 38) _ _ (λ e. read_entity 38 c rest text (codes "&amp;" ++ rest) refl (omega arith) refl (eqb-true c 38 e) reads) (λ ampersand.
+    if_cases P (c == 60) _ _ (λ e. read_entity 60 c rest text (codes "&lt;" ++ rest) refl (omega arith) refl (eqb-true c 60 e) reads) (λ _.
+    if_cases P (c == 62) _ _ (λ e. read_entity 62 c rest text (codes "&gt;" ++ rest) refl (omega arith) refl (eqb-true c 62 e) reads) (λ _.
+    if_cases P (c == 34) _ _ (λ e. read_entity 34 c rest text (codes "&quot;" ++ rest) refl (omega arith) refl (eqb-true c 34 e) reads) (λ _.
+    if_cases P (c == 39) _ _ (λ e. read_entity 39 c rest text (codes "&#39;" ++ rest) refl (omega arith) refl (eqb-true c 39 e) reads) (λ _.
     read_plain (encode_utf8 (shown c)) rest text
     (none_of_char (λ b. b == 38) (shown c) (shown_plain (λ b. b == 38) c refl ampersand) high_ampersand) reads)))))
 

@@ -1,11 +1,11 @@
 -- The folding of content lines, and the lengths of folded lines.
-use Rattle.std.proofs.Common.{◌≡◌, ℕ, ◌+◌, ◌<◌, ◌≤◌, Bool, true, false, ◌&&◌, ◌||◌, ◌==◌, if◌then◌else◌, nat_le, nat_lt, List, [], ◌∷◌, ◌++◌, length, flat_map, chars, encode_utf8, IsUtf8, refl, sym, ap, ◌∙◌, subst, arith, append_assoc, append-nil}
+use Rattle.std.proofs.Common.{◌≡◌, ℕ, ◌+◌, ◌<◌, ◌≤◌, Bool, true, false, ◌&&◌, ◌||◌, ◌==◌, if◌then◌else◌, nat_lt, List, [], ◌∷◌, ◌++◌, length, chars, codes, string_bytes, encode_utf8, IsUtf8, refl, sym, ap, ◌∙◌, subst, arith, append_assoc, append-nil}
 use Rattle.std.specs.Char.{len_utf8}
 use Rattle.std.proofs.lemmas.Bool.{leb-true}
 use Rattle.std.proofs.lemmas.Bool.Decides.{nat_tests}
 use Rattle.std.proofs.lemmas.Str.{chars_past_char, chars-nil, length-encode, len_utf8_bounds}
 use Rattle.std.proofs.lemmas.List.{nil_from_length}
-use Rattle.plan_sheet.specs.Ics.{has_room, used_with, folded_char, folded, line_end, content_line, event_of, events_of, ics_text, are_short}
+use Rattle.plan_sheet.specs.Ics.{has_room, used_with, folded_char, folded, line_end, content_line, property, event_head, event_days, event_tail, event_of, events_of, calendar_head, ics_text, text_value, are_short}
 use Rattle.plan_sheet.specs.declared.ics.Event.{Event}
 use Rattle.plan_sheet.proofs.EscapeLemmas.{if_cases}
 
@@ -40,15 +40,15 @@ short_char : (b : Bool) (n used c : ℕ) (tail : ℕ → List ℕ) → has_room 
     ((m u : ℕ) → m ≤ u → u ≤ 75 → are_short m (tail u) ≡ true) →
     are_short n (folded_char used c ++ tail (used_with used c)) ≡ true
 unfolding folded_char used_with
-short_char true n used c tail yes less room ends =
-    let fits : used + len_utf8 c ≤ 75 = leb-true (used + len_utf8 c) 75 yes in
+short_char true n used c tail fit less room ends =
+    let fits : used + len_utf8 c ≤ 75 = leb-true (used + len_utf8 c) 75 fit in
     let size : length (encode_utf8 c) ≡ len_utf8 c = length-encode c in
-    rw yes (short_step n (encode_utf8 c) (tail (used + len_utf8 c)) (omega (arith, size, fits, less)) (λ m le.
+    rw fit (short_step n (encode_utf8 c) (tail (used + len_utf8 c)) (omega (arith, size, fits, less)) (λ m le.
     ends m (used + len_utf8 c) (omega (arith, size, le, less)) fits))
-short_char false n used c tail no less room ends =
+short_char false n used c tail full less room ends =
     let size : length (encode_utf8 c) ≡ len_utf8 c = length-encode c in
     let most : len_utf8 c ≤ 4 = (len_utf8_bounds c).1 in
-    rw no (short_step 1 (encode_utf8 c) (tail (1 + len_utf8 c)) (omega (arith, size, most)) (λ m le.
+    rw full (short_step 1 (encode_utf8 c) (tail (1 + len_utf8 c)) (omega (arith, size, most)) (λ m le.
     ends m (1 + len_utf8 c) (omega (arith, size, le)) (omega (arith, most))))
 
 -- a folded line keeps to 75 bytes
@@ -60,35 +60,75 @@ short_folded n used (c ∷ cs) rest less room ends =
     (short_char (has_room used c) n used c (λ u. folded u cs ++ rest) refl less room (λ m u le small. short_folded m u cs rest le small ends))
 
 -- short lines stay short behind these bytes
-abbrev KeepsShort : List ℕ → Type 0
-KeepsShort bytes = (rest : List ℕ) → are_short 0 rest ≡ true → are_short 0 (bytes ++ rest) ≡ true
+record KeepsShort (bytes : List ℕ) : Type 0 where
+  keeps : (rest : List ℕ) → are_short 0 rest ≡ true → are_short 0 (bytes ++ rest) ≡ true
 
 keeps_both : (one two : List ℕ) → KeepsShort one → KeepsShort two → KeepsShort (one ++ two)
-keeps_both one two first second rest short =
-    subst (λ bytes. are_short 0 bytes ≡ true) (sym (append_assoc one two rest)) (first (two ++ rest) (second rest short))
+keeps_both one two first second = record {
+  keeps = λ rest short.
+      subst (λ bytes. are_short 0 bytes ≡ true) (sym (append_assoc one two rest)) (first.keeps (two ++ rest) (second.keeps rest short));
+}
 
-keeps_line : (line : List ℕ) → KeepsShort (content_line line)
+line_keeps : (line rest : List ℕ) → are_short 0 rest ≡ true → are_short 0 (content_line line ++ rest) ≡ true
 unfolding content_line
-keeps_line line rest short =
+line_keeps line rest short =
     subst (λ bytes. are_short 0 bytes ≡ true) (sym (append_assoc (folded 0 (chars line)) line_end rest))
     (short_folded 0 0 (chars line) (line_end ++ rest) (omega arith) (omega arith) (λ m le. short))
+
+keeps_line : (line : List ℕ) → KeepsShort (content_line line)
+keeps_line line = record { keeps = line_keeps line }
+
+-- a property
+keeps : (name value : List ℕ) → KeepsShort (property name value)
+unfolding property
+keeps name value = keeps_line (name ++ value)
+
+keeps_head : (stamp : List ℕ) (event : Event) → KeepsShort (event_head stamp event)
+keeps_head stamp event =
+    let begin = property (codes "BEGIN:") (codes "VEVENT") in
+    let uid = property (codes "UID:") (string_bytes event.uid) in
+    let stamped = property (codes "DTSTAMP:") stamp in
+    keeps_both (begin ++ uid) stamped
+    (keeps_both begin uid (keeps (codes "BEGIN:") (codes "VEVENT")) (keeps (codes "UID:") (string_bytes event.uid)))
+    (keeps (codes "DTSTAMP:") stamp)
+
+keeps_days : (event : Event) → KeepsShort (event_days event)
+keeps_days event =
+    keeps_both (property (codes "DTSTART;VALUE=DATE:") (string_bytes event.first_day)) (property (codes "DTEND;VALUE=DATE:") (string_bytes event.end_day))
+    (keeps (codes "DTSTART;VALUE=DATE:") (string_bytes event.first_day)) (keeps (codes "DTEND;VALUE=DATE:") (string_bytes event.end_day))
+
+keeps_tail : (event : Event) → KeepsShort (event_tail event)
+keeps_tail event =
+    keeps_both (property (codes "SUMMARY:") (text_value (string_bytes event.name))) (property (codes "END:") (codes "VEVENT"))
+    (keeps (codes "SUMMARY:") (text_value (string_bytes event.name))) (keeps (codes "END:") (codes "VEVENT"))
 
 keeps_event : (stamp : List ℕ) (event : Event) → KeepsShort (event_of stamp event)
 unfolding event_of
 keeps_event stamp event =
-    keeps_both _ _ (keeps_line _) (keeps_both _ _
-    (keeps_both _ _ (keeps_line _) (keeps_both _ _ (keeps_line _) (keeps_both _ _ (keeps_line _) (keeps_both _ _ (keeps_line _) (keeps_line _)))))
-    (keeps_line _))
+    keeps_both (event_head stamp event ++ event_days event) (event_tail event)
+    (keeps_both (event_head stamp event) (event_days event) (keeps_head stamp event) (keeps_days event)) (keeps_tail event)
 
 keeps_events : (stamp : List ℕ) (events : List Event) → KeepsShort (events_of stamp events)
-keeps_events stamp [] rest short = short
+keeps_events stamp [] = record { keeps = λ rest short. short }
 keeps_events stamp (event ∷ events) = keeps_both (event_of stamp event) (events_of stamp events) (keeps_event stamp event) (keeps_events stamp events)
+
+keeps_calendar_head : KeepsShort calendar_head
+keeps_calendar_head =
+    let begin = property (codes "BEGIN:") (codes "VCALENDAR") in
+    let version = property (codes "VERSION:") (codes "2.0") in
+    let product = property (codes "PRODID:") (codes "-//plan//plan//EN") in
+    keeps_both (begin ++ version) product
+    (keeps_both begin version (keeps (codes "BEGIN:") (codes "VCALENDAR")) (keeps (codes "VERSION:") (codes "2.0")))
+    (keeps (codes "PRODID:") (codes "-//plan//plan//EN"))
+
+keeps_file : (stamp : List ℕ) (events : List Event) → KeepsShort (ics_text stamp events)
+unfolding ics_text
+keeps_file stamp events =
+    let end = property (codes "END:") (codes "VCALENDAR") in
+    keeps_both (calendar_head ++ events_of stamp events) end
+    (keeps_both calendar_head (events_of stamp events) keeps_calendar_head (keeps_events stamp events)) (keeps (codes "END:") (codes "VCALENDAR"))
 
 -- no line of a calendar file has more than 75 bytes
 pub short_file : (stamp : List ℕ) (events : List Event) → are_short 0 (ics_text stamp events) ≡ true
-unfolding ics_text
 short_file stamp events =
-    let whole : KeepsShort (ics_text stamp events) =
-    keeps_both _ _ (keeps_line _) (keeps_both _ _ (keeps_line _) (keeps_both _ _ (keeps_line _)
-    (keeps_both _ _ (keeps_events stamp events) (keeps_line _)))) in
-    subst (λ bytes. are_short 0 bytes ≡ true) (append-nil (ics_text stamp events)) (whole [] refl)
+    subst (λ bytes. are_short 0 bytes ≡ true) (append-nil (ics_text stamp events)) ((keeps_file stamp events).keeps [] refl)

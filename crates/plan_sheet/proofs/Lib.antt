@@ -1,4 +1,5 @@
 pub mod EscapeLemmas
+pub mod NumberedLemmas
 pub mod FoldLemmas
 pub mod StepLemmas
 pub mod AxisLemmas

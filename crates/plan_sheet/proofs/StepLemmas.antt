@@ -6,7 +6,7 @@ use Rattle.std.proofs.lemmas.Bool.{cases_lt}
 use Rattle.std.proofs.lemmas.Bool.Decides.{nat_tests}
 use Rattle.std.proofs.lemmas.List.{take_more}
 use Rattle.std.proofs.lemmas.List.Elements.{All-head, All-tail, All-push, All-weaker}
-use Rattle.std.proofs.lemmas.List.Sums.{fold_push, sum_by_push}
+use Rattle.std.proofs.lemmas.List.Sums.{fold_push, sum_by_push, sum_by-cons}
 use Rattle.plan_sheet.specs.Steps.{amount_at, used_at, shown_at, IsOutside, IsQuiet}
 use Rattle.plan_sheet.specs.declared.report.Step.{Step}
 use Rattle.plan_sheet.specs.declared.steps.Use.{Use}
@@ -28,8 +28,10 @@ amount_same one s t n up before quiet =
 sum_same : (uses : List Use) (s t n : ℕ) → s ≤ t → t < n → All (IsQuiet s n) uses → sum_by (amount_at s) uses ≡ sum_by (amount_at t) uses
 sum_same [] s t n up before quiet = refl
 sum_same (one ∷ uses) s t n up before quiet =
-    ap₂ (λ a b. a + b) (amount_same one s t n up before (All-head (IsQuiet s n) one uses quiet))
+    sum_by-cons (amount_at s) one uses
+    ∙ ap₂ (λ a b. a + b) (amount_same one s t n up before (All-head (IsQuiet s n) one uses quiet))
     (sum_same uses s t n up before (All-tail (IsQuiet s n) one uses quiet))
+    ∙ sym (sum_by-cons (amount_at t) one uses)
 
 -- the use at an instant is that at an earlier one, if none begins or ends between
 pub used_same : (uses : List Use) (s t n : ℕ) → s ≤ t → t < n → All (IsQuiet s n) uses → used_at uses s ≡ used_at uses t

@@ -1,6 +1,6 @@
 -- Text inside markup (docs/definitions.md, "Sheets"; WHATWG HTML, "Escaping a string"; XML 1.0,
 -- sections 2.2 and 4.6).
-use Rattle.std.specs.Prelude.{ℕ, ◌==◌, Bool, ◌&&◌, ◌||◌, if◌then◌else◌, nat_le, nat_lt, Option, Some, None, option_map, List, [], ◌∷◌, ◌++◌, codes}
+use Rattle.std.specs.Prelude.{ℕ, ◌==◌, Bool, ◌&&◌, ◌||◌, if◌then◌else◌, nat_le, nat_lt, Option, Some, None, List, [], ◌∷◌, ◌++◌, codes}
 use Rattle.std.specs.List.{flat_map}
 use Rattle.std.specs.Char.{encode_utf8}
 use Rattle.std.specs.Str.{chars, bytes_eq}
@@ -41,7 +41,8 @@ named_char name =
 -- a character before a text; none if there is no character or no text
 abbrev pub with_char : Option ℕ → Option (List ℕ) → Option (List ℕ)
 with_char None text = None
-with_char (Some c) text = option_map (λ rest. c ∷ rest) text
+with_char (Some c) None = None
+with_char (Some c) (Some rest) = Some (c ∷ rest)
 
 -- the text that a reader of markup gets; none if an & begins none of the five entities. The first
 -- argument is what it has of an entity's name.

@@ -37,36 +37,50 @@ abbrev pub folded : ℕ → List ℕ → List ℕ
 folded used [] = []
 folded used (c ∷ cs) = folded_char used c ++ folded (used_with used c) cs
 
+-- the characters of a line, folded
+abbrev pub folded_text : List ℕ → List ℕ
+folded_text line = folded 0 (chars line)
+
 -- a content line
 unfoldable pub content_line : List ℕ → List ℕ
-content_line line = folded 0 (chars line) ++ line_end
+content_line line = folded_text line ++ line_end
 
 -- a property: its name with its parameters and the colon, and its value
-abbrev pub property : List ℕ → List ℕ → List ℕ
+unfoldable pub property : List ℕ → List ℕ → List ℕ
 property name value = content_line (name ++ value)
 
--- the properties of an event of whole days
-abbrev pub properties_of : List ℕ → Event → List ℕ
-properties_of stamp event =
-    property (codes "UID:") (string_bytes event.uid) ++ property (codes "DTSTAMP:") stamp
-    ++ property (codes "DTSTART;VALUE=DATE:") (string_bytes event.first_day)
-    ++ property (codes "DTEND;VALUE=DATE:") (string_bytes event.end_day)
-    ++ property (codes "SUMMARY:") (text_value (string_bytes event.name))
+-- the first properties of an event
+abbrev pub event_head : List ℕ → Event → List ℕ
+event_head stamp event =
+    property (codes "BEGIN:") (codes "VEVENT") ++ property (codes "UID:") (string_bytes event.uid)
+    ++ property (codes "DTSTAMP:") stamp
 
--- an event
+-- the days of an event
+abbrev pub event_days : Event → List ℕ
+event_days event =
+    property (codes "DTSTART;VALUE=DATE:") (string_bytes event.first_day)
+    ++ property (codes "DTEND;VALUE=DATE:") (string_bytes event.end_day)
+
+-- the last properties of an event
+abbrev pub event_tail : Event → List ℕ
+event_tail event = property (codes "SUMMARY:") (text_value (string_bytes event.name)) ++ property (codes "END:") (codes "VEVENT")
+
+-- an event of whole days
 unfoldable pub event_of : List ℕ → Event → List ℕ
-event_of stamp event =
-    property (codes "BEGIN:") (codes "VEVENT") ++ properties_of stamp event ++ property (codes "END:") (codes "VEVENT")
+event_of stamp event = event_head stamp event ++ event_days event ++ event_tail event
 
 abbrev pub events_of : List ℕ → List Event → List ℕ
 events_of stamp events = flat_map (event_of stamp) events
 
+-- the first properties of a calendar file
+abbrev pub calendar_head : List ℕ
+calendar_head =
+    property (codes "BEGIN:") (codes "VCALENDAR") ++ property (codes "VERSION:") (codes "2.0")
+    ++ property (codes "PRODID:") (codes "-//plan//plan//EN")
+
 -- a calendar file
 unfoldable pub ics_text : List ℕ → List Event → List ℕ
-ics_text stamp events =
-    property (codes "BEGIN:") (codes "VCALENDAR") ++ property (codes "VERSION:") (codes "2.0")
-    ++ property (codes "PRODID:") (codes "-//plan//plan//EN") ++ events_of stamp events
-    ++ property (codes "END:") (codes "VCALENDAR")
+ics_text stamp events = calendar_head ++ events_of stamp events ++ property (codes "END:") (codes "VCALENDAR")
 
 -- no line has more than 75 bytes, the line end apart; the first one has n bytes before these
 abbrev pub are_short : ℕ → List ℕ → Bool

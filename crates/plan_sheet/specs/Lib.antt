@@ -1,4 +1,5 @@
 pub mod Escape
+pub mod Pieces
 pub mod Place
 pub mod Numbered
 pub mod Chart

@@ -3,28 +3,37 @@ use Rattle.std.specs.Prelude.{ℕ, ◌+◌, Bool, true, false, if◌then◌else�
 use Rattle.std.specs.List.{flat_map}
 use Rattle.std.specs.Fmt.{decimal}
 use Rattle.plan_sheet.specs.Escape.{escaped}
+use Rattle.plan_sheet.specs.Pieces.{counted, named}
 use Rattle.plan_sheet.specs.declared.report.Columns.{Columns}
 use Rattle.plan_sheet.specs.declared.report.Row.{Row}
+use Rattle.plan_sheet.specs.declared.styles.TheConstants.{FIRST_HEADS}
 
 -- the text, if it is wanted
 abbrev pub only_if : Bool → List ℕ → List ℕ
 only_if wanted part = if wanted then part else []
 
+-- the heads of the columns that not every table has
+abbrev pub more_heads : Columns → List ℕ
+more_heads columns =
+    only_if columns.days (codes "<th scope=\"col\">First day</th><th scope=\"col\">Last day</th>")
+    ++ only_if columns.float (codes "<th scope=\"col\">Float</th>")
+    ++ only_if columns.slack (codes "<th scope=\"col\">Slack</th>")
+
 -- the first row, which a printed page repeats
 unfoldable pub heads_of : Columns → List ℕ
-heads_of columns =
-    codes "<thead>\n<tr><th scope=\"col\">No.</th><th scope=\"col\" class=\"name\">Name</th>"
-    ++ codes "<th scope=\"col\">Duration</th><th scope=\"col\">Start</th><th scope=\"col\">End</th>"
-    ++ only_if columns.days (codes "<th scope=\"col\">First day</th><th scope=\"col\">Last day</th>")
-    ++ only_if columns.float (codes "<th scope=\"col\">Float</th>")
-    ++ only_if columns.slack (codes "<th scope=\"col\">Slack</th>") ++ codes "</tr>\n</thead>\n"
+heads_of columns = FIRST_HEADS.now ++ more_heads columns ++ codes "</tr>\n</thead>\n"
+
+-- duration, start and end
+unfoldable pub time_cells : ℕ → ℕ → List ℕ
+time_cells duration start =
+    counted (codes "</td><td>") duration ++ counted (codes "</td><td>") start
+    ++ counted (codes "</td><td>") (start + duration) ++ codes "</td>"
 
 -- number, name, duration, start and end
 unfoldable pub first_cells : Row → List ℕ
 first_cells row =
-    codes "<tr><th scope=\"row\">" ++ escaped (string_bytes row.number) ++ codes "</th><td class=\"name\">"
-    ++ escaped (string_bytes row.name) ++ codes "</td>" ++ codes "<td>" ++ decimal row.duration ++ codes "</td><td>"
-    ++ decimal row.start ++ codes "</td><td>" ++ decimal (row.start + row.duration) ++ codes "</td>"
+    named (codes "<tr><th scope=\"row\">") (string_bytes row.number)
+    ++ named (codes "</th><td class=\"name\">") (string_bytes row.name) ++ time_cells row.duration row.start
 
 -- first and last day
 unfoldable pub day_cells : Bool → Row → List ℕ
@@ -47,8 +56,11 @@ row_of columns row =
 abbrev pub rows_of : Columns → List Row → List ℕ
 rows_of columns rows = flat_map (row_of columns) rows
 
+-- the rows below the first one
+abbrev pub body_of : Columns → List Row → List ℕ
+body_of columns rows = codes "<tbody>\n" ++ rows_of columns rows ++ codes "</tbody>\n</table>\n</div>\n"
+
 -- a table, which scrolls in itself where it is wider than the page
 unfoldable pub table_of : Columns → List Row → List ℕ
 table_of columns rows =
-    codes "<div class=\"scroll\" tabindex=\"0\">\n<table>\n" ++ heads_of columns ++ codes "<tbody>\n"
-    ++ rows_of columns rows ++ codes "</tbody>\n</table>\n</div>\n"
+    codes "<div class=\"scroll\" tabindex=\"0\">\n<table>\n" ++ heads_of columns ++ body_of columns rows

@@ -2,12 +2,13 @@
 use Rattle.std.specs.Prelude.{ℕ, ◌-◌, ◌*◌, ◌/◌, List, ◌++◌, fold, max, codes, string_bytes}
 use Rattle.std.specs.List.{flat_map}
 use Rattle.std.specs.Fmt.{decimal}
-use Rattle.plan_sheet.specs.Escape.{escaped}
+use Rattle.plan_sheet.specs.Pieces.{counted, named}
 use Rattle.plan_sheet.specs.Place.{place}
 use Rattle.plan_sheet.specs.Chart.{image_head, axis_of}
 use Rattle.plan_sheet.specs.declared.report.Axis.{Axis}
 use Rattle.plan_sheet.specs.declared.report.Step.{Step}
 use Rattle.plan_sheet.specs.declared.report.Usage.{Usage}
+use Rattle.plan_sheet.specs.declared.styles.TheConstants.{OPENING}
 
 -- the greatest of the capacity and the amounts in use
 abbrev pub greatest : ℕ → List Step → ℕ
@@ -32,14 +33,21 @@ area_of span greatest steps =
 -- the line of the capacity
 unfoldable pub capacity_line : ℕ → ℕ → List ℕ
 capacity_line greatest capacity =
-    codes "<path class=\"most\" d=\"M240 " ++ decimal (level greatest capacity) ++ codes "h1000\"/>"
-    ++ codes "<text class=\"end\" x=\"234\" y=\"" ++ decimal (level greatest capacity) ++ codes "\" dy=\"4\">"
-    ++ decimal capacity ++ codes "</text>\n"
+    counted (codes "<path class=\"most\" d=\"M240 ") (level greatest capacity)
+    ++ counted (codes "h1000\"/><text class=\"end\" x=\"234\" y=\"") (level greatest capacity)
+    ++ counted (codes "\" dy=\"4\">") capacity ++ codes "</text>\n"
 
--- the use of a resource, an image with the axis of the chart
+-- the name of a resource beside its steps
+abbrev pub usage_name : List ℕ → List ℕ
+usage_name name = named (codes "<text y=\"62\">") name ++ codes "</text>\n"
+
+-- the image of a resource up to its steps, with the axis of the chart
+unfoldable pub usage_head : Axis → List ℕ → List ℕ
+usage_head axis name = image_head 106 OPENING.now name ++ axis_of 88 axis ++ usage_name name
+
+-- the use of a resource
 unfoldable pub usage_of : Axis → Usage → List ℕ
 usage_of axis usage =
-    let most = greatest usage.capacity usage.steps.items in
-    let name = escaped (string_bytes usage.name) in
-    image_head 106 (codes "") name ++ axis_of 88 axis ++ codes "<text y=\"62\">" ++ name ++ codes "</text>\n"
-    ++ area_of axis.span most usage.steps.items ++ capacity_line most usage.capacity ++ codes "</svg>\n"
+    usage_head axis (string_bytes usage.name)
+    ++ area_of axis.span (greatest usage.capacity usage.steps.items) usage.steps.items
+    ++ capacity_line (greatest usage.capacity usage.steps.items) usage.capacity ++ codes "</svg>\n"

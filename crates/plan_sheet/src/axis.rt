@@ -32,12 +32,12 @@ fn tick_distance(span: u32) -> u32
 }
 
 // Mark number `k`, with its number of units as its label.
-fn tick(alloc: Global, distance: u32, k: u32) -> Result<Tick, AllocError>
+fn tick(alloc: Global, distance: u32, k: u64) -> Result<Tick, AllocError>
     requires { k * distance < 4294967296 }
     ensures at { IfOk result (λ tick. tick.at ≡ k * distance) }
     ensures label { IfOk result (λ tick. string_bytes tick.label ≡ decimal (k * distance)) }
 {
-    let at = k * distance;
+    let at = (k * u64::from(distance)) as u32;
     let label = format!(in alloc; "{at}")?;
     Ok(Tick { at, label })
 }
@@ -52,7 +52,8 @@ fn ticks(alloc: Global, span: u32) -> Result<Vec<Tick>, AllocError>
     let distance = tick_distance(span);
     let mut ticks = Vec::new(alloc);
     for k in 0..u64::from(span / distance) + 1 {
-        ticks.push(tick(alloc, distance, k as u32)?)?;
+        let next = tick(alloc, distance, k)?;
+        ticks.push(next)?;
     }
     Ok(ticks)
 }

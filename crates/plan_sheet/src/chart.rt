@@ -3,12 +3,11 @@
 ghost use Rattle.std.specs.Prelude.{◌≡◌, ◌≤◌, ◌++◌, ◌*◌, ◌+◌, length, IfOk, OnOk, string_bytes};
 ghost use Rattle.plan_sheet.specs.Chart as spec;
 
-use crate::escape::escaped;
+use crate::pieces::{push_name, push_number};
 use crate::place::{extent, place};
 use crate::report::{Axis, Bar, Line, Shade, Tick};
-use crate::styles::{CHART_STYLE, COLOURS};
+use crate::styles::{CHART_STYLE, COLOURS, IMAGE};
 use std::alloc::{AllocError, Global};
-use std::fmt::Write;
 
 // The range of non-working days, as high as a chart of this height.
 #[tactic(auto, unfolding(crate::specs::Chart::shade_of))]
@@ -18,10 +17,10 @@ fn push_shade(text: &mut String, span: u32, height: u32, shade: Shade) -> Result
 {
     let x = place(span, shade.from);
     let width = extent(span, shade.from, shade.to);
-    write!(
-        text,
-        "<rect class=\"shade\" x=\"{x}\" y=\"20\" width=\"{width}\" height=\"{height}\"/>\n"
-    )
+    push_number(text, "<rect class=\"shade\" x=\"", x)?;
+    push_number(text, "\" y=\"20\" width=\"", width)?;
+    push_number(text, "\" height=\"", u64::from(height))?;
+    text.push_str("\"/>\n")
 }
 
 // The ranges of non-working days.
@@ -40,7 +39,18 @@ fn push_shades(
     Ok(())
 }
 
-// A mark of the axis: a line down to this height, and its label.
+// The line of a mark, of this height.
+#[tactic(auto, unfolding(crate::specs::Chart::tick_line))]
+fn push_tick_line(text: &mut String, span: u32, height: u32, at: u32) -> Result<(), AllocError>
+    ensures { OnOk result
+        (string_bytes text.new ≡ string_bytes text.old ++ spec.tick_line span height at) }
+{
+    let x = place(span, at);
+    push_number(text, "<path class=\"tick\" d=\"M", x)?;
+    push_number(text, " 16v", u64::from(height))
+}
+
+// A mark of the axis: a line of this height, and its label.
 #[tactic(auto, unfolding(crate::specs::Chart::tick_of))]
 fn push_tick(
     alloc: Global,
@@ -53,9 +63,10 @@ fn push_tick(
         (string_bytes text.new ≡ string_bytes text.old ++ spec.tick_of span height tick.now) }
 {
     let x = place(span, tick.at);
-    let label = escaped(alloc, &tick.label)?;
-    write!(text, "<path class=\"tick\" d=\"M{x} 16v{height}\"/>")?;
-    write!(text, "<text x=\"{x}\" y=\"14\" dx=\"3\">{label}</text>\n")
+    push_tick_line(text, span, height, tick.at)?;
+    push_number(text, "\"/><text x=\"", x)?;
+    push_name(alloc, text, "\" y=\"14\" dx=\"3\">", &tick.label)?;
+    text.push_str("</text>\n")
 }
 
 // The marks of the axis.
@@ -90,11 +101,15 @@ pub(crate) fn push_axis(
     push_ticks(alloc, text, axis.span, height, &axis.ticks)
 }
 
-// The class of a bar.
-fn class_of(tight: bool) -> &'static str
-    ensures { result.now ≡ spec.class_of tight }
+// The start of a diamond.
+fn diamond_start(tight: bool) -> &'static str
+    ensures { result.now ≡ spec.diamond_start tight }
 {
-    if tight { "bar tight" } else { "bar" }
+    if tight {
+        "<path class=\"bar tight\" d=\"M"
+    } else {
+        "<path class=\"bar\" d=\"M"
+    }
 }
 
 // A milestone: a diamond at its place.
@@ -103,26 +118,21 @@ fn push_diamond(alloc: Global, text: &mut String, span: u32, bar: &Bar) -> Resul
     ensures { OnOk result
         (string_bytes text.new ≡ string_bytes text.old ++ spec.diamond_of span bar.now) }
 {
-    let class = class_of(bar.tight);
     let x = place(span, bar.from);
-    let title = escaped(alloc, &bar.text)?;
-    write!(text, "<path class=\"{class}\" d=\"M{x} 2l6 6-6 6-6-6z\">")?;
-    write!(text, "<title>{title}</title></path>\n")
+    push_number(text, diamond_start(bar.tight), x)?;
+    push_name(alloc, text, " 2l6 6-6 6-6-6z\"><title>", &bar.text)?;
+    text.push_str("</title></path>\n")
 }
 
-// The text inside a bar, if it fits.
-#[tactic(auto, unfolding(crate::specs::Chart::label_of))]
-fn push_label(alloc: Global, text: &mut String, span: u32, bar: &Bar) -> Result<(), AllocError>
-    ensures { OnOk result
-        (string_bytes text.new ≡ string_bytes text.old ++ spec.label_of span bar.now) }
+// The start of a rectangle.
+fn rectangle_start(tight: bool) -> &'static str
+    ensures { result.now ≡ spec.rectangle_start tight }
 {
-    let room = extent(span, bar.from, bar.to) / 8;
-    if bar.label.is_empty() || room < bar.label.len() as u64 {
-        return Ok(());
+    if tight {
+        "<rect class=\"bar tight\" x=\""
+    } else {
+        "<rect class=\"bar\" x=\""
     }
-    let x = place(span, bar.from);
-    let label = escaped(alloc, &bar.label)?;
-    write!(text, "<text class=\"on\" x=\"{x}\" y=\"12\" dx=\"2\">{label}</text>\n")
 }
 
 // An activity that takes time: a rectangle from its start to its end.
@@ -131,12 +141,52 @@ fn push_rectangle(alloc: Global, text: &mut String, span: u32, bar: &Bar) -> Res
     ensures { OnOk result
         (string_bytes text.new ≡ string_bytes text.old ++ spec.rectangle_of span bar.now) }
 {
-    let class = class_of(bar.tight);
     let x = place(span, bar.from);
     let width = extent(span, bar.from, bar.to);
-    let title = escaped(alloc, &bar.text)?;
-    write!(text, "<rect class=\"{class}\" x=\"{x}\" y=\"2\" width=\"{width}\" height=\"12\">")?;
-    write!(text, "<title>{title}</title></rect>\n")
+    push_number(text, rectangle_start(bar.tight), x)?;
+    push_number(text, "\" y=\"2\" width=\"", width)?;
+    push_name(alloc, text, "\" height=\"12\"><title>", &bar.text)?;
+    text.push_str("</title></rect>\n")
+}
+
+// The text inside a bar.
+#[tactic(auto, unfolding(crate::specs::Chart::label_text))]
+fn push_label_text(
+    alloc: Global,
+    text: &mut String,
+    span: u32,
+    bar: &Bar,
+) -> Result<(), AllocError>
+    ensures { OnOk result
+        (string_bytes text.new ≡ string_bytes text.old ++ spec.label_text span bar.now) }
+{
+    let x = place(span, bar.from);
+    push_number(text, "<text class=\"on\" x=\"", x)?;
+    push_name(alloc, text, "\" y=\"12\" dx=\"2\">", &bar.label)?;
+    text.push_str("</text>\n")
+}
+
+// Returns how many bytes fit into a bar, at 8 units each.
+fn room_in(span: u32, bar: &Bar) -> u64
+    ensures { result ≡ spec.room_in span bar.now }
+{
+    extent(span, bar.from, bar.to) / 8
+}
+
+// The text inside a bar, if it fits.
+fn push_label(alloc: Global, text: &mut String, span: u32, bar: &Bar) -> Result<(), AllocError>
+    ensures { OnOk result
+        (string_bytes text.new ≡ string_bytes text.old ++ spec.label_of span bar.now) }
+{
+    let room = room_in(span, bar);
+    let length = bar.label.len() as u64;
+    if length < 1 {
+        return Ok(());
+    }
+    if room < length {
+        return Ok(());
+    }
+    push_label_text(alloc, text, span, bar)
 }
 
 // A bar: a diamond for a milestone, else a rectangle.
@@ -177,9 +227,14 @@ fn push_line_head(
         (string_bytes text.new ≡ string_bytes text.old ++ spec.line_head k label.now) }
 {
     let y = 16 * k + 24;
-    let label = escaped(alloc, label)?;
-    write!(text, "<g transform=\"translate(0,{y})\">\n")?;
-    write!(text, "<svg width=\"232\" height=\"16\"><text y=\"12\">{label}</text></svg>\n")
+    push_number(text, "<g transform=\"translate(0,", u64::from(y))?;
+    push_name(
+        alloc,
+        text,
+        ")\">\n<svg width=\"232\" height=\"16\"><text y=\"12\">",
+        label,
+    )?;
+    text.push_str("</text></svg>\n")
 }
 
 // Line `k` of a chart.
@@ -212,40 +267,54 @@ fn push_lines(alloc: Global, text: &mut String, span: u32, lines: &[Line]) -> Re
     Ok(())
 }
 
-/// Appends the start of an SVG image of this height, with its style and its title.
+/// Appends the start of an SVG image of this height: `opening` ends its tag and begins its title.
 #[tactic(auto, unfolding(crate::specs::Chart::image_head))]
 pub(crate) fn push_image_head(
+    alloc: Global,
     text: &mut String,
     height: u32,
-    style: &str,
+    opening: &str,
     title: &str,
 ) -> Result<(), AllocError>
-    ensures { OnOk result
-        (string_bytes text.new ≡ string_bytes text.old ++ spec.image_head height style.now title.now) }
+    ensures { OnOk result (string_bytes text.new ≡ string_bytes text.old
+        ++ spec.image_head height opening.now title.now) }
 {
-    text.push_str("<svg xmlns=\"http://www.w3.org/2000/svg\" class=\"chart\" role=\"img\"")?;
-    write!(text, " viewBox=\"0 0 1320 {height}\">\n{style}<title>{title}</title>\n")
+    push_number(text, IMAGE, u64::from(height))?;
+    push_name(alloc, text, opening, title)?;
+    text.push_str("</title>\n")
 }
 
-/// Appends a chart of lines, with its style and its escaped title.
+/// Appends a chart of lines, with its opening and its title.
 #[tactic(auto, unfolding(crate::specs::Chart::chart_of))]
 pub(crate) fn push_chart(
     alloc: Global,
     text: &mut String,
-    style: &str,
+    opening: &str,
     title: &str,
     axis: &Axis,
     lines: &[Line],
 ) -> Result<(), AllocError>
     requires { length lines.now ≤ 1000000 }
     ensures { OnOk result (string_bytes text.new ≡ string_bytes text.old
-        ++ spec.chart_of style.now title.now axis.now lines.now) }
+        ++ spec.chart_of opening.now title.now axis.now lines.now) }
 {
     let count = lines.len() as u32;
-    push_image_head(text, 16 * count + 26, style, title)?;
+    push_image_head(alloc, text, 16 * count + 26, opening, title)?;
     push_axis(alloc, text, 16 * count + 8, axis)?;
     push_lines(alloc, text, axis.span, lines)?;
     text.push_str("</svg>\n")
+}
+
+// The opening of a chart alone, with its styles.
+fn styled_opening(alloc: Global) -> Result<String, AllocError>
+    ensures { IfOk result (λ text. string_bytes text ≡ spec.styled_opening) }
+{
+    let mut text = String::new(alloc);
+    text.push_str("\">\n<style>\n")?;
+    text.push_str(COLOURS)?;
+    text.push_str(CHART_STYLE)?;
+    text.push_str("</style>\n<title>")?;
+    Ok(text)
 }
 
 /// Returns a chart alone, an SVG file (SVG 2): all lines below one axis, in colours for light and
@@ -257,11 +326,11 @@ pub fn svg_chart(
     lines: &[Line],
 ) -> Result<String, AllocError>
     requires { length lines.now ≤ 1000000 }
-    ensures text { IfOk result (λ text. string_bytes text ≡ spec.svg_chart title.now axis.now lines.now) }
+    ensures text { IfOk result (λ text.
+        string_bytes text ≡ spec.svg_chart title.now axis.now lines.now) }
 {
-    let title = escaped(alloc, title)?;
-    let style = format!(in alloc; "<style>\n{COLOURS}{CHART_STYLE}</style>\n")?;
+    let opening = styled_opening(alloc)?;
     let mut text = String::new(alloc);
-    push_chart(alloc, &mut text, &style, &title, axis, lines)?;
+    push_chart(alloc, &mut text, &opening, title, axis, lines)?;
     Ok(text)
 }

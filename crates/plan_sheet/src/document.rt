@@ -1,16 +1,35 @@
 //! The page of a report.
 
-ghost use Rattle.std.specs.Prelude.{◌≡◌, ◌++◌, ◌≤◌, length, IfOk, OnOk, string_bytes};
+ghost use Rattle.std.specs.Prelude.{◌≡◌, ◌++◌, ◌*◌, ◌≤◌, length, take, drop, IfOk, OnOk, string_bytes};
 ghost use Rattle.plan_sheet.specs.Page as spec;
 
 use crate::chart::push_chart;
-use crate::escape::escaped;
-use crate::report::{Axis, Line, Report, Usage};
-use crate::styles::{CHART_STYLE, COLOURS, HEAD, PAGE_STYLE};
+use crate::pieces::push_name;
+use crate::report::{Axis, Columns, Line, Report, Row, Usage};
+use crate::styles::{CHART_STYLE, COLOURS, HEAD, OPENING, PAGE_STYLE};
 use crate::table::push_table;
 use crate::usage::push_usage;
 use std::alloc::{AllocError, Global};
-use std::fmt::Write;
+
+// The styles of the page.
+fn push_styles(text: &mut String) -> Result<(), AllocError>
+    ensures { OnOk result (string_bytes text.new ≡ string_bytes text.old ++ spec.styles) }
+{
+    text.push_str("</title>\n<style>\n")?;
+    text.push_str(COLOURS)?;
+    text.push_str(CHART_STYLE)?;
+    text.push_str(PAGE_STYLE)
+}
+
+// The title and the note.
+fn push_headings(alloc: Global, text: &mut String, title: &str, note: &str) -> Result<(), AllocError>
+    ensures { OnOk result
+        (string_bytes text.new ≡ string_bytes text.old ++ spec.headings title.now note.now) }
+{
+    push_name(alloc, text, "</style>\n</head>\n<body>\n<h1>", title)?;
+    push_name(alloc, text, "</h1>\n<p>", note)?;
+    text.push_str("</p>\n<h2>Gantt chart</h2>\n")
+}
 
 // The head of the page, and its title and note.
 #[tactic(auto, unfolding(crate::specs::Page::front_of))]
@@ -18,14 +37,26 @@ fn push_front(alloc: Global, text: &mut String, title: &str, note: &str) -> Resu
     ensures { OnOk result
         (string_bytes text.new ≡ string_bytes text.old ++ spec.front_of title.now note.now) }
 {
-    let title = escaped(alloc, title)?;
-    let note = escaped(alloc, note)?;
-    write!(text, "{HEAD}{title}</title>\n<style>\n")?;
-    write!(text, "{COLOURS}{CHART_STYLE}{PAGE_STYLE}</style>\n</head>\n")?;
-    write!(text, "<body>\n<h1>{title}</h1>\n<p>{note}</p>\n<h2>Gantt chart</h2>\n")
+    push_name(alloc, text, HEAD, title)?;
+    push_styles(text)?;
+    push_headings(alloc, text, title, note)
 }
 
-// A chart of at most 40 lines: those from line `40 * k` on.
+// The lines of chart `k`: from line `40 * k` on, at most 40.
+#[tactic(auto, using(crate::proofs::NumberedLemmas::drop_within,
+    crate::proofs::NumberedLemmas::take_within))]
+fn group(lines: &[Line], k: usize) -> &[Line]
+    requires { k ≤ 25000 }
+    ensures lines { result.now ≡ take 40 (drop (40 * k) lines.now) }
+    ensures short { length result.now ≤ 40 }
+{
+    let from = (40 * k).min(lines.len());
+    let rest = &lines[from..];
+    let count = 40_usize.min(rest.len());
+    &rest[..count]
+}
+
+// Chart `k`.
 #[tactic(auto, unfolding(crate::specs::Page::figure_of))]
 fn push_figure(
     alloc: Global,
@@ -38,11 +69,9 @@ fn push_figure(
     ensures { OnOk result
         (string_bytes text.new ≡ string_bytes text.old ++ spec.figure_of axis.now lines.now k) }
 {
-    let from = lines.len().min(40 * k);
-    let rest = &lines[from..];
-    let group = &rest[..rest.len().min(40)];
+    let group = group(lines, k);
     text.push_str("<figure>\n")?;
-    push_chart(alloc, text, "", "Gantt chart", axis, group)?;
+    push_chart(alloc, text, OPENING, "Gantt chart", axis, group)?;
     text.push_str("</figure>\n")
 }
 
@@ -105,11 +134,26 @@ fn push_resources(
     ensures { OnOk result
         (string_bytes text.new ≡ string_bytes text.old ++ spec.resources_of axis.now usages.now) }
 {
-    if usages.is_empty() {
+    if usages.len() < 1 {
         return Ok(());
     }
     text.push_str("<h2>Resource use</h2>\n")?;
     push_usages(alloc, text, axis, usages)
+}
+
+// The table below its heading, and the end of the page.
+fn push_end(
+    alloc: Global,
+    text: &mut String,
+    columns: Columns,
+    rows: &[Row],
+) -> Result<(), AllocError>
+    ensures { OnOk result
+        (string_bytes text.new ≡ string_bytes text.old ++ spec.end_of columns rows.now) }
+{
+    text.push_str("<h2>Activities</h2>\n")?;
+    push_table(alloc, text, columns, rows)?;
+    text.push_str("</body>\n</html>\n")
 }
 
 /// Returns a report as one HTML page without a script or a link: its title, its charts in groups of
@@ -124,8 +168,6 @@ pub fn page(alloc: Global, report: &Report) -> Result<String, AllocError>
     push_front(alloc, &mut text, &report.title, &report.note)?;
     push_figures(alloc, &mut text, &report.axis, &report.lines)?;
     push_resources(alloc, &mut text, &report.axis, &report.usages)?;
-    text.push_str("<h2>Activities</h2>\n")?;
-    push_table(alloc, &mut text, report.columns, &report.rows)?;
-    text.push_str("</body>\n</html>\n")?;
+    push_end(alloc, &mut text, report.columns, &report.rows)?;
     Ok(text)
 }

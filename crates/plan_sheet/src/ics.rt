@@ -63,20 +63,31 @@ fn push_folded(text: &mut String, used: u32, c: char) -> Result<u32, AllocError>
     }
 }
 
-// Appends a content line, folded so that no line has more than 75 bytes (section 3.1).
-#[tactic(auto, unfolding(crate::specs::Ics::content_line))]
-fn push_line(text: &mut String, line: &str) -> Result<(), AllocError>
+// Appends the characters of a content line, folded so that no line has more than 75 bytes
+// (section 3.1).
+fn push_chars(text: &mut String, line: &str) -> Result<(), AllocError>
     ensures { OnOk result
-        (string_bytes text.new ≡ string_bytes text.old ++ spec.content_line line.now) }
+        (string_bytes text.new ≡ string_bytes text.old ++ spec.folded_text line.now) }
 {
     let mut used = 0;
     for c in line.chars() {
         used = push_folded(text, used, c)?;
     }
+    Ok(())
+}
+
+// Appends a content line.
+#[tactic(auto, unfolding(crate::specs::Ics::content_line))]
+fn push_line(text: &mut String, line: &str) -> Result<(), AllocError>
+    ensures { OnOk result
+        (string_bytes text.new ≡ string_bytes text.old ++ spec.content_line line.now) }
+{
+    push_chars(text, line)?;
     text.push_str("\r\n")
 }
 
 // Appends a property: its name with its parameters and the colon, and its value.
+#[tactic(auto, unfolding(crate::specs::Ics::property))]
 fn push_property(
     alloc: Global,
     text: &mut String,
@@ -90,22 +101,38 @@ fn push_property(
     push_line(text, &line)
 }
 
-// The properties of an event.
-fn push_properties(
+// The first properties of an event.
+fn push_event_head(
     alloc: Global,
     text: &mut String,
     stamp: &str,
     event: &Event,
 ) -> Result<(), AllocError>
     ensures { OnOk result
-        (string_bytes text.new ≡ string_bytes text.old ++ spec.properties_of stamp.now event.now) }
+        (string_bytes text.new ≡ string_bytes text.old ++ spec.event_head stamp.now event.now) }
+{
+    push_property(alloc, text, "BEGIN:", "VEVENT")?;
+    push_property(alloc, text, "UID:", &event.uid)?;
+    push_property(alloc, text, "DTSTAMP:", stamp)
+}
+
+// The days of an event.
+fn push_event_days(alloc: Global, text: &mut String, event: &Event) -> Result<(), AllocError>
+    ensures { OnOk result
+        (string_bytes text.new ≡ string_bytes text.old ++ spec.event_days event.now) }
+{
+    push_property(alloc, text, "DTSTART;VALUE=DATE:", &event.first_day)?;
+    push_property(alloc, text, "DTEND;VALUE=DATE:", &event.end_day)
+}
+
+// The last properties of an event.
+fn push_event_tail(alloc: Global, text: &mut String, event: &Event) -> Result<(), AllocError>
+    ensures { OnOk result
+        (string_bytes text.new ≡ string_bytes text.old ++ spec.event_tail event.now) }
 {
     let name = text_value(alloc, &event.name)?;
-    push_property(alloc, text, "UID:", &event.uid)?;
-    push_property(alloc, text, "DTSTAMP:", stamp)?;
-    push_property(alloc, text, "DTSTART;VALUE=DATE:", &event.first_day)?;
-    push_property(alloc, text, "DTEND;VALUE=DATE:", &event.end_day)?;
-    push_property(alloc, text, "SUMMARY:", &name)
+    push_property(alloc, text, "SUMMARY:", &name)?;
+    push_property(alloc, text, "END:", "VEVENT")
 }
 
 // An event.
@@ -119,9 +146,9 @@ fn push_event(
     ensures { OnOk result
         (string_bytes text.new ≡ string_bytes text.old ++ spec.event_of stamp.now event.now) }
 {
-    push_property(alloc, text, "BEGIN:", "VEVENT")?;
-    push_properties(alloc, text, stamp, event)?;
-    push_property(alloc, text, "END:", "VEVENT")
+    push_event_head(alloc, text, stamp, event)?;
+    push_event_days(alloc, text, event)?;
+    push_event_tail(alloc, text, event)
 }
 
 // The events.
@@ -140,18 +167,34 @@ fn push_events(
     Ok(())
 }
 
+// The first properties of a calendar file.
+fn push_head(alloc: Global, text: &mut String) -> Result<(), AllocError>
+    ensures { OnOk result
+        (string_bytes text.new ≡ string_bytes text.old ++ spec.calendar_head) }
+{
+    push_property(alloc, text, "BEGIN:", "VCALENDAR")?;
+    push_property(alloc, text, "VERSION:", "2.0")?;
+    push_property(alloc, text, "PRODID:", "-//plan//plan//EN")
+}
+
+// A calendar file.
+#[tactic(auto, unfolding(crate::specs::Ics::ics_text))]
+fn calendar_text(alloc: Global, stamp: &str, events: &[Event]) -> Result<String, AllocError>
+    ensures text { IfOk result (λ text. string_bytes text ≡ spec.ics_text stamp.now events.now) }
+{
+    let mut text = String::new(alloc);
+    push_head(alloc, &mut text)?;
+    push_events(alloc, &mut text, stamp, events)?;
+    push_property(alloc, &mut text, "END:", "VCALENDAR")?;
+    Ok(text)
+}
+
 /// Returns a calendar file with these events (RFC 5545). `stamp` is the instant of the file in UTC,
 /// as `20240301T000000Z`. Lines end with CR LF and have at most 75 bytes.
-#[tactic(auto, unfolding(crate::specs::Ics::ics_text))]
 pub fn ics_text(alloc: Global, stamp: &str, events: &[Event]) -> Result<String, AllocError>
     ensures text { IfOk result (λ text. string_bytes text ≡ spec.ics_text stamp.now events.now) }
     ensures short { IfOk result (λ text. spec.are_short 0 (string_bytes text) ≡ true) }
 {
-    let mut text = String::new(alloc);
-    push_property(alloc, &mut text, "BEGIN:", "VCALENDAR")?;
-    push_property(alloc, &mut text, "VERSION:", "2.0")?;
-    push_property(alloc, &mut text, "PRODID:", "-//plan//plan//EN")?;
-    push_events(alloc, &mut text, stamp, events)?;
-    push_property(alloc, &mut text, "END:", "VCALENDAR")?;
+    let text = calendar_text(alloc, stamp, events)?;
     Ok(text)
 }

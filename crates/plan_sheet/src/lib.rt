@@ -6,6 +6,7 @@ mod chart;
 mod document;
 mod escape;
 mod ics;
+mod pieces;
 mod place;
 mod report;
 mod steps;

@@ -18,6 +18,7 @@ pub struct Use {
 const NEVER: u64 = 4_294_967_296;
 
 // The amount of one use at an instant.
+#[tactic(auto, unfolding(crate::specs::Steps::amount_at))]
 fn amount_at(t: u32, one: Use) -> u32
     ensures { result ≡ spec.amount_at t one }
 {

@@ -8,6 +8,18 @@ pub(crate) const HEAD: &str = "<!DOCTYPE html>
 <meta name=\"viewport\" content=\"width=device-width,initial-scale=1\">
 <title>";
 
+/// The start of an image up to its height.
+pub(crate) const IMAGE: &str = "<svg xmlns=\"http://www.w3.org/2000/svg\" class=\"chart\" \
+role=\"img\" viewBox=\"0 0 1320 ";
+
+/// The opening of an image without a style: the end of its tag, and the start of its title.
+pub(crate) const OPENING: &str = "\">\n<title>";
+
+/// The heads of the columns that every table has.
+pub(crate) const FIRST_HEADS: &str = "<thead>
+<tr><th scope=\"col\">No.</th><th scope=\"col\" class=\"name\">Name</th>\
+<th scope=\"col\">Duration</th><th scope=\"col\">Start</th><th scope=\"col\">End</th>";
+
 /// The colours, light and dark.
 pub(crate) const COLOURS: &str =
     ":root{color-scheme:light dark;--ink:#1b1b1b;--soft:#595959;--line:#d0d0d0;--shade:#ececec;\

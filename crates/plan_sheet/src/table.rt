@@ -4,7 +4,9 @@ ghost use Rattle.std.specs.Prelude.{◌≡◌, ◌++◌, OnOk, Option, ℕ, stri
 ghost use Rattle.plan_sheet.specs.Table as spec;
 
 use crate::escape::escaped;
+use crate::pieces::{push_name, push_number};
 use crate::report::{Columns, Row};
+use crate::styles::FIRST_HEADS;
 use std::alloc::{AllocError, Global};
 use std::fmt::Write;
 
@@ -16,18 +18,42 @@ fn push_if(text: &mut String, wanted: bool, part: &str) -> Result<(), AllocError
     if wanted { text.push_str(part) } else { Ok(()) }
 }
 
+// The heads of the columns that not every table has.
+fn push_more_heads(text: &mut String, columns: Columns) -> Result<(), AllocError>
+    ensures { OnOk result
+        (string_bytes text.new ≡ string_bytes text.old ++ spec.more_heads columns) }
+{
+    push_if(
+        text,
+        columns.days,
+        "<th scope=\"col\">First day</th><th scope=\"col\">Last day</th>",
+    )?;
+    push_if(text, columns.float, "<th scope=\"col\">Float</th>")?;
+    push_if(text, columns.slack, "<th scope=\"col\">Slack</th>")
+}
+
 // The first row, which a printed page repeats.
 #[tactic(auto, unfolding(crate::specs::Table::heads_of))]
 fn push_heads(text: &mut String, columns: Columns) -> Result<(), AllocError>
     ensures { OnOk result
         (string_bytes text.new ≡ string_bytes text.old ++ spec.heads_of columns) }
 {
-    text.push_str("<thead>\n<tr><th scope=\"col\">No.</th><th scope=\"col\" class=\"name\">Name</th>")?;
-    text.push_str("<th scope=\"col\">Duration</th><th scope=\"col\">Start</th><th scope=\"col\">End</th>")?;
-    push_if(text, columns.days, "<th scope=\"col\">First day</th><th scope=\"col\">Last day</th>")?;
-    push_if(text, columns.float, "<th scope=\"col\">Float</th>")?;
-    push_if(text, columns.slack, "<th scope=\"col\">Slack</th>")?;
+    text.push_str(FIRST_HEADS)?;
+    push_more_heads(text, columns)?;
     text.push_str("</tr>\n</thead>\n")
+}
+
+// Duration, start and end.
+#[tactic(auto, unfolding(crate::specs::Table::time_cells))]
+fn push_time_cells(text: &mut String, duration: u32, start: u32) -> Result<(), AllocError>
+    ensures { OnOk result
+        (string_bytes text.new ≡ string_bytes text.old ++ spec.time_cells duration start) }
+{
+    let end = u64::from(start) + u64::from(duration);
+    push_number(text, "</td><td>", u64::from(duration))?;
+    push_number(text, "</td><td>", u64::from(start))?;
+    push_number(text, "</td><td>", end)?;
+    text.push_str("</td>")
 }
 
 // The cells that every row has.
@@ -36,12 +62,9 @@ fn push_first_cells(alloc: Global, text: &mut String, row: &Row) -> Result<(), A
     ensures { OnOk result
         (string_bytes text.new ≡ string_bytes text.old ++ spec.first_cells row.now) }
 {
-    let number = escaped(alloc, &row.number)?;
-    let name = escaped(alloc, &row.name)?;
-    let (duration, start) = (row.duration, row.start);
-    let end = u64::from(start) + u64::from(duration);
-    write!(text, "<tr><th scope=\"row\">{number}</th><td class=\"name\">{name}</td>")?;
-    write!(text, "<td>{duration}</td><td>{start}</td><td>{end}</td>")
+    push_name(alloc, text, "<tr><th scope=\"row\">", &row.number)?;
+    push_name(alloc, text, "</th><td class=\"name\">", &row.name)?;
+    push_time_cells(text, row.duration, row.start)
 }
 
 // The days of a row, if the table has them.
@@ -105,6 +128,21 @@ fn push_rows(
     Ok(())
 }
 
+// The rows below the first one.
+fn push_body(
+    alloc: Global,
+    text: &mut String,
+    columns: Columns,
+    rows: &[Row],
+) -> Result<(), AllocError>
+    ensures { OnOk result
+        (string_bytes text.new ≡ string_bytes text.old ++ spec.body_of columns rows.now) }
+{
+    text.push_str("<tbody>\n")?;
+    push_rows(alloc, text, columns, rows)?;
+    text.push_str("</tbody>\n</table>\n</div>\n")
+}
+
 /// Appends the table: its first row, and a row for each activity or step.
 #[tactic(auto, unfolding(crate::specs::Table::table_of))]
 pub(crate) fn push_table(
@@ -118,7 +156,5 @@ pub(crate) fn push_table(
 {
     text.push_str("<div class=\"scroll\" tabindex=\"0\">\n<table>\n")?;
     push_heads(text, columns)?;
-    text.push_str("<tbody>\n")?;
-    push_rows(alloc, text, columns, rows)?;
-    text.push_str("</tbody>\n</table>\n</div>\n")
+    push_body(alloc, text, columns, rows)
 }

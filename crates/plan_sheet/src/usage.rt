@@ -4,9 +4,10 @@ ghost use Rattle.std.specs.Prelude.{◌≡◌, ◌++◌, OnOk, string_bytes};
 ghost use Rattle.plan_sheet.specs.Usage as spec;
 
 use crate::chart::{push_axis, push_image_head};
-use crate::escape::escaped;
+use crate::pieces::{push_name, push_number};
 use crate::place::place;
 use crate::report::{Axis, Step, Usage};
+use crate::styles::OPENING;
 use std::alloc::{AllocError, Global};
 use std::fmt::Write;
 
@@ -79,8 +80,35 @@ fn push_capacity(text: &mut String, greatest: u32, capacity: u32) -> Result<(), 
         (string_bytes text.new ≡ string_bytes text.old ++ spec.capacity_line greatest capacity) }
 {
     let y = level(greatest, capacity);
-    write!(text, "<path class=\"most\" d=\"M240 {y}h1000\"/>")?;
-    write!(text, "<text class=\"end\" x=\"234\" y=\"{y}\" dy=\"4\">{capacity}</text>\n")
+    push_number(text, "<path class=\"most\" d=\"M240 ", y)?;
+    push_number(text, "h1000\"/><text class=\"end\" x=\"234\" y=\"", y)?;
+    push_number(text, "\" dy=\"4\">", u64::from(capacity))?;
+    text.push_str("</text>\n")
+}
+
+// The name of a resource beside its steps.
+fn push_usage_name(alloc: Global, text: &mut String, name: &str) -> Result<(), AllocError>
+    ensures { OnOk result
+        (string_bytes text.new ≡ string_bytes text.old ++ spec.usage_name name.now) }
+{
+    push_name(alloc, text, "<text y=\"62\">", name)?;
+    text.push_str("</text>\n")
+}
+
+// The image up to the steps.
+#[tactic(auto, unfolding(crate::specs::Usage::usage_head))]
+fn push_usage_head(
+    alloc: Global,
+    text: &mut String,
+    axis: &Axis,
+    name: &str,
+) -> Result<(), AllocError>
+    ensures { OnOk result
+        (string_bytes text.new ≡ string_bytes text.old ++ spec.usage_head axis.now name.now) }
+{
+    push_image_head(alloc, text, 106, OPENING, name)?;
+    push_axis(alloc, text, 88, axis)?;
+    push_usage_name(alloc, text, name)
 }
 
 /// Appends the use of a resource: an image of its own, with the capacity as a line.
@@ -94,11 +122,8 @@ pub(crate) fn push_usage(
     ensures { OnOk result
         (string_bytes text.new ≡ string_bytes text.old ++ spec.usage_of axis.now usage.now) }
 {
-    let name = escaped(alloc, &usage.name)?;
     let greatest = greatest(usage.capacity, &usage.steps);
-    push_image_head(text, 106, "", &name)?;
-    push_axis(alloc, text, 88, axis)?;
-    write!(text, "<text y=\"62\">{name}</text>\n")?;
+    push_usage_head(alloc, text, axis, &usage.name)?;
     push_area(text, axis.span, greatest, &usage.steps)?;
     push_capacity(text, greatest, usage.capacity)?;
     text.push_str("</svg>\n")

@@ -1,8 +1,8 @@
 use Rattle.std.proofs.Common.{◌≡◌, ◌≤◌, ◌++◌, IsUtf8, chars}
 use Rattle.std.specs.String.{string_bytes}
-use Rattle.core.specs.Str.Iter.{chars_rest}
+use Rattle.std.specs.Str.Iter.{chars_rest}
 use Rattle.plan_sheet.specs.Ics.{folded}
-use Rattle.plan_sheet.proofs.ics.push_line.Given as goal
+use Rattle.plan_sheet.proofs.ics.push_chars.Given as goal
 
 -- what is written and the folded rest are the whole line, folded
 abbrev pub invariant-loop-c : goal.invariant-loop-c
