@@ -62,7 +62,8 @@ fn ticks(alloc: Global, span: u32) -> Result<Vec<Tick>, AllocError>
 /// 5, 10, 50, 100 and so on that has at most 24 of them.
 pub fn plain_axis(alloc: Global, span: u32) -> Result<Axis, AllocError>
     ensures span { IfOk result (λ axis. axis.span ≡ span) }
-    ensures places { IfOk result (λ axis. map (λ tick. tick.at) axis.ticks.items ≡ spec.marks span) }
+    ensures places { IfOk result (λ axis.
+        map (λ tick. tick.at) axis.ticks.items ≡ spec.marks span) }
     ensures labels { IfOk result (λ axis.
         map (λ tick. string_bytes tick.label) axis.ticks.items ≡ map decimal (spec.marks span)) }
     ensures shades { IfOk result (λ axis. axis.shades.items ≡ []) }

@@ -151,12 +151,7 @@ fn push_rectangle(alloc: Global, text: &mut String, span: u32, bar: &Bar) -> Res
 
 // The text inside a bar.
 #[tactic(auto, unfolding(crate::specs::Chart::label_text))]
-fn push_label_text(
-    alloc: Global,
-    text: &mut String,
-    span: u32,
-    bar: &Bar,
-) -> Result<(), AllocError>
+fn push_label_text(alloc: Global, text: &mut String, span: u32, bar: &Bar) -> Result<(), AllocError>
     ensures { OnOk result
         (string_bytes text.new ≡ string_bytes text.old ++ spec.label_text span bar.now) }
 {
@@ -216,12 +211,7 @@ fn push_bars(alloc: Global, text: &mut String, span: u32, bars: &[Bar]) -> Resul
 
 // The label of line `k`, cut off where the bars begin.
 #[tactic(auto, unfolding(crate::specs::Chart::line_head))]
-fn push_line_head(
-    alloc: Global,
-    text: &mut String,
-    k: u32,
-    label: &str,
-) -> Result<(), AllocError>
+fn push_line_head(alloc: Global, text: &mut String, k: u32, label: &str) -> Result<(), AllocError>
     requires { k ≤ 1000000 }
     ensures { OnOk result
         (string_bytes text.new ≡ string_bytes text.old ++ spec.line_head k label.now) }

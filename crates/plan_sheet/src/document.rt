@@ -22,7 +22,12 @@ fn push_styles(text: &mut String) -> Result<(), AllocError>
 }
 
 // The title and the note.
-fn push_headings(alloc: Global, text: &mut String, title: &str, note: &str) -> Result<(), AllocError>
+fn push_headings(
+    alloc: Global,
+    text: &mut String,
+    title: &str,
+    note: &str,
+) -> Result<(), AllocError>
     ensures { OnOk result
         (string_bytes text.new ≡ string_bytes text.old ++ spec.headings title.now note.now) }
 {
@@ -43,8 +48,7 @@ fn push_front(alloc: Global, text: &mut String, title: &str, note: &str) -> Resu
 }
 
 // The lines of chart `k`: from line `40 * k` on, at most 40.
-#[tactic(auto, using(crate::proofs::NumberedLemmas::drop_within,
-    crate::proofs::NumberedLemmas::take_within))]
+#[tactic(auto, using(crate::proofs::NumberedLemmas::drop_within, crate::proofs::NumberedLemmas::take_within))]
 fn group(lines: &[Line], k: usize) -> &[Line]
     requires { k ≤ 25000 }
     ensures lines { result.now ≡ take 40 (drop (40 * k) lines.now) }

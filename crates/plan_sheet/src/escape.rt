@@ -41,7 +41,8 @@ fn push_escaped(text: &mut String, c: char) -> Result<(), AllocError>
 pub fn escaped(alloc: Global, text: &str) -> Result<String, AllocError>
     ensures text { IfOk result (λ written. string_bytes written ≡ spec.escaped text.now) }
     // No text opens or closes a tag or a quoted attribute.
-    ensures plain { IfOk result (λ written. list_any spec.is_markup (string_bytes written) ≡ false) }
+    ensures plain { IfOk result (λ written.
+        list_any spec.is_markup (string_bytes written) ≡ false) }
     // Each `&` begins one of five entities, and a reader gets back the text as it is shown.
     ensures back { IfOk result (λ written.
         spec.read_from None (string_bytes written) ≡ Some (spec.shown_text text.now)) }

@@ -48,7 +48,8 @@ pub fn text_value(alloc: Global, text: &str) -> Result<String, AllocError>
 #[tactic(auto, unfolding(crate::specs::Ics::folded_char, crate::specs::Ics::used_with))]
 fn push_folded(text: &mut String, used: u32, c: char) -> Result<u32, AllocError>
     requires { used ≤ 75 }
-    ensures text { IfOk result (λ _. string_bytes text.new ≡ string_bytes text.old ++ spec.folded_char used c) }
+    ensures text { IfOk result (λ _.
+        string_bytes text.new ≡ string_bytes text.old ++ spec.folded_char used c) }
     ensures used { IfOk result (λ now. now ≡ spec.used_with used c) }
     ensures limit { IfOk result (λ now. now ≤ 75) }
 {

@@ -42,12 +42,7 @@ fn push_step(text: &mut String, span: u32, greatest: u32, step: Step) -> Result<
 }
 
 // The steps.
-fn push_steps(
-    text: &mut String,
-    span: u32,
-    greatest: u32,
-    steps: &[Step],
-) -> Result<(), AllocError>
+fn push_steps(text: &mut String, span: u32, greatest: u32, steps: &[Step]) -> Result<(), AllocError>
     ensures { OnOk result
         (string_bytes text.new ≡ string_bytes text.old ++ spec.steps_of span greatest steps.now) }
 {
@@ -59,12 +54,7 @@ fn push_steps(
 
 // The area below the steps.
 #[tactic(auto, unfolding(crate::specs::Usage::area_of))]
-fn push_area(
-    text: &mut String,
-    span: u32,
-    greatest: u32,
-    steps: &[Step],
-) -> Result<(), AllocError>
+fn push_area(text: &mut String, span: u32, greatest: u32, steps: &[Step]) -> Result<(), AllocError>
     ensures { OnOk result
         (string_bytes text.new ≡ string_bytes text.old ++ spec.area_of span greatest steps.now) }
 {
