@@ -78,7 +78,7 @@ fn date_of(year: u64, month: u64, day: u64) -> Option<Date>
     }
 }
 
-// Parses the first date of a calendar: ten bytes `YYYY-MM-DD`, from 1900-01-01 to 2199-12-31.
+/// Parses a date of a calendar: ten bytes `YYYY-MM-DD` (ISO 8601), from 1900-01-01 to 2199-12-31.
 pub fn start_date(text: &str) -> Option<Date>
     ensures some { IfSome result (IsStartText text.now) }
     ensures none { IfNone result (HasNoStart text.now) }

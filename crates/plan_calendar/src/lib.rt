@@ -2,8 +2,11 @@
 #![tactic(auto)]
 
 mod calendar;
+mod days_off;
 mod first_date;
 mod marks;
 mod weeks;
 
 pub use calendar::{Calendar, CalendarFault};
+pub use days_off::MOST_HOLIDAYS;
+pub use first_date::start_date;
