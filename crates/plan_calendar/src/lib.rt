@@ -1,4 +1,4 @@
-//! The calendar of working days: a first date and the weekdays on which work is done.
+//! The calendar of working days: a first date, the weekdays on which work is done, and holidays.
 #![tactic(auto)]
 
 mod calendar;
