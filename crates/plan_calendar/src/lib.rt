@@ -9,4 +9,4 @@ mod weeks;
 
 pub use calendar::{Calendar, CalendarFault};
 pub use days_off::MOST_HOLIDAYS;
-pub use first_date::start_date;
+pub use first_date::date_in;
