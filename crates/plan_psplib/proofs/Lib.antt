@@ -1,4 +1,5 @@
 pub mod CutLemmas
+pub mod FirstByteLemmas
 pub mod BlankLemmas
 pub mod NoteLemmas
 pub mod LoopLemmas

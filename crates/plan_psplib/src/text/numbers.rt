@@ -1,6 +1,6 @@
 //! Numbers of a text.
 
-ghost use Rattle.std.specs.Prelude.{◌≡◌, ◌≤◌, true, length};
+ghost use Rattle.std.specs.Prelude.{◌≡◌};
 ghost use Rattle.std.specs.List.{list_all};
 ghost use Rattle.plan_psplib.specs.Numbers as spec;
 
@@ -11,11 +11,17 @@ const LONGEST_NUMBER: usize = 9;
 pub fn number(word: &[u8]) -> Option<u64>
     ensures { result ≡ spec.number word.now }
 {
-    if is_number(word) {
-        Some(decimal(word))
-    } else {
-        None
+    if word.is_empty() || word.len() > LONGEST_NUMBER {
+        return None;
     }
+    let mut value = 0;
+    for &byte in word {
+        if !byte.is_ascii_digit() {
+            return None;
+        }
+        value = value * 10 + u64::from(byte - b'0');
+    }
+    Some(value)
 }
 
 /// Tests whether a word is a number.
@@ -30,17 +36,4 @@ fn all_digits(word: &[u8]) -> bool
     ensures { result ≡ list_all spec.is_digit word.now }
 {
     word.iter().all(|byte| byte.is_ascii_digit())
-}
-
-// Returns the value of decimal digits.
-fn decimal(digits: &[u8]) -> u64
-    requires short { length digits.now ≤ 9 }
-    requires digits { list_all spec.is_digit digits.now ≡ true }
-    ensures { result ≡ spec.decimal digits.now }
-{
-    let mut value = 0;
-    for &digit in digits {
-        value = value * 10 + u64::from(digit - b'0');
-    }
-    value
 }
