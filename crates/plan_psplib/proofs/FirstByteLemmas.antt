@@ -4,7 +4,7 @@ use Rattle.std.proofs.lemmas.Bool.{lt-ltb, le-ltb}
 use Rattle.std.proofs.lemmas.List.Sums.{position_or_len_is}
 use Rattle.std.specs.List.{position, position_or_len}
 use Rattle.std.specs.Prelude.{nat_lt}
-use Rattle.memchr.specs.Find.{IsFirstByte, Passes}
+use Rattle.memchr.specs.Find.{IsFirstByte}
 
 not_true : (b : Bool) → ¬ (b ≡ true) → b ≡ false
 not_true true never = absurd (never refl)

@@ -1,6 +1,6 @@
 //! Numbers of a text.
 
-ghost use Rattle.std.specs.Prelude.{◌≡◌};
+ghost use Rattle.std.specs.Prelude.{◌≡◌, ◌≤◌, true, length, take};
 ghost use Rattle.std.specs.List.{list_all};
 ghost use Rattle.plan_psplib.specs.Numbers as spec;
 
@@ -36,4 +36,23 @@ fn all_digits(word: &[u8]) -> bool
     ensures { result ≡ list_all spec.is_digit word.now }
 {
     word.iter().all(|byte| byte.is_ascii_digit())
+}
+
+/// Returns the number of digits at the front of a text, at most nine, and their value.
+pub fn leading_digits(text: &[u8]) -> (usize, u64)
+    ensures short { result.0 ≤ 9 }
+    ensures within { result.0 ≤ length text.now }
+    ensures digits { list_all spec.is_digit (take result.0 text.now) ≡ true }
+    ensures value { result.1 ≡ spec.decimal (take result.0 text.now) }
+{
+    let most = text.len().min(LONGEST_NUMBER);
+    let mut value = 0;
+    for count in 0..most {
+        let byte = text[count];
+        if !byte.is_ascii_digit() {
+            return (count, value);
+        }
+        value = value * 10 + u64::from(byte - b'0');
+    }
+    (most, value)
 }
