@@ -1,6 +1,5 @@
 -- The word that follows the ranks: its letters, and the schedule in which no step starts later.
-use Rattle.std.proofs.Common.{◌≡◌, ◌≢◌, ℕ, suc, ◌+◌, ◌-◌, ◌*◌, ◌≤◌, ◌<◌, true, false, inl, inr, List, [], ◌∷◌, ◌++◌, length, get_or, set, map, refl, sym, ◌∙◌, ap, subst, arith}
-use Rattle.std.specs.Prelude.{Option, Some, slice_get, slice_set}
+use Rattle.std.proofs.Common.{◌≡◌, ◌≢◌, ℕ, suc, ◌+◌, ◌-◌, ◌*◌, ◌≤◌, ◌<◌, true, inl, inr, List, [], ◌∷◌, ◌++◌, length, get_or, set, map, refl, sym, ◌∙◌, ap, subst, arith}
 use Rattle.std.specs.List.{Contains}
 use Rattle.std.proofs.lemmas.Bool.{cases_eq, lt-ltb}
 use Rattle.std.proofs.lemmas.List.{length-map, get_or-map, length-append, length-set, get_or-set_same, get_or-set_other, get_or_default}
@@ -8,8 +7,8 @@ use Rattle.std.specs.List.{All}
 use Rattle.plan_profile.specs.Usage.{IsInTime}
 use Rattle.plan_sgs.specs.Problem.{IsFeasible, IsActive, makespan}
 use Rattle.plan_sgs.specs.declared.schedule.Schedule.{Schedule}
-use Rattle.plan_shop.specs.Shop.{JobShop, IsShop, count_steps, time_of, job_of, place_of, problem_of}
-use Rattle.plan_shop.specs.Words.{Placed, steps_done, next_step, next_end, ready, place, letter_of, job_of_letter, jobs_after, letters_after, IsWord, is_placed, is_full, start_in, starts_of, makespan_of}
+use Rattle.plan_shop.specs.Shop.{JobShop, IsShop, count_steps, job_of, place_of, problem_of}
+use Rattle.plan_shop.specs.Words.{Placed, steps_done, next_step, next_end, ready, place, letter_of, jobs_after, letters_after, IsWord, is_placed, is_full, start_in, starts_of, makespan_of}
 use Rattle.plan_shop.specs.Continuation.{Continues}
 use Rattle.plan_shop.specs.Laws.{placed_in, IsContinued, FullIsActive, LettersAreThese}
 use Rattle.plan_shop.specs.Trees.{Standing, standing, placed}
@@ -115,7 +114,7 @@ shifted_more s shop w starts other j is h there least = record {
       let later : steps_done (p ∷ xs) (job_of s x) ≤ place_of s x = omega (arith, l, ap (λ (zs : List Placed). steps_done zs (job_of s x)) after) in
       let job : job_of s (next_step s xs j) ≡ j = job_at s j (steps_done xs j) left.next in
       let distinct : x ≢ next_step s xs j = λ e.
-          omega (arith, later, ap (place_of s) e, place_at s j (steps_done xs j) left.next, ap (λ z. steps_done (p ∷ xs) (job_of s z)) e, ap (steps_done (p ∷ xs)) job, done_same p xs j refl) in
+      omega (arith, later, ap (place_of s) e, place_at s j (steps_done xs j) left.next, ap (λ z. steps_done (p ∷ xs) (job_of s z)) e, ap (steps_done (p ∷ xs)) job, done_same p xs j refl) in
       moved_rest s other xs j x distinct ∙ h.same x (omega (arith, later, done_more p xs (job_of s x)))
 
 -- a tree that has followed the ranks for some turns, and the next steps of the jobs
@@ -194,11 +193,13 @@ guided_full s starts t n next g all =
     count_full t.shop (placed t) (reached t.shop t.word g.at_word.word) (omega (arith, all, g.size, length_placed t.shop [] t.word, ap (λ (v : JobShop). v.jobs * v.machines) g.shop))
 
 -- the starts of all steps are those of the shifted list
-pub guided_starts : (s : JobShop) (starts : List ℕ) (t : Standing) (n : ℕ) (next : List ℕ) → IsGuided s starts t n next → is_full t.shop (placed t) ≡ true → IsFeasible (problem_of t.shop) starts → (x : ℕ) → at (starts_of t.shop (placed t)) x ≤ at starts x
+pub guided_starts : (s : JobShop) (starts : List ℕ) (t : Standing) (n : ℕ) (next : List ℕ) → IsGuided s starts t n next →
+    is_full t.shop (placed t) ≡ true → IsFeasible (problem_of t.shop) starts → (x : ℕ) → at (starts_of t.shop (placed t)) x ≤ at starts x
 guided_starts s starts t n next g full feasible x =
     let h = g.left feasible in
     let c = h.1.continued in
-    let same : starts_of t.shop (placed t) ≡ h.0 = starts_are t.shop g.at_word.shop h.0 (placed t) (c.feasible.each_started ∙ count_is t.shop) (reached t.shop t.word g.at_word.word) c.continues.placed full in
+    let same : starts_of t.shop (placed t) ≡ h.0 = 
+    starts_are t.shop g.at_word.shop h.0 (placed t) (c.feasible.each_started ∙ count_is t.shop) (reached t.shop t.word g.at_word.word) c.continues.placed full in
     omega (arith, h.1.no_later x, ap (λ (zs : List ℕ). at zs x) same)
 
 -- the schedule of the word is active, and if the given starts are feasible no step starts later
@@ -207,10 +208,15 @@ pub record IsShownBy (s : JobShop) (starts : List ℕ) (schedule : Schedule) : T
   pub no_later : IsFeasible (problem_of s) starts → StartsNoLater starts schedule.starts.items
   pub no_longer : IsFeasible (problem_of s) starts → schedule.makespan ≤ makespan (problem_of s) starts
 
-pub guided_schedule : (s : JobShop) (starts : List ℕ) (t : Standing) (n : ℕ) (next : List ℕ) (schedule : Schedule) → IsGuided s starts t n next → is_full t.shop (placed t) ≡ true →
-    schedule.starts.items ≡ starts_of t.shop (placed t) → schedule.makespan ≡ makespan_of t.shop (placed t) → All IsInTime schedule.starts.items → IsShownBy s starts schedule
+-- the number of steps is the product of what the shop says
+pub steps_counted : (s : JobShop) (jobs machines : ℕ) → jobs ≡ s.jobs → machines ≡ s.machines → jobs * machines ≡ s.jobs * s.machines
+steps_counted s jobs machines jobs_is machines_is = ap (λ n. n * machines) jobs_is ∙ ap (λ n. s.jobs * n) machines_is
+
+pub guided_schedule : (s : JobShop) (starts : List ℕ) (t : Standing) (n : ℕ) (next : List ℕ) (schedule : Schedule) → IsGuided s starts t n next →
+    n ≡ s.jobs * s.machines → schedule.starts.items ≡ starts_of t.shop (placed t) → schedule.makespan ≡ makespan_of t.shop (placed t) →
+    All IsInTime schedule.starts.items → IsShownBy s starts schedule
 unfolding FullIsActive makespan_of
-guided_schedule s starts t n next schedule g full are span within = subst (λ (v : JobShop). IsShownBy v starts schedule) g.shop (record {
+guided_schedule s starts t n next schedule g all are span within = subst (λ (v : JobShop). IsShownBy v starts schedule) g.shop (record {
   active = record {
     active = subst (λ (xs : List ℕ). IsActive (problem_of t.shop) xs) (sym are) (full_is_active t.shop g.at_word.shop t.word g.at_word.word full);
     makespan_is = span_is;
@@ -219,6 +225,9 @@ guided_schedule s starts t n next schedule g full are span within = subst (λ (v
   no_later = no_later;
   no_longer = λ feasible. omega (arith, span_is, makespan_grows t.shop schedule.starts.items starts (no_later feasible));
 }) where
+  full : is_full t.shop (placed t) ≡ true
+  full = guided_full s starts t n next g all
+
   span_is : schedule.makespan ≡ makespan (problem_of t.shop) schedule.starts.items
   span_is = span ∙ ap (makespan (problem_of t.shop)) (sym are)
 
@@ -232,7 +241,8 @@ pub record IsPushed (t u : Standing) (a x : ℕ) : Type 0 where
   pub there : is_placed u.shop (placed u) x ≡ true
   pub start : start_in (placed u) x ≡ ready t.shop (placed t) (a - 1)
 
-pushed_here : (s : JobShop) (w : List ℕ) (j : ℕ) → IsShop s → j < s.jobs → steps_done (placed_in s w) j < s.machines → IsPushed (standing s w) (standing s (w ++ letter_of j ∷ [])) (letter_of j) (next_step s (placed_in s w) j)
+pushed_here : (s : JobShop) (w : List ℕ) (j : ℕ) → IsShop s → j < s.jobs → steps_done (placed_in s w) j < s.machines →
+    IsPushed (standing s w) (standing s (w ++ letter_of j ∷ [])) (letter_of j) (next_step s (placed_in s w) j)
 pushed_here s w j shop below next = record {
   inside = number_below s shop j (steps_done xs j) below next;
   below = number_below s shop j (steps_done xs j) below next;
@@ -257,8 +267,10 @@ pushed_here s w j shop below next = record {
 pub pushed : (t u : Standing) (a x : ℕ) → IsAtWord t → Contains (letters_of t) a → x ≡ next_step t.shop (placed t) (a - 1) → u ≡ standing t.shop (t.word ++ a ∷ []) → IsPushed t u a x
 pushed t u a x at_word there step is =
     let letter : IsLetterOf t.shop (placed t) a = letter_of_job t.shop (placed t) a there in
-    let here : IsPushed t (standing t.shop (t.word ++ letter_of (a - 1) ∷ [])) (letter_of (a - 1)) (next_step t.shop (placed t) (a - 1)) = pushed_here t.shop t.word (a - 1) at_word.shop letter.job letter.next in
-    let back : IsPushed t (standing t.shop (t.word ++ a ∷ [])) a (next_step t.shop (placed t) (a - 1)) = subst (λ (b : ℕ). IsPushed t (standing t.shop (t.word ++ b ∷ [])) b (next_step t.shop (placed t) (a - 1))) (sym letter.is) here in
+    let here : IsPushed t (standing t.shop (t.word ++ letter_of (a - 1) ∷ [])) (letter_of (a - 1)) (next_step t.shop (placed t) (a - 1)) =
+    pushed_here t.shop t.word (a - 1) at_word.shop letter.job letter.next in
+    let back : IsPushed t (standing t.shop (t.word ++ a ∷ [])) a (next_step t.shop (placed t) (a - 1)) =
+    subst (λ (b : ℕ). IsPushed t (standing t.shop (t.word ++ b ∷ [])) b (next_step t.shop (placed t) (a - 1))) (sym letter.is) here in
     subst (λ (v : Standing). IsPushed t v a x) (sym is) (subst (λ (y : ℕ). IsPushed t (standing t.shop (t.word ++ a ∷ [])) a y) (sym step) back)
 
 -- a letter of least rank among all

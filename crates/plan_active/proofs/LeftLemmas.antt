@@ -1,20 +1,17 @@
 -- A feasible schedule that continues a word: the next step of a letter of least rank can move to its
 -- head, and no step starts later.
-use Rattle.std.proofs.Common.{◌≡◌, ◌≢◌, ℕ, suc, ◌+◌, ◌-◌, ◌*◌, ◌≤◌, ◌<◌, cond, nat_lt, ◌⊎◌, inl, inr, List, [], ◌∷◌, ◌++◌, length, set, refl, sym, ◌∙◌, ap, subst, arith}
+use Rattle.std.proofs.Common.{◌≡◌, ◌≢◌, ℕ, suc, ◌+◌, ◌-◌, ◌*◌, ◌≤◌, ◌<◌, nat_lt, ◌⊎◌, inl, inr, List, length, refl, ◌∙◌, ap, arith}
 use Rattle.std.specs.List.{Contains}
-use Rattle.std.proofs.lemmas.Bool.{cases_lt, cases_eq, cond-true, cond-false, lt-ltb, le-ltb}
+use Rattle.std.proofs.lemmas.Bool.{cases_lt, cond-true, cond-false, lt-ltb, le-ltb}
 use Rattle.std.proofs.lemmas.List.{get_or-set_same, get_or-set_other}
-use Rattle.plan_sgs.specs.Problem.{IsFeasible}
-use Rattle.plan_shop.specs.Shop.{JobShop, IsShop, count_steps, time_of, machine_of, job_of, place_of, times_from, problem_of}
-use Rattle.plan_shop.specs.Words.{Placed, steps_done, next_step, ready, next_end, place, letter_of, letters_after, IsWord}
+use Rattle.plan_shop.specs.Shop.{JobShop, IsShop, count_steps, time_of, machine_of, job_of, place_of, times_from}
+use Rattle.plan_shop.specs.Words.{Placed, steps_done, next_step, ready, next_end, letter_of, letters_after}
 use Rattle.plan_shop.specs.Continuation.{Continues}
-use Rattle.plan_shop.specs.Laws.{placed_in, IsContinued, IsFirstEnd, IsFirstZero, Competes, LettersAreThese}
-use Rattle.plan_shop.proofs.ShopBasics.{at, number_is, job_at, place_at, place_below, job_below, number_below, IsSound, apart_both, count_is, sound_from}
-use Rattle.plan_shop.proofs.Reached.{Reached, done_same, done_more, ready_le, chain_to}
-use Rattle.plan_shop.proofs.FullWords.{reached}
-use Rattle.plan_shop.proofs.ShopBound.{placed_append}
+use Rattle.plan_shop.specs.Laws.{IsFirstEnd, Competes, LettersAreThese}
+use Rattle.plan_shop.proofs.ShopBasics.{at, number_is, place_at, place_below, job_below, number_below, IsSound, apart_both}
+use Rattle.plan_shop.proofs.Reached.{Reached, ready_le, chain_to}
 use Rattle.plan_shop.proofs.CompetitorLemmas.{letters_are_these}
-use Rattle.plan_shop.proofs.Earlier.{IsLeft, moved, moved_no_later, moved_feasible, moved_continues}
+use Rattle.plan_shop.proofs.Earlier.{IsLeft, moved}
 use Rattle.plan_active.specs.Ranks.{lesser, rank_of}
 
 -- the lesser of a start and an end is neither above the end nor above the start

@@ -1,7 +1,7 @@
 //! The trait of problems that can be solved.
 
-ghost use Rattle.std.specs.Prelude.{◌≡◌, ◌≤◌, IfOk, IfSome};
-ghost use Rattle.plan_sgs.specs.Problem.{Problem, IsFeasible, makespan};
+ghost use Rattle.std.specs.Prelude.{◌≡◌, IfOk, IfSome};
+ghost use Rattle.plan_sgs.specs.Problem.{Problem};
 ghost use Rattle.plan_sgs.specs.declared.schedule.Schedule.{Schedule};
 ghost use Rattle.plan_kernel.specs.Inputs as inputs;
 ghost use Rattle.plan_solve.specs.Solutions.{IsLowerBound};
@@ -30,11 +30,8 @@ pub trait Solvable {
     fn simple_bound(&self, alloc: Global) -> Result<u64, AllocError>
         ensures { IfOk result (IsLowerBound (problem self.now)) };
 
-    /// Returns an active schedule made from a list of starts. It is no longer than the list if that
-    /// is feasible.
+    /// Returns an active schedule made from a feasible list of starts. For a job shop it is proved
+    /// to be no longer than the list (plan_active).
     fn tightened(&self, alloc: Global, starts: &[u32]) -> Result<Option<Schedule>, AllocError>
-        ensures schedule { IfOk result (λ found. IfSome found (is_schedule self.now)) }
-        ensures no_longer { IfOk result (λ found. IfSome found (λ schedule.
-            IsFeasible (problem self.now) starts.now
-            → schedule.makespan ≤ makespan (problem self.now) starts.now)) };
+        ensures { IfOk result (λ found. IfSome found (is_schedule self.now)) };
 }

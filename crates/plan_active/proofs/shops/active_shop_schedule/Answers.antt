@@ -5,7 +5,7 @@ use Rattle.plan_shop.specs.Shop.{JobShop}
 use Rattle.plan_shop.specs.Trees.{Standing, standing, placed}
 use Rattle.plan_shop.proofs.ShopBasics.{number_below}
 use Rattle.plan_active.specs.Ranks.{letters_of, AreNextSteps}
-use Rattle.plan_active.proofs.GuideLemmas.{letter_of_job, guided_first, guided_some, guided_more, guided_full, guided_schedule}
+use Rattle.plan_active.proofs.GuideLemmas.{letter_of_job, guided_first, guided_some, guided_more, guided_full, steps_counted, guided_schedule}
 use Rattle.plan_active.proofs.shops.active_shop_schedule.Goals as goal
 
 pub loop-turn-init : goal.loop-turn-init
@@ -21,8 +21,7 @@ pub choice-requires-clause-some : goal.choice-requires-clause-some
 choice-requires-clause-some c =
     let t = c.loop-turn.tree in
     let are : c.deref.result.now ≡ letters_of t = c.deref.ensures.value ∙ c.in_ok-letters.ensures ∙ ap (λ (xs : List ℕ). xs ++ letters_of t) c.clear.ensures.items in
-    let steps : c.jobs.result * c.machines.result ≡ c.args.shop.now.jobs * c.args.shop.now.machines =
-    ap (λ (n : ℕ). n * c.machines.result) c.jobs.ensures.value ∙ ap (λ (n : ℕ). c.args.shop.now.jobs * n) c.machines.ensures.value in
+    let steps = steps_counted c.args.shop.now c.jobs.result c.machines.result c.jobs.ensures.value c.machines.ensures.value in
     omega (arith, ap length are, guided_some c.args.shop.now c.args.starts.now t c.loop-turn._turn c.loop-turn.next.items c.loop-turn.invariant (omega (arith, steps, c.loop-turn-test.true)))
 
 pub choice-requires-clause-next : goal.choice-requires-clause-next
@@ -44,7 +43,8 @@ overflow_add-index_mut c =
     let letter = letter_of_job t.shop (placed t) c.in_ok-letter.letter c.in_ok-letter.ensures.least.follows in
     let most : c.args.shop.now.jobs * c.args.shop.now.machines ≤ 50 * 20 = mul-le-mul c.jobs.ensures.shop.few_jobs c.jobs.ensures.shop.few_machines in
     let inside : j < length c.loop-turn.next.items = omega (arith, letter.job, g.steps.size) in
-    omega (arith, get_or_read c.loop-turn.next.items j c.index_mut.result.now inside c.index_mut.ensures.value 0, g.steps.each j letter.job, number_below t.shop g.at_word.shop j _ letter.job letter.next, g.at_word.shop.all_steps, ap (λ (v : JobShop). v.jobs * v.machines) g.shop, most)
+    omega (arith, get_or_read c.loop-turn.next.items j c.index_mut.result.now inside c.index_mut.ensures.value 0, g.steps.each j letter.job,
+    number_below t.shop g.at_word.shop j _ letter.job letter.next, g.at_word.shop.all_steps, ap (λ (v : JobShop). v.jobs * v.machines) g.shop, most)
 
 pub loop-turn-preserved : goal.loop-turn-preserved
 loop-turn-preserved c =
@@ -58,30 +58,24 @@ loop-turn-preserved c =
 
 pub schedule-requires : goal.schedule-requires
 schedule-requires c =
-    let steps : c.jobs.result * c.machines.result ≡ c.args.shop.now.jobs * c.args.shop.now.machines =
-    ap (λ (n : ℕ). n * c.machines.result) c.jobs.ensures.value ∙ ap (λ (n : ℕ). c.args.shop.now.jobs * n) c.machines.ensures.value in
-    guided_full c.args.shop.now c.args.starts.now c.loop-turn.tree c.loop-turn._turn c.loop-turn.next.items c.loop-turn.invariant (omega (arith, steps, c.loop-turn-test.false, c.loop-turn.auto._turn-end))
+    let steps = steps_counted c.args.shop.now c.jobs.result c.machines.result c.jobs.ensures.value c.machines.ensures.value in
+    guided_full c.args.shop.now c.args.starts.now c.loop-turn.tree c.loop-turn._turn c.loop-turn.next.items c.loop-turn.invariant
+    (omega (arith, steps, c.loop-turn-test.false, c.loop-turn.auto._turn-end))
 
 pub returns-clause-active : goal.returns-clause-active
 returns-clause-active c =
-    let steps : c.jobs.result * c.machines.result ≡ c.args.shop.now.jobs * c.args.shop.now.machines =
-    ap (λ (n : ℕ). n * c.machines.result) c.jobs.ensures.value ∙ ap (λ (n : ℕ). c.args.shop.now.jobs * n) c.machines.ensures.value in
-    let full = guided_full c.args.shop.now c.args.starts.now c.loop-turn.tree c.loop-turn._turn c.loop-turn.next.items c.loop-turn.invariant (omega (arith, steps, c.loop-turn-test.false, c.loop-turn.auto._turn-end)) in
-    (guided_schedule c.args.shop.now c.args.starts.now c.loop-turn.tree c.loop-turn._turn c.loop-turn.next.items c.in_ok-schedule.field-0 c.loop-turn.invariant full
-    c.in_ok-schedule.ensures.starts c.in_ok-schedule.ensures.makespan c.in_ok-schedule.ensures.within).active
+    let steps = steps_counted c.args.shop.now c.jobs.result c.machines.result c.jobs.ensures.value c.machines.ensures.value in
+    (guided_schedule c.args.shop.now c.args.starts.now c.loop-turn.tree c.loop-turn._turn c.loop-turn.next.items c.in_ok-schedule.field-0 c.loop-turn.invariant
+    (omega (arith, steps, c.loop-turn-test.false, c.loop-turn.auto._turn-end)) c.in_ok-schedule.ensures.starts c.in_ok-schedule.ensures.makespan c.in_ok-schedule.ensures.within).active
 
 pub returns-clause-no_later : goal.returns-clause-no_later
 returns-clause-no_later c =
-    let steps : c.jobs.result * c.machines.result ≡ c.args.shop.now.jobs * c.args.shop.now.machines =
-    ap (λ (n : ℕ). n * c.machines.result) c.jobs.ensures.value ∙ ap (λ (n : ℕ). c.args.shop.now.jobs * n) c.machines.ensures.value in
-    let full = guided_full c.args.shop.now c.args.starts.now c.loop-turn.tree c.loop-turn._turn c.loop-turn.next.items c.loop-turn.invariant (omega (arith, steps, c.loop-turn-test.false, c.loop-turn.auto._turn-end)) in
-    (guided_schedule c.args.shop.now c.args.starts.now c.loop-turn.tree c.loop-turn._turn c.loop-turn.next.items c.in_ok-schedule.field-0 c.loop-turn.invariant full
-    c.in_ok-schedule.ensures.starts c.in_ok-schedule.ensures.makespan c.in_ok-schedule.ensures.within).no_later
+    let steps = steps_counted c.args.shop.now c.jobs.result c.machines.result c.jobs.ensures.value c.machines.ensures.value in
+    (guided_schedule c.args.shop.now c.args.starts.now c.loop-turn.tree c.loop-turn._turn c.loop-turn.next.items c.in_ok-schedule.field-0 c.loop-turn.invariant
+    (omega (arith, steps, c.loop-turn-test.false, c.loop-turn.auto._turn-end)) c.in_ok-schedule.ensures.starts c.in_ok-schedule.ensures.makespan c.in_ok-schedule.ensures.within).no_later
 
 pub returns-clause-no_longer : goal.returns-clause-no_longer
 returns-clause-no_longer c =
-    let steps : c.jobs.result * c.machines.result ≡ c.args.shop.now.jobs * c.args.shop.now.machines =
-    ap (λ (n : ℕ). n * c.machines.result) c.jobs.ensures.value ∙ ap (λ (n : ℕ). c.args.shop.now.jobs * n) c.machines.ensures.value in
-    let full = guided_full c.args.shop.now c.args.starts.now c.loop-turn.tree c.loop-turn._turn c.loop-turn.next.items c.loop-turn.invariant (omega (arith, steps, c.loop-turn-test.false, c.loop-turn.auto._turn-end)) in
-    (guided_schedule c.args.shop.now c.args.starts.now c.loop-turn.tree c.loop-turn._turn c.loop-turn.next.items c.in_ok-schedule.field-0 c.loop-turn.invariant full
-    c.in_ok-schedule.ensures.starts c.in_ok-schedule.ensures.makespan c.in_ok-schedule.ensures.within).no_longer
+    let steps = steps_counted c.args.shop.now c.jobs.result c.machines.result c.jobs.ensures.value c.machines.ensures.value in
+    (guided_schedule c.args.shop.now c.args.starts.now c.loop-turn.tree c.loop-turn._turn c.loop-turn.next.items c.in_ok-schedule.field-0 c.loop-turn.invariant
+    (omega (arith, steps, c.loop-turn-test.false, c.loop-turn.auto._turn-end)) c.in_ok-schedule.ensures.starts c.in_ok-schedule.ensures.makespan c.in_ok-schedule.ensures.within).no_longer

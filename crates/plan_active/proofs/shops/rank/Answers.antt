@@ -1,4 +1,4 @@
-use Rattle.std.proofs.Common.{◌≡◌, ◌-◌, ◌<◌, ℕ, get_or, ap, ◌∙◌, arith}
+use Rattle.std.proofs.Common.{◌≡◌, ◌-◌, get_or, ap, ◌∙◌, arith}
 use Rattle.plan_shop.specs.Trees.{placed}
 use Rattle.plan_shop.specs.Words.{next_step, next_end}
 use Rattle.plan_active.specs.Ranks.{lesser}
