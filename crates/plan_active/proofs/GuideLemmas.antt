@@ -198,7 +198,7 @@ pub guided_starts : (s : JobShop) (starts : List ℕ) (t : Standing) (n : ℕ) (
 guided_starts s starts t n next g full feasible x =
     let h = g.left feasible in
     let c = h.1.continued in
-    let same : starts_of t.shop (placed t) ≡ h.0 = 
+    let same : starts_of t.shop (placed t) ≡ h.0 =
     starts_are t.shop g.at_word.shop h.0 (placed t) (c.feasible.each_started ∙ count_is t.shop) (reached t.shop t.word g.at_word.word) c.continues.placed full in
     omega (arith, h.1.no_later x, ap (λ (zs : List ℕ). at zs x) same)
 

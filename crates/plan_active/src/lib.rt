@@ -1,4 +1,4 @@
-//! Active schedules that are no longer than a feasible list of starts.
+//! Active schedules of job shops in which no step starts later than in a feasible list of starts.
 #![tactic(auto)]
 
 mod shops;

@@ -43,8 +43,15 @@ overflow_add-index_mut c =
     let letter = letter_of_job t.shop (placed t) c.in_ok-letter.letter c.in_ok-letter.ensures.least.follows in
     let most : c.args.shop.now.jobs * c.args.shop.now.machines ≤ 50 * 20 = mul-le-mul c.jobs.ensures.shop.few_jobs c.jobs.ensures.shop.few_machines in
     let inside : j < length c.loop-turn.next.items = omega (arith, letter.job, g.steps.size) in
-    omega (arith, get_or_read c.loop-turn.next.items j c.index_mut.result.now inside c.index_mut.ensures.value 0, g.steps.each j letter.job,
-    number_below t.shop g.at_word.shop j _ letter.job letter.next, g.at_word.shop.all_steps, ap (λ (v : JobShop). v.jobs * v.machines) g.shop, most)
+    omega (
+      arith,
+      get_or_read c.loop-turn.next.items j c.index_mut.result.now inside c.index_mut.ensures.value 0,
+      g.steps.each j letter.job,
+      number_below t.shop g.at_word.shop j _ letter.job letter.next,
+      g.at_word.shop.all_steps,
+      ap (λ (v : JobShop). v.jobs * v.machines) g.shop,
+      most,
+    )
 
 pub loop-turn-preserved : goal.loop-turn-preserved
 loop-turn-preserved c =
