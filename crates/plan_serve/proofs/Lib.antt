@@ -5,3 +5,4 @@ pub mod ReportLemmas
 pub mod CheckLemmas
 pub mod ReturnedLemmas
 pub mod ResultLemmas
+pub mod OutputLemmas

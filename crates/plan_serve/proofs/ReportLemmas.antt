@@ -1,5 +1,5 @@
 -- A report on files.
-use Rattle.std.proofs.Common.{◌≡◌, ◌⊎◌, inl, inr, map, vec_items, sym, subst, ℕ, Option, Result, Ok, Err, IfOk}
+use Rattle.std.proofs.Common.{◌≡◌, ◌≢◌, ◌⊎◌, inl, inr, map, vec_items, sym, subst, ℕ, Option, Result, Ok, Err, IfOk}
 use Rattle.std.specs.Prelude.{IfErr, OnOk, MatchResult}
 use Rattle.std.proofs.lemmas.List.{length-map}
 use Rattle.std.specs.declared.fs.attrs.Metadata.{Metadata}
@@ -68,6 +68,10 @@ pub read_tables : {F S : Type 0} (first : start.Ghosts F) (g : Ghosts S) (looked
     → (e ≡ fault.Memory) ⊎ (e ≡ fault.Input) → IsOfTables first g looked e
 read_tables first g looked e (inl same) = subst (IsOfTables first g looked) (sym same) tt
 read_tables first g looked e (inr same) = subst (IsOfTables first g looked) (sym same) tt
+
+pub read_silent : (e : ServeFault) → (e ≡ fault.Memory) ⊎ (e ≡ fault.Input) → e ≢ fault.Output
+read_silent e (inl same) = subst (λ f. f ≢ fault.Output) (sym same) (λ out. absurd cc)
+read_silent e (inr same) = subst (λ f. f ≢ fault.Output) (sym same) (λ out. absurd cc)
 
 of_report : (e : ServeFault) → IsReportFault e → IsReplayFault e
 of_report fault.Memory is = tt

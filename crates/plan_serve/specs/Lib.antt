@@ -7,3 +7,4 @@ pub mod CheckRun
 pub mod Reports
 pub mod Returned
 pub mod Results
+pub mod Output

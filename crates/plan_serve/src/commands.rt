@@ -1,11 +1,11 @@
 //! The commands on an office in any database.
 
 ghost use Rattle.std.specs.Prelude.{◌≡◌, ◌⊎◌, ◌+◌, ◌≤◌, Ok, Err, None, is_some, option_map, IfOk, IfErr, IfSome, IfNone, IsSome, IsErrOf, OnOk, OnErr, MatchResult};
-ghost use Rattle.plan_io.specs.Devices.{most_calls, HasFailed};
 ghost use Rattle.plan_store.specs.SqlBooks.{sql_shelf};
 ghost use Rattle.plan_serve.specs.InitRun.{HasMade, HasMadeIn, IsInitFault, IsToldThere, MakesNone};
 ghost use Rattle.plan_serve.specs.Faults.{fault_of};
 ghost use Rattle.plan_serve.specs.Reports.{ReportsFrom, ReportsTo, IsReported, IsReportedInPart, IsWriteFault, KeepsNone};
+ghost use Rattle.plan_serve.specs.Output.{Outputs};
 ghost use Rattle.plan_serve.specs.Returned.{IsConnOf};
 ghost use Rattle.plan_door.specs.Ports.{IsPortFault, ServesFrom, TakesTurns};
 
@@ -90,7 +90,7 @@ fn connection_of<S: Alter + Drop>(book: Option<SqlBook<S>>) -> Option<Connection
 
 // Writes a report of an office over a book, and returns the book, unless memory runs out before the
 // first response.
-#[tactic(auto, using(crate::proofs::CheckLemmas::checks, crate::proofs::CheckLemmas::checks_not, crate::proofs::CheckLemmas::printed, crate::proofs::CheckLemmas::printed_in_part, crate::proofs::ReportLemmas::replays_not, crate::proofs::ReturnedLemmas::if_some))]
+#[tactic(auto, using(crate::proofs::CheckLemmas::checks, crate::proofs::CheckLemmas::checks_not, crate::proofs::CheckLemmas::printed, crate::proofs::CheckLemmas::printed_in_part, crate::proofs::ReportLemmas::replays_not, crate::proofs::ReturnedLemmas::if_some, crate::proofs::OutputLemmas::outputs))]
 fn report_over<B: Listing + Drop, W: Sink>(
     alloc: Global,
     mut book: B,
@@ -99,16 +99,8 @@ fn report_over<B: Listing + Drop, W: Sink>(
 ) -> (Result<(), ServeFault>, Option<B>)
     ensures reports { OnOk result.0
         (ReportsFrom B.shelf book report.entry (W.taken writer.old) (W.taken writer.new)) }
-    ensures ok { OnOk result.0 (IsReported report.entry (W.taken writer.old) (W.taken writer.new)) }
-    ensures part { IsErrOf result.0 ServeFault.Output
-        → IsReportedInPart report.entry (W.taken writer.old) (W.taken writer.new) }
-    ensures writes { W.calls writer.new ≤ W.calls writer.old + most_calls }
-    ensures quiet { IfErr result.0
-        (λ e. (e ≡ ServeFault.Output) ⊎ (writer.new ≡ writer.old)) }
-    ensures fine { OnOk result.0 (W.faults writer.new ≡ W.faults writer.old) }
-    ensures output { IsErrOf result.0 ServeFault.Output →
-        HasFailed (W.calls writer.old) (W.calls writer.new)
-        (W.faults writer.old) (W.faults writer.new) }
+    ensures outputs { Outputs W.Sink (IsReported report.entry) (IsReportedInPart report.entry)
+        writer.old writer.new result.0 }
     ensures which { IfErr result.0 IsWriteFault }
     ensures back { IfNone result.1 (KeepsNone report.entry result.0) }
     // The returned book is the one after the report.
@@ -126,7 +118,7 @@ fn report_over<B: Listing + Drop, W: Sink>(
 }
 
 /// Writes a report of the opened office.
-#[tactic(auto, using(crate::proofs::ReturnedLemmas::unopened))]
+#[tactic(auto, using(crate::proofs::ReturnedLemmas::unopened, crate::proofs::OutputLemmas::outputs))]
 pub(crate) fn report_opened<S: Alter + Drop, W: Sink>(
     alloc: Global,
     opened: Opened<S>,
@@ -137,16 +129,8 @@ pub(crate) fn report_opened<S: Alter + Drop, W: Sink>(
         (λ book. ReportsFrom ⟦<SqlBook<S> as Book>⟧.shelf book report.entry
         (W.taken writer.old) (W.taken writer.new))
         (λ _. ⊥)) }
-    ensures ok { OnOk result.0 (IsReported report.entry (W.taken writer.old) (W.taken writer.new)) }
-    ensures part { IsErrOf result.0 ServeFault.Output
-        → IsReportedInPart report.entry (W.taken writer.old) (W.taken writer.new) }
-    ensures writes { W.calls writer.new ≤ W.calls writer.old + most_calls }
-    ensures quiet { IfErr result.0
-        (λ e. (e ≡ ServeFault.Output) ⊎ (writer.new ≡ writer.old)) }
-    ensures fine { OnOk result.0 (W.faults writer.new ≡ W.faults writer.old) }
-    ensures output { IsErrOf result.0 ServeFault.Output →
-        HasFailed (W.calls writer.old) (W.calls writer.new)
-        (W.faults writer.old) (W.faults writer.new) }
+    ensures outputs { Outputs W.Sink (IsReported report.entry) (IsReportedInPart report.entry)
+        writer.old writer.new result.0 }
     ensures which { IfErr result.0
         (λ told. MatchResult opened (λ _. IsWriteFault told) (λ e. told ≡ fault_of e.0)) }
     ensures back { IfOk opened (λ _. IfNone result.1 (KeepsNone report.entry result.0)) }

@@ -1,8 +1,7 @@
 //! The commands on files, and on a port.
 
-ghost use Rattle.std.specs.Prelude.{◌≡◌, ◌⊎◌, ◌↔◌, ◌+◌, ◌≤◌, length, IfOk, IfErr, IsTrue, IsErrOf, OnOk, MatchResult};
+ghost use Rattle.std.specs.Prelude.{◌≡◌, ◌⊎◌, ◌↔◌, ◌+◌, length, IfOk, IfErr, IsTrue, IsErrOf, OnOk, MatchResult};
 ghost use Rattle.std.specs.IoError.{error_kind};
-ghost use Rattle.plan_io.specs.Devices.{most_calls, HasFailed};
 ghost use Rattle.plan_store.specs.SqlBooks.{sql_shelf};
 ghost use Rattle.plan_serve.specs.Causes.{IsOfTables, IsOfTablesAtName, IsOfOpenedTables, IsServeFault, IsThere, IsToldAnew};
 ghost use Rattle.plan_serve.specs.CheckRun.{ChecksOnFiles, IsPrinted, IsPrintedInPart};
@@ -13,6 +12,7 @@ ghost use Rattle.plan_serve.specs.ReplayFiles.{ReplaysOnFiles};
 ghost use Rattle.plan_serve.specs.Reports.{ReportsOnFiles, ReportsTo, KeepsNone, IsReported, IsReportedInPart, IsReportFault, IsReplayFault};
 ghost use Rattle.plan_serve.specs.Returned.{IsShut, IsEnded, InitsOnce, WorksOnce};
 ghost use Rattle.plan_serve.specs.Ports.{ServesOnFiles};
+ghost use Rattle.plan_serve.specs.Output.{Outputs};
 ghost use Rattle.plan_serve.specs.Results.{InitsAtName, ReportsAtName, ChecksAtName, ReplaysAtName, ServesAtName};
 
 use crate::causes::{check_name, refusal};
@@ -221,7 +221,7 @@ fn read_all(rt: &HostRuntime, paths: &[&str]) -> Result<Vec<Vec<u8>>, ServeFault
 }
 
 // Writes a report of the office in the file of this name.
-#[tactic(auto, using(crate::proofs::CauseLemmas::look_reports, crate::proofs::CauseLemmas::look_silent, crate::proofs::CauseLemmas::look_tables, crate::proofs::ResultLemmas::not_at_name))]
+#[tactic(auto, using(crate::proofs::CauseLemmas::look_reports, crate::proofs::CauseLemmas::look_silent, crate::proofs::CauseLemmas::look_tables, crate::proofs::ResultLemmas::not_at_name, crate::proofs::OutputLemmas::outputs_none))]
 fn report_at<F: Start, W: Sink>(
     rt: &HostRuntime,
     path: &str,
@@ -235,15 +235,8 @@ fn report_at<F: Start, W: Sink>(
     ensures reports { OnOk result.0
         (ReportsOnFiles F.Start ⟦<Kept<F> as Store>⟧ report.entry
         (W.taken writer.old) (W.taken writer.new)) }
-    ensures ok { OnOk result.0 (IsReported report.entry (W.taken writer.old) (W.taken writer.new)) }
-    ensures part { IsErrOf result.0 ServeFault.Output
-        → IsReportedInPart report.entry (W.taken writer.old) (W.taken writer.new) }
-    ensures writes { W.calls writer.new ≤ W.calls writer.old + most_calls }
-    ensures quiet { IfErr result.0 (λ e. (e ≡ ServeFault.Output) ⊎ (writer.new ≡ writer.old)) }
-    ensures fine { OnOk result.0 (W.faults writer.new ≡ W.faults writer.old) }
-    ensures output { IsErrOf result.0 ServeFault.Output →
-        HasFailed (W.calls writer.old) (W.calls writer.new)
-        (W.faults writer.old) (W.faults writer.new) }
+    ensures outputs { Outputs W.Sink (IsReported report.entry) (IsReportedInPart report.entry)
+        writer.old writer.new result.0 }
     ensures which { IfErr result.0 IsReportFault }
     ensures there { OnOk result.0 (IsThere looked) }
     ensures tables { IfErr result.0 (IsOfTables F.Start ⟦<Kept<F> as Store>⟧ looked) }
@@ -270,16 +263,8 @@ fn report_file<F: Start, W: Sink>(
     ensures reports { OnOk result.0
         (ReportsOnFiles F.Start ⟦<Kept<F> as Store>⟧ report.entry
         (W.taken writer.old) (W.taken writer.new)) }
-    ensures ok { OnOk result.0 (IsReported report.entry (W.taken writer.old) (W.taken writer.new)) }
-    ensures part { IsErrOf result.0 ServeFault.Output
-        → IsReportedInPart report.entry (W.taken writer.old) (W.taken writer.new) }
-    ensures writes { W.calls writer.new ≤ W.calls writer.old + most_calls }
-    ensures quiet { IfErr result.0
-        (λ e. (e ≡ ServeFault.Output) ⊎ (writer.new ≡ writer.old)) }
-    ensures fine { OnOk result.0 (W.faults writer.new ≡ W.faults writer.old) }
-    ensures output { IsErrOf result.0 ServeFault.Output →
-        HasFailed (W.calls writer.old) (W.calls writer.new)
-        (W.faults writer.old) (W.faults writer.new) }
+    ensures outputs { Outputs W.Sink (IsReported report.entry) (IsReportedInPart report.entry)
+        writer.old writer.new result.0 }
     ensures which { IfErr result.0 IsReportFault }
     ensures tables { IfErr result.0 (IsOfOpenedTables F.Start ⟦<Kept<F> as Store>⟧) }
 {
@@ -300,17 +285,8 @@ pub fn replay_on_files<W: Sink>(
         (ReplaysOnFiles ⟦<Unknown as Start>⟧ ⟦<Kept<Unknown> as Store>⟧
         (length requests.now) (W.taken writer.old) (W.taken writer.new)) }
     // A response for each file is written, or a part of these responses, or nothing.
-    ensures ok { OnOk result
-        (AreAnswered (length requests.now) (W.taken writer.old) (W.taken writer.new)) }
-    ensures part { IsErrOf result ServeFault.Output
-        → AreAnsweredInPart (length requests.now) (W.taken writer.old) (W.taken writer.new) }
-    ensures writes { W.calls writer.new ≤ W.calls writer.old + most_calls }
-    // Nothing is written if it fails for another cause than the output.
-    ensures quiet { IfErr result (λ e. (e ≡ ServeFault.Output) ⊎ (writer.new ≡ writer.old)) }
-    ensures fine { OnOk result (W.faults writer.new ≡ W.faults writer.old) }
-    ensures output { IsErrOf result ServeFault.Output →
-        HasFailed (W.calls writer.old) (W.calls writer.new)
-        (W.faults writer.old) (W.faults writer.new) }
+    ensures outputs { Outputs W.Sink (AreAnswered (length requests.now))
+        (AreAnsweredInPart (length requests.now)) writer.old writer.new result }
     ensures which { IfErr result IsReplayFault }
     ensures tables { IfErr result
         (IsOfTablesAtName ⟦<Unknown as Start>⟧ ⟦<Kept<Unknown> as Store>⟧) }
@@ -320,7 +296,7 @@ pub fn replay_on_files<W: Sink>(
 
 /// The same, with a start that stands for the contents of the files, and with `looked`, the
 /// system's answer for the file of this name. Returns the files that it closed.
-#[tactic(auto, using(crate::proofs::ReportLemmas::read_replays, crate::proofs::ReportLemmas::read_tables, crate::proofs::ReportLemmas::report_replays, crate::proofs::ResultLemmas::unread))]
+#[tactic(auto, using(crate::proofs::ReportLemmas::read_replays, crate::proofs::ReportLemmas::read_tables, crate::proofs::ReportLemmas::read_silent, crate::proofs::ReportLemmas::report_replays, crate::proofs::ResultLemmas::unread, crate::proofs::OutputLemmas::outputs_none))]
 pub fn replay_from<F: Start, W: Sink>(
     rt: &HostRuntime,
     path: &str,
@@ -336,17 +312,8 @@ pub fn replay_from<F: Start, W: Sink>(
         (ReplaysOnFiles F.Start ⟦<Kept<F> as Store>⟧ (length requests.now)
         (W.taken writer.old) (W.taken writer.new)) }
     // A response for each file is written, or a part of these responses, or nothing.
-    ensures ok { OnOk result.0
-        (AreAnswered (length requests.now) (W.taken writer.old) (W.taken writer.new)) }
-    ensures part { IsErrOf result.0 ServeFault.Output
-        → AreAnsweredInPart (length requests.now) (W.taken writer.old) (W.taken writer.new) }
-    ensures writes { W.calls writer.new ≤ W.calls writer.old + most_calls }
-    // Nothing is written if it fails for another cause than the output.
-    ensures quiet { IfErr result.0 (λ e. (e ≡ ServeFault.Output) ⊎ (writer.new ≡ writer.old)) }
-    ensures fine { OnOk result.0 (W.faults writer.new ≡ W.faults writer.old) }
-    ensures output { IsErrOf result.0 ServeFault.Output →
-        HasFailed (W.calls writer.old) (W.calls writer.new)
-        (W.faults writer.old) (W.faults writer.new) }
+    ensures outputs { Outputs W.Sink (AreAnswered (length requests.now))
+        (AreAnsweredInPart (length requests.now)) writer.old writer.new result.0 }
     ensures which { IfErr result.0 IsReplayFault }
     ensures there { OnOk result.0 (IsThere looked) }
     ensures tables { IfErr result.0 (IsOfTables F.Start ⟦<Kept<F> as Store>⟧ looked) }
@@ -368,17 +335,8 @@ pub fn check_office_on_file<W: Sink>(
     ensures checks { OnOk result
         (ChecksOnFiles ⟦<Unknown as Start>⟧ ⟦<Kept<Unknown> as Store>⟧
         (W.taken writer.old) (W.taken writer.new)) }
-    ensures ok { OnOk result (IsPrinted (W.taken writer.old) (W.taken writer.new)) }
-    ensures part { IsErrOf result ServeFault.Output
-        → IsPrintedInPart (W.taken writer.old) (W.taken writer.new) }
-    ensures writes { W.calls writer.new ≤ W.calls writer.old + most_calls }
-    // Nothing is written if it fails for another cause than the output.
-    ensures silent { IfErr result
-        (λ e. (e ≡ ServeFault.Output) ⊎ (writer.new ≡ writer.old)) }
-    ensures fine { OnOk result (W.faults writer.new ≡ W.faults writer.old) }
-    ensures output { IsErrOf result ServeFault.Output →
-        HasFailed (W.calls writer.old) (W.calls writer.new)
-        (W.faults writer.old) (W.faults writer.new) }
+    // The summary is written, or a part of it, or nothing.
+    ensures outputs { Outputs W.Sink IsPrinted IsPrintedInPart writer.old writer.new result }
     ensures which { IfErr result IsReportFault }
     ensures tables { IfErr result
         (IsOfTablesAtName ⟦<Unknown as Start>⟧ ⟦<Kept<Unknown> as Store>⟧) }
@@ -400,17 +358,8 @@ pub fn check_office_from<F: Start, W: Sink>(
         result.0 result.1 }
     ensures checks { OnOk result.0
         (ChecksOnFiles F.Start ⟦<Kept<F> as Store>⟧ (W.taken writer.old) (W.taken writer.new)) }
-    ensures ok { OnOk result.0 (IsPrinted (W.taken writer.old) (W.taken writer.new)) }
-    ensures part { IsErrOf result.0 ServeFault.Output
-        → IsPrintedInPart (W.taken writer.old) (W.taken writer.new) }
-    ensures writes { W.calls writer.new ≤ W.calls writer.old + most_calls }
-    // Nothing is written if it fails for another cause than the output.
-    ensures silent { IfErr result.0
-        (λ e. (e ≡ ServeFault.Output) ⊎ (writer.new ≡ writer.old)) }
-    ensures fine { OnOk result.0 (W.faults writer.new ≡ W.faults writer.old) }
-    ensures output { IsErrOf result.0 ServeFault.Output →
-        HasFailed (W.calls writer.old) (W.calls writer.new)
-        (W.faults writer.old) (W.faults writer.new) }
+    // The summary is written, or a part of it, or nothing.
+    ensures outputs { Outputs W.Sink IsPrinted IsPrintedInPart writer.old writer.new result.0 }
     ensures which { IfErr result.0 IsReportFault }
     ensures there { OnOk result.0 (IsThere looked) }
     ensures tables { IfErr result.0 (IsOfTables F.Start ⟦<Kept<F> as Store>⟧ looked) }

@@ -1,14 +1,14 @@
-use Rattle.std.proofs.Common.{◌≡◌, ◌⊎◌, sym, subst}
-use Rattle.std.specs.Prelude.{OnOk, IfErr, IsErrOf}
+use Rattle.std.proofs.Common.{sym, subst}
+use Rattle.std.specs.Prelude.{IfErr}
 use Rattle.sqlite.specs.Files.{over_files}
 use Rattle.plan_store.specs.SqlBooks.{sql_shelf}
-use Rattle.plan_door.specs.declared.fault.ServeFault.TheVariants as fault
 use Rattle.plan_serve.specs.Causes.{IsOfOpenedTables}
-use Rattle.plan_serve.specs.Reports.{ReportsTo, KeepsNone, IsReported, IsReportFault, IsWriteFault}
+use Rattle.plan_serve.specs.Reports.{ReportsTo, KeepsNone, IsReported, IsReportedInPart, IsReportFault, IsWriteFault}
 use Rattle.plan_serve.specs.Returned.{WorksOnce}
 use Rattle.plan_serve.proofs.CauseLemmas.{write_tables, opened_tables, each_look, same_ok, same_err}
 use Rattle.plan_serve.proofs.ReportLemmas.{reports_on_files, opened_reports}
 use Rattle.plan_serve.proofs.ReturnedLemmas.{both_ways}
+use Rattle.plan_serve.proofs.OutputLemmas.{outputs_same}
 use Rattle.plan_serve.proofs.files.report_file.Goals as goal
 
 pub returns-clause-works : goal.returns-clause-works
@@ -31,27 +31,6 @@ returns-clause-reports g c =
     (reports_on_files g.F.Start over_files (g.W.Sink.taken c.args.writer.now) (g.W.Sink.taken c.report_opened.new.writer) c.args.report c.open_from-opened.result c.report_opened.result.0
     c.open_from-opened.ensures.found c.report_opened.ensures.reports)
 
-pub returns-clause-ok : goal.returns-clause-ok
-returns-clause-ok g c =
-    subst (λ r. OnOk r (IsReported c.args.report (g.W.Sink.taken c.args.writer.now) (g.W.Sink.taken c.report_opened.new.writer)))
-    (sym c.close.ensures.same) c.report_opened.ensures.ok
-
-pub returns-clause-part : goal.returns-clause-part
-returns-clause-part g c h = c.report_opened.ensures.part (subst (λ r. IsErrOf r fault.Output) c.close.ensures.same h)
-
-pub returns-clause-quiet : goal.returns-clause-quiet
-returns-clause-quiet g c =
-    subst (λ r. IfErr r (λ e. (e ≡ fault.Output) ⊎ (c.report_opened.new.writer ≡ c.args.writer.now)))
-    (sym c.close.ensures.same) c.report_opened.ensures.quiet
-
-pub returns-clause-fine : goal.returns-clause-fine
-returns-clause-fine g c =
-    subst (λ r. OnOk r (g.W.Sink.faults c.report_opened.new.writer ≡ g.W.Sink.faults c.args.writer.now))
-    (sym c.close.ensures.same) c.report_opened.ensures.fine
-
-pub returns-clause-output : goal.returns-clause-output
-returns-clause-output g c h = c.report_opened.ensures.output (subst (λ r. IsErrOf r fault.Output) c.close.ensures.same h)
-
 pub returns-clause-which : goal.returns-clause-which
 returns-clause-which g c =
     subst (λ r. IfErr r IsReportFault) (sym c.close.ensures.same)
@@ -63,3 +42,8 @@ returns-clause-tables g c =
     (each_look g.F.Start over_files c.report_opened.result.0
     (λ looked. opened_tables g.F.Start over_files looked IsWriteFault (write_tables g.F.Start over_files looked) c.open_from-opened.result c.report_opened.result.0
     c.open_from-opened.ensures.refused c.report_opened.ensures.which))
+
+pub returns-clause-outputs : goal.returns-clause-outputs
+returns-clause-outputs g c =
+    outputs_same g.W.Sink (IsReported c.args.report) (IsReportedInPart c.args.report) c.args.writer.now c.report_opened.new.writer c.close.result.0 c.report_opened.result.0
+    c.close.ensures.same c.report_opened.ensures.outputs
