@@ -1,5 +1,5 @@
-// What is shown of a plan: its model, which is what its file and this browser's changes say as far
-// as the office's tables agree with it; and the rows, bars and words of the schedule that is drawn.
+// The state of the open plan: its model, from its file and the changes of this browser, if the
+// office's tables agree with it; and the rows, bars and texts of the schedule that is drawn.
 
 import {
   calendarFrom, calendarsOf, datesOf, dayAt, daysTold, onlyCalendar,
