@@ -1,6 +1,6 @@
 //! Numbers of a text.
 
-ghost use Rattle.std.specs.Prelude.{◌≡◌, ◌≤◌, true, length, take};
+ghost use Rattle.std.specs.Prelude.{◌≡◌, ◌≤◌, ◌<◌, true, false, length, take, slice_index};
 ghost use Rattle.std.specs.List.{list_all};
 ghost use Rattle.plan_psplib.specs.Numbers as spec;
 
@@ -8,18 +8,13 @@ ghost use Rattle.plan_psplib.specs.Numbers as spec;
 const LONGEST_NUMBER: usize = 9;
 
 /// Returns the number that a word spells: one to nine decimal digits, leading zeros allowed.
+#[tactic(auto, using(crate::proofs::NumberLemmas::number_none, crate::proofs::NumberLemmas::number_some))]
 pub fn number(word: &[u8]) -> Option<u64>
     ensures { result ≡ spec.number word.now }
 {
-    if word.is_empty() || word.len() > LONGEST_NUMBER {
+    let (count, value) = leading_digits(word);
+    if count == 0 || count < word.len() {
         return None;
-    }
-    let mut value = 0;
-    for &byte in word {
-        if !byte.is_ascii_digit() {
-            return None;
-        }
-        value = value * 10 + u64::from(byte - b'0');
     }
     Some(value)
 }
@@ -44,6 +39,8 @@ pub fn leading_digits(text: &[u8]) -> (usize, u64)
     ensures within { result.0 ≤ length text.now }
     ensures digits { list_all spec.is_digit (take result.0 text.now) ≡ true }
     ensures value { result.1 ≡ spec.decimal (take result.0 text.now) }
+    ensures most { result.0 < 9 → result.0 < length text.now →
+        spec.is_digit (slice_index text.now result.0) ≡ false }
 {
     let most = text.len().min(LONGEST_NUMBER);
     let mut value = 0;
