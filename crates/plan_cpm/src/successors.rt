@@ -21,9 +21,7 @@ fn unite(row: &mut Vec<bool>, other: &[bool])
         (slice_index_or row.old.items k false ≡ true) ⊎ (slice_index_or other.now k false ≡ true) }
 {
     for (k, &more) in other.iter().enumerate() {
-        if more {
-            row[k] = true;
-        }
+        row[k] = row[k] | more;
     }
 }
 

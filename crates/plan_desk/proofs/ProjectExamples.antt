@@ -243,10 +243,11 @@ friday = record {
 abbrev weekdays : List Bool
 weekdays = true ∷ true ∷ true ∷ true ∷ true ∷ false ∷ false ∷ []
 
-working_week : IsCalendar (codes "2024-03-01") (codes "1111100") (record { start = friday; marks = weekdays })
+working_week : IsCalendar (codes "2024-03-01") (codes "1111100") (record { start = friday; marks = weekdays; holidays = [] })
 working_week = record {
   start_text = record { spelled = refl; year = (omega arith, omega arith) };
   marks_text = record { spelled = refl; week = record { seven = refl; some = refl } };
+  no_holidays = refl;
 }
 
 abbrev calendar_call : Text → Call
@@ -257,7 +258,7 @@ calendar_given : (key : Option Text) → admits desk_of_pair (asks key (calendar
     → IsDecision desk_of_pair (asks key (calendar_call (codes "{\"start\":\"2024-03-01\",\"days\":\"1111100\"}")))
     (said 200 Json (codes "{\"days\":\"1111100\",\"start\":\"2024-03-01\"}\n")) (SetCalendar 1 (codes "2024-03-01") (codes "1111100"))
 unfolding Calendars of_plan given why_or some makes calendar_body is_utf8 chars serde_json_on_literals
-calendar_given key open_ = admitted _ key _ _ _ open_ (inr (record { start = friday; marks = weekdays }, working_week, (refl, refl)))
+calendar_given key open_ = admitted _ key _ _ _ open_ (inr (record { start = friday; marks = weekdays; holidays = [] }, working_week, (refl, refl)))
 
 -- 2023 had no 29 February
 no_such_day : HasNoStart (codes "2023-02-29")

@@ -9,7 +9,7 @@ use Rattle.jiff_core.proofs.SignedLemmas.{signed_arith, one_part}
 use Rattle.jiff.specs.Words.{date_text}
 use Rattle.plan_net.specs.Network.{Net, count_of}
 use Rattle.plan_shop.specs.Shop.{JobShop, count_steps}
-use Rattle.plan_calendar.specs.WorkingDay.{Workdays, IsWorkingDay, IsBeyond, is_marked, marked_days}
+use Rattle.plan_calendar.specs.WorkingDay.{Workdays, IsWorkingDay, IsBeyond, is_working, working_days}
 use Rattle.plan_gantt.specs.Charts.{activity_interval}
 use Rattle.plan_gantt.specs.Column.{column, number_column}
 use Rattle.plan_gantt.specs.CalendarTable.{IsDaysText, AreDaysLines, ShowsBeyond, HasDayBeyond, activity_days_heading, IsCalendarTable, HasActivityBeyond}
@@ -62,13 +62,13 @@ no_gap start day n e =
 record IsOn (c : Workdays) (t : ℕ) (day : ℤ) : Type 0 where
   days : ℕ
   after : day ≡ epoch_day c.start +ℤ pos days
-  marked : is_marked c.marks day ≡ true
-  before : marked_days c.marks (epoch_day c.start) days ≡ t
+  working : is_working c day ≡ true
+  before : working_days c (epoch_day c.start) days ≡ t
 
 abbrev is_on : Workdays → ℕ → ℤ → Bool
 is_on c t day =
     (unsigned_abs (day -ℤ (epoch_day c.start +ℤ pos (days_to (epoch_day c.start) day))) == 0)
-    && (is_marked c.marks day && (marked_days c.marks (epoch_day c.start) (days_to (epoch_day c.start) day) == t))
+    && (is_working c day && (working_days c (epoch_day c.start) (days_to (epoch_day c.start) day) == t))
 
 on_is : (c : Workdays) (t : ℕ) (day : ℤ) → is_on c t day ≡ true → IsOn c t day
 on_is c t day e =
@@ -77,15 +77,15 @@ on_is c t day e =
     record {
       days = days_to (epoch_day c.start) day;
       after = gap (epoch_day c.start) day (eqb-true _ 0 parts.0);
-      marked = others.0;
+      working = others.0;
       before = eqb-true _ t others.1;
     }
 
 is_on_of : (c : Workdays) (t : ℕ) (day : ℤ) → IsOn c t day → is_on c t day ≡ true
 is_on_of c t day is =
     and_from _ _ (eq-eqb _ 0 (no_gap (epoch_day c.start) day is.days is.after))
-    (and_from _ _ is.marked
-    (eq-eqb _ t (ap (marked_days c.marks (epoch_day c.start)) (far (epoch_day c.start) day is.days is.after) ∙ is.before)))
+    (and_from _ _ is.working
+    (eq-eqb _ t (ap (working_days c (epoch_day c.start)) (far (epoch_day c.start) day is.days is.after) ∙ is.before)))
 
 -- ---- dates
 
@@ -136,7 +136,7 @@ decide_dated c t n month day = decide_test (is_dated c t n month day) (IsDated c
 of_dated : (c : Workdays) (t n month day : ℕ) → IsDated c t n month day → (date : Date) × IsWorkingDay c t date
 of_dated c t n month day d = (
   record { year = year_at n; month = month; day = day; year_in = is_year n d.year_in; month_in = d.month_in; day_in = d.day_in },
-  record { days = d.on.days; after = d.on.after; marked = d.on.marked; before = d.on.before },
+  record { days = d.on.days; after = d.on.after; working = d.on.working; before = d.on.before },
 )
 
 dated_of : (c : Workdays) (t : ℕ) (date : Date) → IsWorkingDay c t date → (n : ℕ) × (n ≤ 19998) × IsDated c t n date.month date.day
@@ -148,7 +148,7 @@ dated_of c t date is =
         year_in = year.1;
         month_in = date.month_in;
         day_in = subst (λ y. (1 ≤ date.day) × (date.day ≤ days_in_month y date.month)) year.2 date.day_in;
-        on = subst (λ y. IsOn c t (days_from_civil y date.month date.day)) year.2 (record { days = is.days; after = is.after; marked = is.marked; before = is.before });
+        on = subst (λ y. IsOn c t (days_from_civil y date.month date.day)) year.2 (record { days = is.days; after = is.after; working = is.working; before = is.before });
       },
     )
 

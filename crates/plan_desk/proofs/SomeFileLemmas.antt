@@ -161,7 +161,7 @@ some_texts start marks = by_parts (some_start start) (some_marks marks)
         → ((line : Text) × TellsTexts start marks line) ⊎ ((c : Workdays) × IsCalendar start marks c)
     by_parts (inr none) others = inl (calendar_fault_text_of fault.BadDate, (fault.BadDate, none, refl))
     by_parts (inl date) (inr none) = inl (calendar_fault_text_of fault.BadDays, (fault.BadDays, (date, none), refl))
-    by_parts (inl (date, is)) (inl (ms, are)) = inr (record { start = date; marks = ms }, record { start_text = is; marks_text = are })
+    by_parts (inl (date, is)) (inl (ms, are)) = inr (record { start = date; marks = ms; holidays = [] }, record { start_text = is; marks_text = are; no_holidays = refl })
 
 -- ---- files of shops
 

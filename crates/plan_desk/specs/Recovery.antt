@@ -154,7 +154,8 @@ one_calendar : (start days : Text) (c d : Workdays) → IsCalendar start days c
 one_calendar start days c d first second =
     let dates = one_date c.start d.start (epoch_day_injective c.start d.start (start_once start c.start d.start first.start_text second.start_text)) in
     let marks = marks_once days c.marks d.marks first.marks_text second.marks_text in
-    λ i. record { start = dates i; marks = marks i }
+    let holidays = first.no_holidays ∙ sym second.no_holidays in
+    λ i. record { start = dates i; marks = marks i; holidays = holidays i }
 
 -- the calendar that two texts spell
 pub calendar : (start days : Text) → Recovers ((c : Workdays) × IsCalendar start days c)

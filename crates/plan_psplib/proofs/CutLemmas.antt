@@ -80,7 +80,7 @@ trim_start-trim_start (byte ∷ text) = by_byte (trim_start-trim_start text) (is
     by_byte rest true e = rest
     by_byte rest false e = ap (λ b. cond b (trim_start text) (byte ∷ text)) e
 
-no_words : (text : List ℕ) → length text ≡ 0 → words text ≡ []
+pub no_words : (text : List ℕ) → length text ≡ 0 → words text ≡ []
 no_words [] e = refl
 no_words (byte ∷ text) e = absurd (omega (arith, e))
 

@@ -1,4 +1,6 @@
 pub mod CutLemmas
+pub mod FirstByteLemmas
+pub mod NumberLemmas
 pub mod BlankLemmas
 pub mod NoteLemmas
 pub mod LoopLemmas

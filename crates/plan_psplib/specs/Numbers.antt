@@ -1,5 +1,5 @@
 -- Numbers in a text (docs/definitions.md, "Files").
-use Rattle.std.specs.Prelude.{ℕ, ◌+◌, ◌-◌, ◌*◌, ◌&&◌, Bool, if◌then◌else◌, List, length, fold, nat_le, Option, Some, None}
+use Rattle.std.specs.Prelude.{◌≡◌, ◌∷◌, ℕ, ◌+◌, ◌-◌, ◌*◌, ◌&&◌, Bool, if◌then◌else◌, List, length, fold, nat_le, Option, Some, None}
 use Rattle.std.specs.List.{list_all}
 
 abbrev pub is_digit : ℕ → Bool
@@ -16,3 +16,7 @@ is_number word = nat_le 1 (length word) && nat_le (length word) 9 && list_all is
 -- the number that a word spells, if it is one
 abbrev pub number : List ℕ → Option ℕ
 number word = if is_number word then Some (decimal word) else None
+
+-- the first of the words is a number, and the others follow
+abbrev pub BeginsWithNumber : List (List ℕ) → ℕ → List (List ℕ) → Type 0
+BeginsWithNumber words n others = (word : List ℕ) × (words ≡ word ∷ others) × (number word ≡ Some n)

@@ -4,6 +4,7 @@ ghost use Rattle.std.specs.Prelude.{◌≡◌, ◌<◌, [], ◌∷◌, length, M
 ghost use Rattle.std.specs.List.{position};
 ghost use Rattle.plan_psplib.specs.Lines as spec;
 
+use memchr::memchr;
 use std::marker::Model;
 
 /// A line of a text: its number, counted from 1, and its bytes without the blanks at its ends.
@@ -95,7 +96,7 @@ fn cut_line(text: &[u8]) -> (&[u8], &[u8])
 fn first_line_feed(text: &[u8]) -> Option<usize>
     ensures { result ≡ position spec.is_line_feed text.now }
 {
-    text.iter().position(|&byte| byte == b'\n')
+    memchr(b'\n', text)
 }
 
 /// Tests whether a byte separates words: a tab, a vertical tab, a form feed, a carriage return, the

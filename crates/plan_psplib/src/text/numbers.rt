@@ -1,6 +1,6 @@
 //! Numbers of a text.
 
-ghost use Rattle.std.specs.Prelude.{◌≡◌, ◌≤◌, true, length};
+ghost use Rattle.std.specs.Prelude.{◌≡◌, ◌≤◌, ◌<◌, true, false, length, take, slice_index};
 ghost use Rattle.std.specs.List.{list_all};
 ghost use Rattle.plan_psplib.specs.Numbers as spec;
 
@@ -8,14 +8,15 @@ ghost use Rattle.plan_psplib.specs.Numbers as spec;
 const LONGEST_NUMBER: usize = 9;
 
 /// Returns the number that a word spells: one to nine decimal digits, leading zeros allowed.
+#[tactic(auto, using(crate::proofs::NumberLemmas::number_none, crate::proofs::NumberLemmas::number_some))]
 pub fn number(word: &[u8]) -> Option<u64>
     ensures { result ≡ spec.number word.now }
 {
-    if is_number(word) {
-        Some(decimal(word))
-    } else {
-        None
+    let (count, value) = leading_digits(word);
+    if count == 0 || count < word.len() {
+        return None;
     }
+    Some(value)
 }
 
 /// Tests whether a word is a number.
@@ -32,15 +33,23 @@ fn all_digits(word: &[u8]) -> bool
     word.iter().all(|byte| byte.is_ascii_digit())
 }
 
-// Returns the value of decimal digits.
-fn decimal(digits: &[u8]) -> u64
-    requires short { length digits.now ≤ 9 }
-    requires digits { list_all spec.is_digit digits.now ≡ true }
-    ensures { result ≡ spec.decimal digits.now }
+/// Returns the number of digits at the front of a text, at most nine, and their value.
+pub fn leading_digits(text: &[u8]) -> (usize, u64)
+    ensures short { result.0 ≤ 9 }
+    ensures within { result.0 ≤ length text.now }
+    ensures digits { list_all spec.is_digit (take result.0 text.now) ≡ true }
+    ensures value { result.1 ≡ spec.decimal (take result.0 text.now) }
+    ensures most { result.0 < 9 → result.0 < length text.now →
+        spec.is_digit (slice_index text.now result.0) ≡ false }
 {
+    let most = text.len().min(LONGEST_NUMBER);
     let mut value = 0;
-    for &digit in digits {
-        value = value * 10 + u64::from(digit - b'0');
+    for count in 0..most {
+        let byte = text[count];
+        if !byte.is_ascii_digit() {
+            return (count, value);
+        }
+        value = value * 10 + u64::from(byte - b'0');
     }
-    value
+    (most, value)
 }

@@ -7,6 +7,7 @@ ghost use Rattle.plan_psplib.specs.Tokens.{Reads};
 ghost use Rattle.plan_psplib.specs.Plain as spec;
 
 use crate::text::fault::{Fault, FileCode};
+use memchr::memchr;
 
 /// The most bytes of a text.
 pub const LONGEST_TEXT: usize = 1_048_576;
@@ -29,7 +30,7 @@ pub fn check_text(text: &[u8]) -> Result<(), Fault>
 fn first_zero(text: &[u8]) -> Option<usize>
     ensures { result ≡ position spec.is_zero text.now }
 {
-    text.iter().position(|&byte| byte == 0)
+    memchr(0, text)
 }
 
 fn line_feeds(text: &[u8]) -> u64

@@ -1,7 +1,8 @@
 //! Lines of a text as one stream of words.
 
-ghost use Rattle.std.specs.Prelude.{◌≡◌, Bool, List, ℕ, [], ◌∷◌, MatchOption};
+ghost use Rattle.std.specs.Prelude.{◌≡◌, Bool, List, ℕ, [], ◌∷◌, Ok, MatchOption};
 ghost use Rattle.plan_psplib.specs.Streams as spec;
+ghost use Rattle.plan_psplib.specs.Tokens.{number_at};
 
 use crate::text::lines::{Line, Lines};
 use crate::text::words::Words;
@@ -100,6 +101,17 @@ impl<'a, L: Layout> StreamWords<'a, L> {
             self.line = line.number;
             self.words = Words::new(line.text);
         }
+    }
+
+    /// Returns the next word of the current line as a number, and sets `last` to this line. If the
+    /// line has no word left or the word isn't a number, returns `None` and takes no word.
+    pub fn next_number_of_line(&mut self) -> Option<u64>
+        ensures { MatchOption result (self.new ≡ self.old)
+            (λ n. number_at self.old ≡ Ok (record { value = n; line = self.new.last }, self.new)) }
+    {
+        let value = self.words.next_number()?;
+        self.last = self.line;
+        Some(value)
     }
 }
 

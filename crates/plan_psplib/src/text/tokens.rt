@@ -22,6 +22,12 @@ pub struct LineNumber {
 pub fn next_number<L: Layout>(words: &mut StreamWords<'_, L>) -> Result<LineNumber, Fault>
     ensures { Reads (λ n. (line_number n, words.new)) result (number_at words.old) }
 {
+    if let Some(value) = words.next_number_of_line() {
+        return Ok(LineNumber {
+            value,
+            line: words.last(),
+        });
+    }
     let Some(word) = words.next_word() else {
         return Err(Fault::new(FileCode::Count, words.last()));
     };

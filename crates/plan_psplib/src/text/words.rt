@@ -3,8 +3,10 @@
 ghost use Rattle.std.specs.Prelude.{◌≡◌, ◌<◌, [], ◌∷◌, length, MatchOption};
 ghost use Rattle.std.specs.List.{position};
 ghost use Rattle.plan_psplib.specs.Lines as spec;
+ghost use Rattle.plan_psplib.specs.Numbers.{BeginsWithNumber};
 
 use crate::text::lines::{is_blank, trim_start};
+use crate::text::numbers::leading_digits;
 use std::marker::Model;
 
 /// The remaining words of a line, in order. Words are separated by blanks.
@@ -43,6 +45,21 @@ impl<'a> Words<'a> {
         let (word, rest) = cut_word(text);
         self.rest = rest;
         Some(word)
+    }
+
+    /// Returns the next word as a number. If it isn't one, returns `None` and takes no word.
+    pub fn next_number(&mut self) -> Option<u64>
+        ensures { MatchOption result (self.new ≡ self.old)
+            (λ n. BeginsWithNumber self.old n self.new) }
+    {
+        let text = trim_start(self.rest);
+        let (count, value) = leading_digits(text);
+        if count == 0 || (count < text.len() && !is_blank(text[count])) {
+            return None;
+        }
+        let (_, rest) = text.split_at(count);
+        self.rest = rest;
+        Some(value)
     }
 }
 

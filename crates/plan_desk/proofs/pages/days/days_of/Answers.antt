@@ -30,8 +30,8 @@ returns-in-Ok-days_table-clause-shown c =
     (emptiness _ _ _ c.as_str.ensures.value c.if-is_empty.ensures) (calendar_is c.args.plan.now _ _ c.in-Ok.calendar c.as_str-2.ensures.value c.as_str-3.ensures.value c.in-Ok.ensures.ok)
     c.in-Ok-days_table.ensures.text c.page.ensures
 
-pub returns-in_ok-bad_calendar-in-Err-BeyondCalendar-clause-shown : goal.returns-in_ok-bad_calendar-in-Err-BeyondCalendar-clause-shown
-returns-in_ok-bad_calendar-in-Err-BeyondCalendar-clause-shown c =
+pub returns-clause-shown : goal.returns-clause-shown
+returns-clause-shown c =
     days_beyond (row_in c.args.plan.now) (IsDaysTableOf c.args.made.now) (HasDayBeyondOf c.args.made.now) c.in-Ok.calendar _
     (emptiness _ _ _ c.as_str.ensures.value c.if-is_empty.ensures) (calendar_is c.args.plan.now _ _ c.in-Ok.calendar c.as_str-2.ensures.value c.as_str-3.ensures.value c.in-Ok.ensures.ok)
     (c.in-Err-BeyondCalendar.ensures.beyond (ap Err c.in-Err-BeyondCalendar.field-0-is))
