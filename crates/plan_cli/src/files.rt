@@ -4,17 +4,16 @@ ghost use Rattle.std.specs.Prelude.{◌≡◌, ◌⊎◌, ◌+◌, ◌≤◌, le
 ghost use Rattle.std.specs.Prelude.{IfOk, IfErr, IsErrOf, OnOk};
 ghost use Rattle.plan_io.specs.Devices.{most_calls};
 ghost use Rattle.plan_psplib.specs.Plain.{longest_text};
-ghost use Rattle.plan_cli.specs.Run.{HasSinkFailed};
+ghost use Rattle.plan_errors.specs.Output.{HasSinkFailed};
 ghost use Rattle.plan_cli.specs.Tasks.{DoesTask, AreRead, bytes_behind};
 ghost use Rattle.plan_cli.specs.ListedTasks.{DoesListed};
 
-use crate::bytes::read_file;
-use crate::fault::CliFault;
 use crate::inputs::{Inputs, SystemInputs};
 use crate::listed_tasks::{ListedTask, with_starts};
 use crate::runs::run_task;
 use crate::tasks::{Rows, Task};
 use crate::watchers::{Log, ProofWatcher, SolveWatcher, Unlogged, Unwatched};
+use plan_errors::{CliFault, read_file};
 use plan_io::Sink;
 use std::alloc::Global;
 use std::rt::Files;

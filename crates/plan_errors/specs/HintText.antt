@@ -3,9 +3,9 @@ use Rattle.std.specs.Prelude.{◌≡◌, ◌++◌, ℕ, List, [], Option, Some, 
 use Rattle.std.specs.Prelude.{string_bytes, codes}
 use Rattle.std.specs.Global.{Global}
 use Rattle.plan_psplib.specs.Lines.{words}
-use Rattle.plan_cli.specs.Codes.{name_of, cause_of}
-use Rattle.plan_cli.specs.ExplainRun.{StartsWithCode}
-use Rattle.plan_cli.specs.declared.codes.Code.{Code}
+use Rattle.plan_errors.specs.Codes.{name_of, cause_of}
+use Rattle.plan_errors.specs.ExplainRun.{StartsWithCode}
+use Rattle.plan_errors.specs.declared.codes.Code.{Code}
 
 -- the name of a file and a colon, if a file is named
 abbrev pub named : Option (List ℕ) → List ℕ

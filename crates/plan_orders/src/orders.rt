@@ -1,12 +1,7 @@
 //! The orders that the arguments of the command line spell.
 
-use crate::capacities::Capacity;
-use crate::days::Dates;
-use crate::listed_tasks::ListedTask;
-use crate::origins::Origin;
-use crate::tasks::{Rows, Task};
-use crate::templates::Template;
 use clap::ArgMatches;
+use plan_cli::{Capacity, Dates, ListedTask, Origin, Rows, Task, Template};
 use plan_formats::Format;
 use plan_solve::MOST_CONFLICTS;
 use plan_table::Override;
