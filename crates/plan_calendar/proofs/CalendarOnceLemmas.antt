@@ -1,19 +1,21 @@
 -- Two texts determine a calendar, and so its working days.
-use Rattle.std.proofs.Common.{ℕ, ◌≡◌, Bool, true, false, List, [], ◌∷◌, ◌++◌, map, refl, sym, ◌∙◌, ap, arith, pos, ℤ, ◌+ℤ◌}
+use Rattle.std.specs.Prelude.{◌&&◌, not}
+use Rattle.std.proofs.Common.{ℕ, zero, suc, ◌+◌, ◌≡◌, Bool, true, false, List, [], ◌∷◌, ◌++◌, map, refl, sym, ◌∙◌, ap, arith, pos, ℤ, ◌+ℤ◌}
 use Rattle.jiff_core.specs.Date.{epoch_day}
 use Rattle.jiff_core.specs.declared.civil.date.Date.{Date}
 use Rattle.jiff_core.proofs.DateLemmas.{epoch_day_same}
 use Rattle.jiff_fmt.specs.Text.{year_text, pad2}
-use Rattle.plan_calendar.specs.WorkingDay.{Workdays, IsWorkingDay, is_marked, marked_days}
+use Rattle.plan_calendar.specs.WorkingDay.{Workdays, IsWorkingDay, is_marked, is_holiday, is_working, working_days, one_if}
 use Rattle.plan_calendar.specs.CalendarText.{IsStartText, IsMarksText, IsCalendar, RefusesTexts, mark_digit}
 use Rattle.plan_calendar.specs.declared.calendar.CalendarFault.{CalendarFault}
 use Rattle.plan_calendar.specs.declared.calendar.CalendarFault.TheVariants as fault
 use Rattle.plan_calendar.proofs.TextLemmas.{natural_year, same_parts}
 
--- two equivalent calendars: the same first day and the same marks
+-- two equivalent calendars: the same first day, the same marks and the same holidays
 pub record GoAlike (c d : Workdays) : Type 0 where
   pub start : epoch_day c.start ≡ epoch_day d.start
   pub marks : c.marks ≡ d.marks
+  pub holidays : c.holidays ≡ d.holidays
 
 -- a text spells one day
 pub start_once : (text : List ℕ) (a b : Date) → IsStartText text a → IsStartText text b → epoch_day a ≡ epoch_day b
@@ -47,6 +49,7 @@ pub calendar_once : (start marks : List ℕ) (c d : Workdays) → IsCalendar sta
 calendar_once start marks c d first second = record {
   start = start_once start c.start d.start first.start_text second.start_text;
   marks = marks_once marks c.marks d.marks first.marks_text second.marks_text;
+  holidays = first.no_holidays ∙ sym second.no_holidays;
 }
 
 -- texts have at most one error
@@ -65,12 +68,25 @@ texts_apart start marks c fault.BadDate calendar refused = refused c.start calen
 texts_apart start marks c fault.BadDays calendar refused = refused.1 c.marks calendar.marks_text
 texts_apart start marks c fault.BeyondCalendar calendar refused = refused
 
+-- equivalent calendars agree on each day
+same_work : (c d : Workdays) (day : ℤ) → GoAlike c d → is_working c day ≡ is_working d day
+unfolding is_working
+same_work c d day same =
+    ap (λ (marks : List Bool). is_marked marks day && not (is_holiday c.holidays day)) same.marks
+    ∙ ap (λ (holidays : List Date). is_marked d.marks day && not (is_holiday holidays day)) same.holidays
+
+same_days : (c d : Workdays) (day : ℤ) (n : ℕ) → GoAlike c d → working_days c day n ≡ working_days d day n
+unfolding working_days
+same_days c d day zero same = refl
+same_days c d day (suc n) same =
+    ap (λ (k : ℕ). k + one_if (is_working c (day +ℤ pos n))) (same_days c d day n same)
+    ∙ ap (λ (on : Bool). working_days d day n + one_if on) (same_work c d (day +ℤ pos n) same)
+
 -- equivalent calendars have the same working days
 pub working_alike : (c d : Workdays) (t : ℕ) (date : Date) → GoAlike c d → IsWorkingDay c t date → IsWorkingDay d t date
 working_alike c d t date same day = record {
   days = day.days;
   after = day.after ∙ ap (λ (n : ℤ). n +ℤ pos day.days) same.start;
-  marked = ap (λ (marks : List Bool). is_marked marks (epoch_day date)) (sym same.marks) ∙ day.marked;
-  before = ap (λ (marks : List Bool). marked_days marks (epoch_day d.start) day.days) (sym same.marks)
-      ∙ ap (λ (n : ℤ). marked_days c.marks n day.days) (sym same.start) ∙ day.before;
+  working = sym (same_work c d (epoch_day date) same) ∙ day.working;
+  before = sym (same_days c d (epoch_day d.start) day.days same) ∙ ap (λ (n : ℤ). working_days c n day.days) (sym same.start) ∙ day.before;
 }

@@ -4,8 +4,8 @@ use Rattle.std.specs.List.{list_any}
 use Rattle.std.proofs.lemmas.Nat.{div-add-mod'}
 use Rattle.jiff_core.specs.Calendar.{weekday_number}
 use Rattle.jiff_core.proofs.CalendarLemmas.{weekday_number-add}
-use Rattle.plan_calendar.specs.WorkingDay.{one_if, is_marked, marked_days}
-use Rattle.plan_calendar.specs.Weeks.{mark_after, marks_before, IsMarkedAfter}
+use Rattle.plan_calendar.specs.WorkingDay.{one_if, is_marked}
+use Rattle.plan_calendar.specs.Weeks.{mark_after, marks_before, IsMarkedAfter, marked_days}
 
 mark_weeks : (marks : List Bool) (w m k : ℕ) → mark_after marks w (m * 7 + k) ≡ mark_after marks w k
 unfolding mark_after
@@ -51,7 +51,8 @@ one_week marks w (suc k) =
     ∙ add (marks_before marks w (7 + k)) (marks_before marks w 7) (marks_before marks w k) (one_if (mark_after marks w k)) (one_week marks w k)
     ∙ ap (λ s. marks_before marks w 7 + s) (sym (next marks w k))
 
-weeks_more : (marks : List Bool) (w m k : ℕ) → marks_before marks w (m * 7 + k) ≡ m * marks_before marks w 7 + marks_before marks w k
+-- whole weeks, and the days after them
+pub weeks_more : (marks : List Bool) (w m k : ℕ) → marks_before marks w (m * 7 + k) ≡ m * marks_before marks w 7 + marks_before marks w k
 weeks_more marks w zero k =
     let e : 0 * 7 + k ≡ k = omega arith in
     let f : (c : ℕ) → c ≡ 0 * marks_before marks w 7 + c = λ c. omega arith in
@@ -146,3 +147,22 @@ pub marked_by_weeks : (marks : List Bool) (w t each k : ℕ) → each ≡ marks_
 marked_by_weeks marks w t each k same found =
     let whole : t ≡ t / each * marks_before marks w 7 + t % each = sym (div-add-mod' t each) ∙ ap (λ c. t / each * c + t % each) same in
     marked_after_weeks marks w t (t / each) (t % each) k found.marked found.before whole
+
+-- the marked days of the whole weeks and of the days after them
+pub counted_by_weeks : (marks : List Bool) (w days each rest : ℕ) → each ≡ marks_before marks w 7 → rest ≡ marks_before marks w (days % 7)
+    → days / 7 * each + rest ≡ marks_before marks w days
+counted_by_weeks marks w days each rest same also =
+    ap (λ c. days / 7 * c + rest) same ∙ ap (λ r. days / 7 * marks_before marks w 7 + r) also
+    ∙ sym (weeks_more marks w (days / 7) (days % 7)) ∙ ap (λ n. marks_before marks w n) (div-add-mod' days 7)
+
+-- the mark of a day by the day of its week
+pub mark_in_week : (marks : List Bool) (w days : ℕ) → mark_after marks w (days % 7) ≡ mark_after marks w days
+mark_in_week marks w days = sym (mark_weeks marks w (days / 7) (days % 7)) ∙ ap (λ n. mark_after marks w n) (div-add-mod' days 7)
+
+-- no two marked days have the same number of marked days before them
+pub one_marked_day : (marks : List Bool) (day : ℤ) (a b : ℕ) → is_marked marks (day +ℤ pos a) ≡ true → is_marked marks (day +ℤ pos b) ≡ true
+    → marked_days marks day a ≡ marked_days marks day b → a ≡ b
+one_marked_day marks day a b first second same =
+    same_day marks (weekday_number day) (marked_days marks day a) a b
+    (record { marked = sym (mark_by_day marks day a) ∙ first; before = sym (marks_by_day marks day a) })
+    (record { marked = sym (mark_by_day marks day b) ∙ second; before = sym (marks_by_day marks day b) ∙ sym same })

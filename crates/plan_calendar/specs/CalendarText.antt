@@ -30,10 +30,11 @@ pub record IsMarksText (text : List ℕ) (marks : List Bool) : Type 0 where
 abbrev pub HasNoMarks : List ℕ → Type 0
 HasNoMarks text = (marks : List Bool) → IsMarksText text marks → ⊥
 
--- the texts are those of a calendar
+-- the texts are those of a calendar, which has no holidays
 pub record IsCalendar (start marks : List ℕ) (calendar : Workdays) : Type 0 where
   pub start_text : IsStartText start calendar.start
   pub marks_text : IsMarksText marks calendar.marks
+  pub no_holidays : calendar.holidays ≡ []
 
 -- the error of the texts; that of the date comes first
 abbrev pub RefusesTexts : List ℕ → List ℕ → CalendarFault → Type 0

@@ -1,3 +1,4 @@
 pub mod WorkingDay
 pub mod CalendarText
 pub mod Weeks
+pub mod DaysOff

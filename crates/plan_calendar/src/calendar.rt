@@ -1,18 +1,21 @@
 //! A calendar, and the working day of an instant.
 
-ghost use Rattle.std.specs.Prelude.{◌≡◌, ◌+◌, ◌*◌, ◌≤◌, pos, ◌+ℤ◌, IfSome, IfNone, IfOk, IfErr};
+ghost use Rattle.std.specs.Prelude.{◌≡◌, ◌+◌, ◌*◌, ◌≤◌, pos, ◌+ℤ◌, vec_len, IfSome, IfNone, IfOk, IfErr};
 ghost use Rattle.jiff_core.specs.Calendar.{IsEpochDay};
 ghost use Rattle.jiff_core.specs.Date.{epoch_day};
 ghost use Rattle.plan_calendar.specs.WorkingDay.{IsWorkingDay, IsBeyond};
 ghost use Rattle.plan_calendar.specs.CalendarText.{IsCalendar, RefusesTexts};
+ghost use Rattle.plan_calendar.specs.declared.days_off.TheConstants.{MOST_HOLIDAYS};
 ghost use Rattle.plan_calendar.specs.declared.weeks.TheConstants.{MOST_DAYS};
 ghost use Rattle.plan_calendar.specs.declared.calendar.CalendarFault.TheVariants.{BeyondCalendar};
 
+use crate::days_off::{DaysOff, MOST_HOLIDAYS, shifted, sorted_indices};
 use crate::first_date::start_date;
 use crate::marks::week_marks;
 use crate::weeks::{MOST_DAYS, nth_marked};
 use jiff::civil::Date;
 use jiff_core::civil;
+use std::alloc::{AllocError, Global};
 use std::marker::Model;
 use thiserror::Error;
 
@@ -31,16 +34,17 @@ pub enum CalendarFault {
     BeyondCalendar,
 }
 
-/// A first date and the weekdays on which work is done.
+/// A first date, the weekdays on which work is done, and the holidays.
 #[derive(Debug, Drop)]
 pub struct Calendar {
     start: Date,
     marks: [bool; 7],
+    off: Option<DaysOff>,
 }
 
 // Returns the date `days` days after `start`, if it exists.
 fn later(start: Date, days: u64) -> Option<Date>
-    requires { days ≤ MOST_DAYS * 7 + 6 }
+    requires { days ≤ MOST_DAYS * 14 + 6 }
     ensures some { IfSome result (λ date. epoch_day date ≡ epoch_day start +ℤ pos days) }
     ensures none { IfNone result (IsEpochDay (epoch_day start +ℤ pos days) → ⊥) }
 {
@@ -52,13 +56,16 @@ fn later(start: Date, days: u64) -> Option<Date>
 }
 
 impl Model for Calendar {
+    ghost use Rattle.jiff_core.specs.Date.{epoch_day};
     ghost use Rattle.plan_calendar.specs.WorkingDay.{Workdays, IsWeek};
+    ghost use Rattle.plan_calendar.specs.DaysOff.{AreDaysOff, holidays_of, indices_of};
 
     ghost Value = { Workdays };
 
-    ghost view = { λ c. record { start = c.start; marks = c.marks } };
+    ghost view = { λ c. record { start = c.start; marks = c.marks; holidays = holidays_of c.off } };
 
-    ghost invariant = { λ c. IsWeek c.marks };
+    ghost invariant = { λ c. IsWeek c.marks × AreDaysOff (epoch_day c.start) c.marks
+        (holidays_of c.off) (indices_of c.off) };
 }
 
 impl Calendar {
@@ -76,12 +83,33 @@ impl Calendar {
         let Some(marks) = week_marks(marks) else {
             return Err(CalendarFault::BadDays);
         };
-        Ok(Calendar { start, marks })
+        Ok(Calendar {
+            start,
+            marks,
+            off: None,
+        })
     }
 
-    /// Returns the date of instant `t`, in working days from 0 on: the date with a marked weekday
-    /// that has exactly `t` such dates before it, from the first date on. The cost doesn't depend
-    /// on `t`. Allocates nothing.
+    /// Returns the calendar with these holidays instead of its own. Their order doesn't matter;
+    /// a holiday may occur twice, be before the first date or fall on an unmarked weekday. The cost
+    /// is that of sorting them.
+    pub fn with_holidays(self, alloc: Global, holidays: Vec<Date>) -> Result<Calendar, AllocError>
+        requires few { vec_len holidays ≤ MOST_HOLIDAYS }
+        ensures ok { IfOk result (λ made. made ≡ record self { holidays = holidays.items }) }
+    {
+        let indices = sorted_indices(alloc, self.start, &self.marks, &holidays)?;
+        let off = Some(DaysOff { holidays, indices });
+        Ok(Calendar {
+            start: self.start,
+            marks: self.marks,
+            off,
+        })
+    }
+
+    /// Returns the date of instant `t`, in working days from 0 on: the working day that has exactly
+    /// `t` working days before it, from the first date on. A working day has a marked weekday and
+    /// isn't a holiday. The cost is linear in the number of holidays and doesn't depend on `t`.
+    /// Allocates nothing.
     pub fn day(&self, t: u64) -> Result<Date, CalendarFault>
         ensures day { IfOk result (IsWorkingDay self.now t) }
         ensures beyond { IfErr result (λ fault. (fault ≡ BeyondCalendar) × IsBeyond self.now t) }
@@ -90,7 +118,11 @@ impl Calendar {
             return Err(CalendarFault::BeyondCalendar);
         }
         let weekday = self.start.weekday().index() as u64;
-        let days = nth_marked(&self.marks, weekday, t);
+        let index = match &self.off {
+            Some(off) => shifted(&off.indices, t),
+            None => t,
+        };
+        let days = nth_marked(&self.marks, weekday, index);
         match later(self.start, days) {
             Some(date) => Ok(date),
             None => Err(CalendarFault::BeyondCalendar),

@@ -78,12 +78,12 @@ fn date_of(year: u64, month: u64, day: u64) -> Option<Date>
     }
 }
 
-// Parses the first date of a calendar: ten bytes `YYYY-MM-DD`, from 1900-01-01 to 2199-12-31.
-pub fn start_date(text: &str) -> Option<Date>
+/// Parses a date: ten bytes `YYYY-MM-DD` (ISO 8601), from 1900-01-01 to 2199-12-31.
+pub fn date_in(text: &[u8]) -> Option<Date>
     ensures some { IfSome result (IsStartText text.now) }
     ensures none { IfNone result (HasNoStart text.now) }
 {
-    let parts = date_parts(text.as_bytes())?;
+    let parts = date_parts(text)?;
     if parts.year < FIRST_YEAR {
         return None;
     }
@@ -91,4 +91,12 @@ pub fn start_date(text: &str) -> Option<Date>
         return None;
     }
     date_of(parts.year, parts.month, parts.day)
+}
+
+// Parses the first date of a calendar.
+pub fn start_date(text: &str) -> Option<Date>
+    ensures some { IfSome result (IsStartText text.now) }
+    ensures none { IfNone result (HasNoStart text.now) }
+{
+    date_in(text.as_bytes())
 }

@@ -10,7 +10,7 @@ pub const MOST_DAYS: u64 = 7_304_483;
 
 // Returns the mark of the day `days` days after the weekday, within a week.
 #[tactic(auto, unfolding(crate::specs::Weeks::mark_after))]
-fn mark_at(marks: &[bool], weekday: u64, days: u64) -> bool
+pub fn mark_at(marks: &[bool], weekday: u64, days: u64) -> bool
     requires seven { length marks.now ≡ 7 }
     requires weekday { weekday < 7 }
     requires days { days < 7 }
@@ -19,21 +19,43 @@ fn mark_at(marks: &[bool], weekday: u64, days: u64) -> bool
     marks[((weekday + days) % 7) as usize]
 }
 
-// Returns the number of marked days of a week.
+// Returns the number of marked days among the first `end` days of a week.
 #[tactic(auto, using(crate::proofs::WeekLemmas::none_before, crate::proofs::WeekLemmas::one_more, crate::proofs::WeekLemmas::at_most_days))]
-fn marks_of_week(marks: &[bool], weekday: u64) -> u64
-    requires week { IsWeek marks.now }
+fn marks_until(marks: &[bool], weekday: u64, end: u64) -> u64
+    requires seven { length marks.now ≡ 7 }
     requires weekday { weekday < 7 }
-    ensures count { result ≡ marks_before marks.now weekday 7 }
-    ensures some { 0 < result }
+    requires end { end ≤ 7 }
+    ensures count { result ≡ marks_before marks.now weekday end }
+    ensures few { result ≤ end }
 {
     let mut count = 0;
-    for days in 0..7u64 {
+    for days in 0..end {
         if mark_at(marks, weekday, days) {
             count += 1;
         }
     }
     count
+}
+
+// Returns the number of marked days of a week.
+fn marks_of_week(marks: &[bool], weekday: u64) -> u64
+    requires week { IsWeek marks.now }
+    requires weekday { weekday < 7 }
+    ensures count { result ≡ marks_before marks.now weekday 7 }
+    ensures some { 0 < result }
+    ensures few { result ≤ 7 }
+{
+    marks_until(marks, weekday, 7)
+}
+
+// Returns the number of marked days among the first `days` days from the weekday on.
+pub fn count_marked(marks: &[bool], weekday: u64, days: u64) -> u64
+    requires week { IsWeek marks.now }
+    requires weekday { weekday < 7 }
+    requires limit { days ≤ MOST_DAYS }
+    ensures { result ≡ marks_before marks.now weekday days }
+{
+    days / 7 * marks_of_week(marks, weekday) + marks_until(marks, weekday, days % 7)
 }
 
 // Returns the marked day of a week, counted from the weekday on, with `before` marked days before
@@ -62,9 +84,9 @@ fn day_of_week(marks: &[bool], weekday: u64, before: u64) -> u64
 pub fn nth_marked(marks: &[bool], weekday: u64, t: u64) -> u64
     requires week { IsWeek marks.now }
     requires weekday { weekday < 7 }
-    requires limit { t ≤ MOST_DAYS }
+    requires limit { t ≤ MOST_DAYS * 2 }
     ensures found { IsMarkedAfter marks.now weekday t result }
-    ensures limit { result ≤ MOST_DAYS * 7 + 6 }
+    ensures limit { result ≤ MOST_DAYS * 14 + 6 }
 {
     let each_week = marks_of_week(marks, weekday);
     let days = day_of_week(marks, weekday, t % each_week);

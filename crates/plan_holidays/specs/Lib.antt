@@ -1,0 +1,2 @@
+pub mod HolidayText
+pub mod Rest

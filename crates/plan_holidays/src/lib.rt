@@ -1,0 +1,11 @@
+//! Readers of the holidays in a file, and of weekdays by their names.
+#![tactic(auto)]
+
+mod days;
+mod entries;
+mod fault;
+mod holidays;
+mod lines;
+
+pub use fault::HolidayFault;
+pub use holidays::parse_holidays;
