@@ -6,7 +6,7 @@ use Rattle.std.proofs.lemmas.Bool.{both_ways, eq-eqb}
 use Rattle.jiff_core.specs.declared.civil.date.Date.{Date}
 use Rattle.plan_holidays.specs.declared.fault.HolidayFault.{HolidayFault}
 use Rattle.plan_holidays.specs.declared.fault.HolidayFault.TheVariants as fault
-use Rattle.plan_holidays.specs.HolidayText.{lines, entry, IsSpan, AreDays, NamesDays, IsBadLine, NameDays, NamesHolidays, AddsDays, RefusesLine, AreRead, RefusesText}
+use Rattle.plan_holidays.specs.HolidayText.{lines, entry, IsSpan, AreDays, NamesDays, IsBadLine, NameDays, AreHolidays, AddsDays, RefusesLine, AreRead, RefusesLines}
 use Rattle.plan_holidays.specs.Rest.{rest_lines}
 
 -- a line that is neither blank nor a span is bad
@@ -21,32 +21,32 @@ name_more [] days line more none here = (more, [], here, refl, ap (λ (d : List 
 name_more (other ∷ before) days line more (first, rest, is, others, whole) here =
     (first, rest ++ more, is, name_more before rest line more others here, ap (λ (d : List Date). d ++ more) whole ∙ append_assoc first rest more)
 
-pub none_read : (text : List ℕ) → AreRead text [] (lines text) []
-none_read text = record { split = refl; named = refl; few = omega arith }
+pub none_read : (all : List (List ℕ)) → AreRead all [] all []
+none_read all = record { split = refl; named = refl; few = omega arith }
 
-pub more_read : (text : List ℕ) (before : List (List ℕ)) (line : List ℕ) (after : List (List ℕ)) (days new : List Date)
-    → AreRead text before (line ∷ after) days → AddsDays days line new → AreRead text (before ++ line ∷ []) after new
-more_read text before line after days new read (more, here, whole, few) = record {
+pub more_read : (all before : List (List ℕ)) (line : List ℕ) (after : List (List ℕ)) (days new : List Date)
+    → AreRead all before (line ∷ after) days → AddsDays days line new → AreRead all (before ++ line ∷ []) after new
+more_read all before line after days new read (more, here, whole, few) = record {
   split = read.split ∙ sym (append_assoc before (line ∷ []) after);
   named = subst (NameDays (before ++ line ∷ [])) (sym whole) (name_more before days line more read.named here);
   few = few;
 }
 
-pub all_read : (text : List ℕ) (before : List (List ℕ)) (days : List Date) → AreRead text before [] days → NamesHolidays text days
-all_read text before days read = record {
+pub all_read : (all before : List (List ℕ)) (days : List Date) → AreRead all before [] days → AreHolidays all days
+all_read all before days read = record {
   named = subst (λ (ls : List (List ℕ)). NameDays ls days) (sym (read.split ∙ append-nil before)) read.named;
   few = read.few;
 }
 
 -- the next line of what is left
-pub next_read : (text : List ℕ) (before : List (List ℕ)) (rest : Option (Bor (List ℕ))) (left : Bor (List ℕ)) (line : List ℕ) (others : Option (Bor (List ℕ))) (days : List Date)
-    → rest ≡ Some left → lines left.now ≡ line ∷ rest_lines others → AreRead text before (rest_lines rest) days → AreRead text before (line ∷ rest_lines others) days
-next_read text before rest left line others days same cut read =
-    subst (λ (after : List (List ℕ)). AreRead text before after days) (ap rest_lines same ∙ cut) read
+pub next_read : (all before : List (List ℕ)) (rest : Option (Bor (List ℕ))) (left : Bor (List ℕ)) (line : List ℕ) (others : Option (Bor (List ℕ))) (days : List Date)
+    → rest ≡ Some left → lines left.now ≡ line ∷ rest_lines others → AreRead all before (rest_lines rest) days → AreRead all before (line ∷ rest_lines others) days
+next_read all before rest left line others days same cut read =
+    subst (λ (after : List (List ℕ)). AreRead all before after days) (ap rest_lines same ∙ cut) read
 
-pub refused_text : (text : List ℕ) (before : List (List ℕ)) (line : List ℕ) (after : List (List ℕ)) (days : List Date) (number : ℕ) (first : HolidayFault)
-    → AreRead text before (line ∷ after) days → number ≡ length before + 1 → RefusesLine days number line first → RefusesText text first
-refused_text text before line after days number first read counted refused = record {
+pub refused_lines : (all before : List (List ℕ)) (line : List ℕ) (after : List (List ℕ)) (days : List Date) (number : ℕ) (first : HolidayFault)
+    → AreRead all before (line ∷ after) days → number ≡ length before + 1 → RefusesLine days number line first → RefusesLines all first
+refused_lines all before line after days number first read counted refused = record {
   before = before;
   line = line;
   after = after;

@@ -1,10 +1,13 @@
 -- A text of holidays: a date or a range of dates in a line (docs/definitions.md, "Texts"). Dates
--- are written as YYYY-MM-DD (ISO 8601); `#` begins a comment, and blanks are ignored.
-use Rattle.std.specs.Prelude.{◌≡◌, ℕ, ◌+◌, ◌≤◌, ◌<◌, ◌==◌, ◌||◌, ◌⊎◌, Bool, not, List, [], ◌∷◌, ◌++◌, length, slice_index_or, take, filter, pos, ◌+ℤ◌}
-use Rattle.std.specs.List.{position_or_len, slice_split}
+-- are written as YYYY-MM-DD (ISO 8601); `#` begins a comment, and blanks are ignored. A byte-order
+-- mark (UTF-8) at the start is skipped.
+use Rattle.std.specs.Prelude.{◌≡◌, ℕ, ◌+◌, ◌≤◌, ◌<◌, ◌==◌, ◌||◌, ◌⊎◌, Bool, not, List, [], ◌∷◌, ◌++◌, length, slice_index_or, take, drop, filter, pos, ◌+ℤ◌, ℤ, ◌↔◌, true, if◌then◌else◌}
+use Rattle.std.specs.Prelude.{nat_eq}
+use Rattle.std.specs.List.{position_or_len, slice_split, starts_with}
 use Rattle.jiff_core.specs.Date.{epoch_day}
 use Rattle.jiff_core.specs.declared.civil.date.Date.{Date}
 use Rattle.plan_calendar.specs.CalendarText.{IsStartText}
+use Rattle.plan_calendar.specs.WorkingDay.{is_holiday}
 use Rattle.plan_holidays.specs.declared.fault.HolidayFault.{HolidayFault}
 use Rattle.plan_holidays.specs.declared.fault.HolidayFault.TheVariants as fault
 
@@ -21,6 +24,11 @@ is_shown byte = not (byte == 32 || byte == 9 || byte == 13)
 -- the lines of a text, between its line feeds
 abbrev pub lines : List ℕ → List (List ℕ)
 lines text = slice_split is_line_feed text
+
+-- a text without a byte-order mark at its start
+abbrev pub without_mark : List ℕ → List ℕ
+without_mark text =
+    if starts_with nat_eq text (0xEF ∷ 0xBB ∷ 0xBF ∷ []) then drop 3 text else text
 
 -- a line before its comment
 abbrev pub before_comment : List ℕ → List ℕ
@@ -75,10 +83,39 @@ NameDays [] days = days ≡ []
 NameDays (line ∷ others) days =
     (first : List Date) × (rest : List Date) × NamesDays line first × NameDays others rest × (days ≡ first ++ rest)
 
--- a text names these holidays, at most 10,000
-pub record NamesHolidays (text : List ℕ) (days : List Date) : Type 0 where
-  pub named : NameDays (lines text) days
+-- lines name these holidays, at most 10,000
+pub record AreHolidays (all : List (List ℕ)) (days : List Date) : Type 0 where
+  pub named : NameDays all days
   pub few : length days ≤ 10000
+
+-- a text names these holidays
+abbrev pub NamesHolidays : List ℕ → List Date → Type 0
+NamesHolidays text days = AreHolidays (lines (without_mark text)) days
+
+-- a day is one of those from the first to the last date
+pub record IsWithin (first last : Date) (day : ℤ) : Type 0 where
+  pub since : ℕ
+  pub until : ℕ
+  pub after : day ≡ epoch_day first +ℤ pos since
+  pub before : epoch_day last ≡ day +ℤ pos until
+
+-- a line names a day: the line is a date or a range with that day
+abbrev pub HasDay : List ℕ → ℤ → Type 0
+HasDay line day =
+    (first : Date) × (last : Date) × IsSpan (entry line) first last × IsWithin first last day
+
+-- one of the lines names a day
+abbrev pub HaveDay : List (List ℕ) → ℤ → Type 0
+HaveDay [] day = ⊥
+HaveDay (line ∷ others) day = HasDay line day ⊎ HaveDay others day
+
+-- the days of a list are exactly those that lines name
+abbrev pub AreExactly : List (List ℕ) → List Date → Type 0
+AreExactly all days = (day : ℤ) → (is_holiday days day ≡ true) ↔ HaveDay all day
+
+-- the days of a list are exactly those that a text names
+abbrev pub AreThoseOf : List ℕ → List Date → Type 0
+AreThoseOf text days = AreExactly (lines (without_mark text)) days
 
 -- a line adds days to those before it, at most 10,000 in all
 abbrev pub AddsDays : List Date → List ℕ → List Date → Type 0
@@ -92,17 +129,21 @@ RefusesLine days number line fault.TooMany =
     (more : List Date) × NamesDays line more × (10000 < length (days ++ more))
 RefusesLine days number line fault.Memory = Unit
 
--- the first lines of a text name these days, at most 10,000, and others are after them
-pub record AreRead (text : List ℕ) (before after : List (List ℕ)) (days : List Date) : Type 0 where
-  pub split : lines text ≡ before ++ after
+-- the first of some lines name these days, at most 10,000, and others are after them
+pub record AreRead (all before after : List (List ℕ)) (days : List Date) : Type 0 where
+  pub split : all ≡ before ++ after
   pub named : NameDays before days
   pub few : length days ≤ 10000
 
--- the error of a text is that of its first line with an error; lines are counted from 1
-pub record RefusesText (text : List ℕ) (first : HolidayFault) : Type 0 where
+-- the error of lines is that of the first line with an error; lines are counted from 1
+pub record RefusesLines (all : List (List ℕ)) (first : HolidayFault) : Type 0 where
   pub before : List (List ℕ)
   pub line : List ℕ
   pub after : List (List ℕ)
   pub days : List Date
-  pub so_far : AreRead text before (line ∷ after) days
+  pub so_far : AreRead all before (line ∷ after) days
   pub refused : RefusesLine days (length before + 1) line first
+
+-- the error of a text
+abbrev pub RefusesText : List ℕ → HolidayFault → Type 0
+RefusesText text first = RefusesLines (lines (without_mark text)) first

@@ -7,7 +7,7 @@ ghost use Rattle.plan_holidays.specs.declared.fault.HolidayFault.TheVariants as 
 use crate::days::days_of;
 use crate::entries::span_of;
 use crate::fault::HolidayFault;
-use crate::lines::{cut_line, entry_of};
+use crate::lines::{cut_line, entry_of, without_mark};
 use jiff::civil::Date;
 use plan_calendar::MOST_HOLIDAYS;
 use std::alloc::Global;
@@ -47,13 +47,11 @@ fn add_line(
     Ok(())
 }
 
-/// Reads the holidays in a text. A line is a date, a range `DATE..DATE` with its last date, or
-/// blank; `#` begins a comment. Spaces, tabs and carriage returns are ignored. Dates are written
-/// `YYYY-MM-DD`, from 1900-01-01 to 2199-12-31. The days are in the order of the lines; a day may be
-/// named again. The error is that of the first line with an error.
-pub fn parse_holidays(alloc: Global, text: &[u8]) -> Result<Vec<Date>, HolidayFault>
-    ensures named { IfOk result (λ days. spec.NamesHolidays text.now days.items) }
-    ensures refused { IfErr result (spec.RefusesText text.now) }
+// Returns the days that the lines of a text name.
+fn days_in(alloc: Global, text: &[u8]) -> Result<Vec<Date>, HolidayFault>
+    ensures named { IfOk result (λ days. spec.AreHolidays (spec.lines text.now) days.items) }
+    ensures exact { IfOk result (λ days. spec.AreExactly (spec.lines text.now) days.items) }
+    ensures refused { IfErr result (spec.RefusesLines (spec.lines text.now)) }
 {
     let mut days = Vec::new(alloc);
     let mut number = 0;
@@ -65,4 +63,18 @@ pub fn parse_holidays(alloc: Global, text: &[u8]) -> Result<Vec<Date>, HolidayFa
         rest = others;
     }
     Ok(days)
+}
+
+/// Reads the holidays in a text. A line is a date, a range `DATE..DATE` with its last date, or
+/// blank; `#` begins a comment. Spaces, tabs, carriage returns and a byte-order mark at the start
+/// are ignored. Dates are written `YYYY-MM-DD`, from 1900-01-01 to 2199-12-31. The days are in the
+/// order of the lines; a day may be named again. The error is that of the first line with an error.
+pub fn parse_holidays(alloc: Global, text: &[u8]) -> Result<Vec<Date>, HolidayFault>
+    // The days of the lines, one line after the other.
+    ensures named { IfOk result (λ days. spec.NamesHolidays text.now days.items) }
+    // A day is among them exactly if a line of the text names it.
+    ensures exact { IfOk result (λ days. spec.AreThoseOf text.now days.items) }
+    ensures refused { IfErr result (spec.RefusesText text.now) }
+{
+    days_in(alloc, without_mark(text))
 }

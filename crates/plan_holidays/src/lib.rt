@@ -6,6 +6,8 @@ mod entries;
 mod fault;
 mod holidays;
 mod lines;
+mod weekdays;
 
 pub use fault::HolidayFault;
 pub use holidays::parse_holidays;
+pub use weekdays::weekday_digits;

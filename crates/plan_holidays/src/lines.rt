@@ -7,6 +7,17 @@ ghost use Rattle.plan_holidays.specs.Rest.{rest_lines, rest_size};
 
 use std::alloc::{AllocError, Global};
 
+/// Returns a text without a byte-order mark at its start.
+pub fn without_mark(text: &[u8]) -> &[u8]
+    ensures { result.now ≡ spec.without_mark text.now }
+{
+    if text.starts_with(b"\xef\xbb\xbf") {
+        &text[3..]
+    } else {
+        text
+    }
+}
+
 // Returns the index of the first line feed.
 fn first_line_feed(text: &[u8]) -> Option<usize>
     ensures { result ≡ position spec.is_line_feed text.now }
