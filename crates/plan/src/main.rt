@@ -308,7 +308,8 @@ fn print_misuse<R: Eprint>(rt: &R, what: &str) -> u8 {
 // Prints the error of a text that gives no capacity, and returns the status of usage.
 fn print_bad_capacity(rt: &HostRuntime, text: &str) -> u8 {
     let _ = eprintln!(rt;
-        "error: invalid value '{text}' for '--capacity <NAME=N>': N is a number from 0 to 10000\n\nFor more information, try '--help'."
+        "error: invalid value '{text}' for '--capacity <NAME=N>': N is a number from 0 to 10000\n\n\
+        For more information, try '--help'."
     );
     2
 }

@@ -1,4 +1,5 @@
--- Tasks on a project or a job shop and a list of starts, each in a file (docs/definitions.md, "Runs").
+-- Tasks on a project or a job shop and a list of starts, each in a file (docs/definitions.md,
+-- "Runs").
 use Rattle.std.specs.Prelude.{◌≡◌, ℕ, ◌+◌, ◌≤◌, List, Option, Result, Err, length}
 use Rattle.plan_psplib.specs.Plain.{longest_text}
 use Rattle.plan_cli.specs.Tasks.{AreRead, DoesTask}

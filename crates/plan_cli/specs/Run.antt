@@ -1,6 +1,6 @@
 -- The output of a command for the bytes that it reads (docs/definitions.md, "Runs").
-use Rattle.std.specs.Prelude.{◌≡◌, ◌⊎◌, ℕ, ◌+◌, ◌≤◌, List, Option, Result, Err, String, IfSome, IfOk}
-use Rattle.std.specs.Prelude.{IfErr, IsErrOf, OnOk, length, take, string_bytes}
+use Rattle.std.specs.Prelude.{◌≡◌, ◌⊎◌, ℕ, ◌+◌, ◌≤◌, List, Option, Result, Err, String}
+use Rattle.std.specs.Prelude.{IfSome, IfOk, IfErr, IsErrOf, OnOk, length, take, string_bytes}
 use Rattle.std.specs.Global.{Global}
 use Rattle.std.specs.Io.KnownBytes.{Consumes}
 use Rattle.plan_io.specs.declared.traits.Sink as sinks

@@ -72,10 +72,10 @@ fn planned_text(
     capacities: &[u64],
 ) -> Result<String, CliFault>
     requires { length capacities.now ≡ length project.now.available }
-    ensures made { IfText result (spec.IsDaysFrom origin.entry dates.entry.start.now dates.entry.marks.now
-        (planned project.now capacities.now)) }
-    ensures refused { IfErr result (Refuses (spec.TellsNoDaysFrom
-        origin.entry dates.entry.start.now dates.entry.marks.now (planned project.now capacities.now))) }
+    ensures made { IfText result (spec.IsDaysFrom origin.entry
+        dates.entry.start.now dates.entry.marks.now (planned project.now capacities.now)) }
+    ensures refused { IfErr result (Refuses (spec.TellsNoDaysFrom origin.entry
+        dates.entry.start.now dates.entry.marks.now (planned project.now capacities.now))) }
 {
     let schedule = schedule_from(alloc, origin, project, capacities)?;
     let calendar = calendar_of(alloc, dates.start, dates.marks)?;

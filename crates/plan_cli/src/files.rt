@@ -62,8 +62,8 @@ fn read_named<I: Inputs>(alloc: Global, inputs: &I, name: &str) -> Result<Vec<u8
     read_file(alloc, &mut inputs.open(name)?)
 }
 
-/// Runs a task on a project's file and a file of starts, one of which may be `-` for standard input.
-/// The file of the starts is read first. A file that can't be opened or read is
+/// Runs a task on the file of a project or a job shop and a file of starts. One name may be `-` for
+/// standard input. The file of the starts is read first. A file that can't be opened or read is
 /// [`CliFault::Input`].
 pub fn listed_on_named<I: Inputs, W: Sink>(
     alloc: Global,

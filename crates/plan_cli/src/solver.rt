@@ -111,9 +111,9 @@ fn project_text<V: SolveWatcher, L: Log>(
     planned_text(alloc, conflicts, project, &capacities, watcher, log)
 }
 
-/// Returns the solution of the project in a file, with the given capacities in place of those of the
-/// file. The watcher is called during the search, and can stop it. The log gets
-/// what the search proves.
+/// Returns the solution of the project in a file, with the given capacities in place of those of
+/// the file. The watcher is called during the search, and can stop it. The log gets what the search
+/// proves.
 pub(crate) fn solution_text<V: SolveWatcher, L: Log>(
     alloc: Global,
     conflicts: u64,
@@ -129,7 +129,8 @@ pub(crate) fn solution_text<V: SolveWatcher, L: Log>(
     project_text(alloc, conflicts, given, &project, watcher, log)
 }
 
-// Returns the solution of a job shop that searches in turns find, each of at most so many conflicts.
+// Returns the solution of a job shop that searches in turns find. Each turn has at most so many
+// conflicts.
 #[tactic(auto, using(crate::proofs::TurnLemmas::solved_by_proof))]
 fn solved_shop_text<V: ProofWatcher + SolveWatcher>(
     alloc: Global,

@@ -23,8 +23,8 @@ pub enum FileOrder<'a> {
     Task(Task<'a>, &'a str),
     /// The same, with a line of progress if standard error is a terminal.
     Watched(Task<'a>, &'a str),
-    /// A task of `solve` on the file with this name, with a time limit in seconds if there is one. What
-    /// it proves is written to the file with the name `log` if there is one.
+    /// A task of `solve` on the file with this name, with a time limit in seconds if there is one.
+    /// What it proves is written to the file with the name `log` if there is one.
     Solve {
         task: Task<'a>,
         file: &'a str,
