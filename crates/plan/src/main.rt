@@ -9,12 +9,14 @@ use self::progress::ProgressLine;
 use clap::Error;
 use clap::error::ErrorKind;
 use plan_cli::{
-    CliFault, FileOrder, ListedTask, Log, OfficeOrder, Order, ProofWatcher, Rows, SolveWatcher,
-    Task, Unlogged, Unwatched, capacities_of, command, explain_run, help, hint, listed_on_files,
-    order_of, overrides_of, run_on_file, template_run,
+    CliFault, ListedTask, Log, ProofWatcher, Rows, SolveWatcher, Task, Unlogged, Unwatched,
+    explain_run, hint, listed_on_files, run_on_file, template_run,
 };
 use plan_formats::{Format, error_json};
 use plan_io::{MemSink, StdSink, write_whole};
+use plan_orders::{
+    FileOrder, OfficeOrder, Order, capacities_of, command, help, order_of, overrides_of,
+};
 use plan_serve::{
     ServeFault, Service, Target, check_office_on_file, init_on_file, replay_on_files, serve_on_port,
 };
@@ -306,7 +308,8 @@ fn print_misuse<R: Eprint>(rt: &R, what: &str) -> u8 {
 // Prints the error of a text that gives no capacity, and returns the status of usage.
 fn print_bad_capacity(rt: &HostRuntime, text: &str) -> u8 {
     let _ = eprintln!(rt;
-        "error: invalid value '{text}' for '--capacity <NAME=N>': N is a number from 0 to 10000\n\nFor more information, try '--help'."
+        "error: invalid value '{text}' for '--capacity <NAME=N>': N is a number from 0 to 10000\n\n\
+        For more information, try '--help'."
     );
     2
 }

@@ -57,8 +57,8 @@ impl<'a> ProgressLine<'a> {
         self.last = seconds;
     }
 
-    // Whether the time limit has passed. A search with a time limit stops at once if the clock can't
-    // be read.
+    // Whether the time limit has passed. A search with a time limit stops at once if the clock
+    // can't be read.
     fn is_past_limit(&self) -> bool {
         let Some(limit) = self.limit else {
             return false;

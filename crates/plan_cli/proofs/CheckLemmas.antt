@@ -4,8 +4,8 @@ use Rattle.std.specs.Prelude.{IfErr}
 use Rattle.plan_net.specs.Network.{Net}
 use Rattle.plan_sgs.specs.Problem.{NeedsFit}
 use Rattle.plan_sgs.specs.Instances.{Planned, problem_of}
-use Rattle.plan_cli.specs.declared.fault.CliFault.{CliFault}
-use Rattle.plan_cli.specs.Run.{Refuses}
+use Rattle.plan_errors.specs.declared.fault.CliFault.{CliFault}
+use Rattle.plan_errors.specs.Output.{Refuses}
 use Rattle.plan_shop.specs.Shop.{JobShop}
 use Rattle.plan_report.specs.StartsText.{activity_sheet, step_sheet}
 use Rattle.plan_cli.specs.Starts.{TellsNoStarts}

@@ -8,8 +8,8 @@ use Rattle.plan_calendar.specs.WorkingDay.{Workdays}
 use Rattle.plan_calendar.specs.CalendarText.{IsCalendar}
 use Rattle.plan_gantt.specs.CalendarTable.{IsCalendarTable, HasActivityBeyond}
 use Rattle.plan_gantt.specs.ShopCharts.{IsShopCalendarTable, HasStepBeyond}
-use Rattle.plan_cli.specs.declared.fault.CliFault.{CliFault}
-use Rattle.plan_cli.specs.Run.{Refuses}
+use Rattle.plan_errors.specs.declared.fault.CliFault.{CliFault}
+use Rattle.plan_errors.specs.Output.{Refuses}
 use Rattle.plan_cli.specs.declared.origins.Origin.{Origin}
 use Rattle.plan_cli.specs.Scheduled.{IsMadeFrom, IsMadeOfShopFrom}
 use Rattle.plan_cli.specs.DaysRun.{TellsNoCalendar, TellsBeyond, IsDaysFrom, IsShopDaysFrom, TellsNoDaysFrom, TellsNoShopDaysFrom}

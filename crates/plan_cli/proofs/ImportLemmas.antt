@@ -6,8 +6,8 @@ use Rattle.plan_table.specs.Overrides.{Override}
 use Rattle.plan_table.specs.Reading.{fault_of}
 use Rattle.plan_table.specs.Refused.{IsRefusedWith}
 use Rattle.plan_table.specs.ShopReading.{shop_table_read}
-use Rattle.plan_cli.specs.declared.fault.CliFault.{CliFault}
-use Rattle.plan_cli.specs.Run.{Refuses}
+use Rattle.plan_errors.specs.declared.fault.CliFault.{CliFault}
+use Rattle.plan_errors.specs.Output.{Refuses}
 use Rattle.plan_cli.specs.ImportRun.{TellsTable, TellsNoTable, TellsNoOrders}
 use Rattle.plan_cli.proofs.RunLemmas.{refuses_as}
 

@@ -3,8 +3,8 @@ use Rattle.std.proofs.Common.{◌≡◌, ◌⊎◌, inl, inr, true, false, ℕ, 
 use Rattle.std.specs.Prelude.{IfSome, IfOk, bytes_eq, codes}
 use Rattle.std.specs.Global.{Global}
 use Rattle.plan_psplib.specs.Plain.{longest_text}
-use Rattle.plan_cli.specs.declared.fault.CliFault.{CliFault}
-use Rattle.plan_cli.specs.declared.fault.CliFault.TheVariants as cli
+use Rattle.plan_errors.specs.declared.fault.CliFault.{CliFault}
+use Rattle.plan_errors.specs.declared.fault.CliFault.TheVariants as cli
 use Rattle.plan_cli.specs.declared.tasks.Task.{Task}
 use Rattle.plan_cli.specs.declared.tasks.Rows.{Rows}
 use Rattle.plan_cli.specs.Run.{ReadsFront}

@@ -9,5 +9,4 @@ pub mod TurnLemmas
 pub mod DaysLemmas
 pub mod CheckLemmas
 pub mod InputLemmas
-pub mod CodeLemmas
 pub mod ImportLemmas

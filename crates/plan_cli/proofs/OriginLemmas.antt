@@ -6,8 +6,8 @@ use Rattle.plan_sgs.specs.Instances.{Planned, problem_of}
 use Rattle.plan_sgs.specs.Placement.{greatest_end}
 use Rattle.plan_sgs.specs.Problem.{makespan}
 use Rattle.plan_sgs.specs.declared.schedule.Schedule.{Schedule}
-use Rattle.plan_cli.specs.declared.fault.CliFault.{CliFault}
-use Rattle.plan_cli.specs.Run.{Refuses}
+use Rattle.plan_errors.specs.declared.fault.CliFault.{CliFault}
+use Rattle.plan_errors.specs.Output.{Refuses}
 use Rattle.plan_shop.specs.Shop.{JobShop, count_steps}
 use Rattle.plan_shop.specs.Shop as shops
 use Rattle.plan_gantt.specs.Limits.{latest_end}

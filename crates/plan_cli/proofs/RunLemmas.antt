@@ -49,9 +49,10 @@ use Rattle.plan_cli.specs.declared.tasks.Rows.TheVariants as rows
 use Rattle.plan_cli.specs.declared.tasks.Task.{Task}
 use Rattle.plan_cli.specs.declared.tasks.Task.TheVariants as task
 use Rattle.plan_cli.specs.ScheduleRun.{TellsNeed}
-use Rattle.plan_cli.specs.declared.fault.CliFault.{CliFault}
-use Rattle.plan_cli.specs.declared.fault.CliFault.TheVariants as cli
-use Rattle.plan_cli.specs.Run.{IsDateTableOf, Writes, JudgesFront, ReadsFront, Refuses, Tells, Sends}
+use Rattle.plan_errors.specs.declared.fault.CliFault.{CliFault}
+use Rattle.plan_errors.specs.declared.fault.CliFault.TheVariants as cli
+use Rattle.plan_errors.specs.Output.{Writes, Refuses, Sends}
+use Rattle.plan_cli.specs.Run.{IsDateTableOf, JudgesFront, ReadsFront, Tells}
 
 -- a refusal by lines of one kind is one by lines of another kind that has them too
 pub refuses_as : (IsLine IsOther : List ℕ → Type 0) (e : CliFault)

@@ -7,8 +7,8 @@ use Rattle.plan_report.specs.Slack.{RefusesSlack}
 use Rattle.plan_report.specs.SlackText.{IsSlackText}
 use Rattle.plan_report.specs.StartsText.{SaysStarts, activity_sheet}
 use Rattle.plan_report.specs.declared.slack.SlackFault.{SlackFault}
-use Rattle.plan_cli.specs.declared.fault.CliFault.{CliFault}
-use Rattle.plan_cli.specs.Run.{Refuses}
+use Rattle.plan_errors.specs.declared.fault.CliFault.{CliFault}
+use Rattle.plan_errors.specs.Output.{Refuses}
 use Rattle.plan_cli.specs.SlackRun.{IsSlackOf, TellsSlackFault, TellsBadSlack, TellsNoSlack}
 use Rattle.plan_cli.proofs.RunLemmas.{refuses_as}
 

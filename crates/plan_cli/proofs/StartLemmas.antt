@@ -8,8 +8,8 @@ use Rattle.plan_psplib.specs.Faults.{TellsError}
 use Rattle.plan_psplib.specs.Tokens.{Fails}
 use Rattle.plan_report.specs.Sheet.{Sheet}
 use Rattle.plan_report.specs.StartsText.{starts_in}
-use Rattle.plan_cli.specs.declared.fault.CliFault.{CliFault}
-use Rattle.plan_cli.specs.Run.{Refuses}
+use Rattle.plan_errors.specs.declared.fault.CliFault.{CliFault}
+use Rattle.plan_errors.specs.Output.{Refuses}
 use Rattle.plan_cli.specs.Starts.{TellsStarts, TellsNoStarts}
 use Rattle.plan_cli.proofs.RunLemmas.{refuses_as}
 

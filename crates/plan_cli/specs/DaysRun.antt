@@ -11,7 +11,8 @@ use Rattle.plan_calendar.specs.declared.calendar.CalendarFault.{CalendarFault}
 use Rattle.plan_calendar.specs.declared.calendar.CalendarFault.TheVariants as fault
 use Rattle.plan_gantt.specs.declared.days.DaysFault.{DaysFault}
 use Rattle.plan_gantt.specs.declared.days.DaysFault.TheVariants as days
-use Rattle.plan_cli.specs.Scheduled.{IsScheduleFrom, TellsNotMade, IsShopScheduleFrom, TellsShopNotMade}
+use Rattle.plan_cli.specs.Scheduled.{IsScheduleFrom, TellsNotMade}
+use Rattle.plan_cli.specs.Scheduled.{IsShopScheduleFrom, TellsShopNotMade}
 use Rattle.plan_cli.specs.declared.origins.Origin.{Origin}
 
 -- a text shows days of the calendar that two texts spell: its first date and its marks
@@ -43,13 +44,15 @@ TellsDaysFault first line =
     (first ≡ days.BeyondCalendar) × (line ≡ calendar_fault_text_of fault.BeyondCalendar)
 
 -- a text is the table of working days of an instance's schedule
-pub record IsDaysFrom (from : Origin) (start marks : List ℕ) (i : Planned) (text : List ℕ) : Type 0 where
+pub record IsDaysFrom (from : Origin) (start marks : List ℕ) (i : Planned) (text : List ℕ)
+    : Type 0 where
   pub starts : List ℕ
   pub schedule : IsScheduleFrom from i starts
   pub shown : ShowsDays start marks (λ c. IsCalendarTable c i.project.network starts) text
 
 -- a line refuses the days of an instance's schedule, by its schedule
-pub record HidesDays (from : Origin) (start marks : List ℕ) (i : Planned) (line : List ℕ) : Type 0 where
+pub record HidesDays (from : Origin) (start marks : List ℕ) (i : Planned) (line : List ℕ)
+    : Type 0 where
   pub starts : List ℕ
   pub schedule : IsScheduleFrom from i starts
   pub hidden : TellsNoDays start marks (λ c. HasActivityBeyond c i.project.network starts) line
@@ -60,13 +63,15 @@ TellsNoDaysFrom from start marks i line =
     TellsNotMade from i line ⊎ HidesDays from start marks i line
 
 -- a text is the table of working days of a shop's schedule
-pub record IsShopDaysFrom (from : Origin) (start marks : List ℕ) (s : JobShop) (text : List ℕ) : Type 0 where
+pub record IsShopDaysFrom (from : Origin) (start marks : List ℕ) (s : JobShop) (text : List ℕ)
+    : Type 0 where
   pub starts : List ℕ
   pub schedule : IsShopScheduleFrom from s starts
   pub shown : ShowsDays start marks (λ c. IsShopCalendarTable c s starts) text
 
 -- a line refuses the days of a shop's schedule, by its schedule
-pub record HidesShopDays (from : Origin) (start marks : List ℕ) (s : JobShop) (line : List ℕ) : Type 0 where
+pub record HidesShopDays (from : Origin) (start marks : List ℕ) (s : JobShop) (line : List ℕ)
+    : Type 0 where
   pub starts : List ℕ
   pub schedule : IsShopScheduleFrom from s starts
   pub hidden : TellsNoDays start marks (λ c. HasStepBeyond c s starts) line

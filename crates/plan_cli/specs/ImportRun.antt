@@ -29,7 +29,8 @@ pub record IsProjectFile (t : Table) (text : List ℕ) : Type 0 where
 
 -- a text is the project file of the table in a file, with capacities that are given
 abbrev pub IsImportOf : List Override → List ℕ → List ℕ → Type 0
-IsImportOf given file text = (t : Table) × (table_read_with given file ≡ Ok t) × IsProjectFile t text
+IsImportOf given file text =
+    (t : Table) × (table_read_with given file ≡ Ok t) × IsProjectFile t text
 
 -- a line gives the first check that a table fails, or else its cycle
 abbrev pub TellsNoTable : List Override → List ℕ → List ℕ → Type 0

@@ -1,5 +1,4 @@
 pub mod Capacities
-pub mod Faults
 pub mod Run
 pub mod Plans
 pub mod ScheduleRun
@@ -9,6 +8,11 @@ pub mod ListedTasks
 pub use Rattle.plan_net.specs.Network
 pub use Rattle.plan_cpm.specs.Dates
 pub use Rattle.plan_io.specs.Devices
+pub use Rattle.plan_errors.specs.Faults
+pub use Rattle.plan_errors.specs.Output
+pub use Rattle.plan_errors.specs.Codes
+pub use Rattle.plan_errors.specs.ExplainRun
+pub use Rattle.plan_errors.specs.HintText
 pub use Rattle.plan_psplib.specs.Document
 pub use Rattle.plan_psplib.specs.Plain
 pub use Rattle.plan_psplib.specs.Project
@@ -37,9 +41,6 @@ pub mod VerdictText
 pub mod CheckRun
 pub mod SlackRun
 pub mod FormattedText
-pub mod Codes
-pub mod ExplainRun
-pub mod HintText
 pub mod TableFaultText
 pub mod ImportRun
 pub mod RowNames

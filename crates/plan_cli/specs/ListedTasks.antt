@@ -1,9 +1,10 @@
--- Tasks on a project or a job shop and a list of starts, each in a file (docs/definitions.md, "Runs").
+-- Tasks on a project or a job shop and a list of starts, each in a file (docs/definitions.md,
+-- "Runs").
 use Rattle.std.specs.Prelude.{◌≡◌, ℕ, ◌+◌, ◌≤◌, List, Option, Result, Err, length}
 use Rattle.plan_psplib.specs.Plain.{longest_text}
 use Rattle.plan_cli.specs.Tasks.{AreRead, DoesTask}
-use Rattle.plan_cli.specs.declared.fault.CliFault.{CliFault}
-use Rattle.plan_cli.specs.declared.fault.CliFault.TheVariants as fault
+use Rattle.plan_errors.specs.declared.fault.CliFault.{CliFault}
+use Rattle.plan_errors.specs.declared.fault.CliFault.TheVariants as fault
 use Rattle.plan_cli.specs.declared.listed_tasks.ListedTask.{ListedTask}
 use Rattle.plan_cli.specs.declared.listed_tasks.ListedTask.TheVariants as listed
 use Rattle.plan_cli.specs.declared.origins.Origin.TheVariants as origin

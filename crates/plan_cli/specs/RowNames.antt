@@ -1,6 +1,7 @@
 -- Rows with names: a last column of a table, or the names behind the lines of a chart
 -- (docs/definitions.md, "Runs").
-use Rattle.std.specs.Prelude.{ℕ, ◌||◌, ◌-◌, Bool, false, if◌then◌else◌, List, [], ◌∷◌, ◌++◌, Option, Some, None}
+use Rattle.std.specs.Prelude.{ℕ, ◌||◌, ◌-◌, Bool, false, if◌then◌else◌, List, [], ◌∷◌, ◌++◌}
+use Rattle.std.specs.Prelude.{Option, Some, None}
 use Rattle.std.specs.Prelude.{codes, bytes_eq, length, take, fold, max, replicate, is_some}
 use Rattle.std.specs.List.{flat_map, slice_split}
 use Rattle.std.specs.Option.{option_map}

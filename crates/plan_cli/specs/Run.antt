@@ -1,20 +1,20 @@
 -- The output of a command for the bytes that it reads (docs/definitions.md, "Runs").
-use Rattle.std.specs.Prelude.{◌≡◌, ◌⊎◌, ℕ, ◌+◌, ◌≤◌, ◌<◌, List, Option, Result, Ok, Err}
-use Rattle.std.specs.Prelude.{String, IfSome, IfOk, IfErr, IsErrOf, OnOk, length, take}
-use Rattle.std.specs.Prelude.{string_bytes}
+use Rattle.std.specs.Prelude.{◌≡◌, ◌⊎◌, ℕ, ◌+◌, ◌≤◌, List, Option, Result, Err, String}
+use Rattle.std.specs.Prelude.{IfSome, IfOk, IfErr, IsErrOf, OnOk, length, take, string_bytes}
 use Rattle.std.specs.Global.{Global}
-use Rattle.std.specs.Io.KnownBytes.{Consumes, Appends}
+use Rattle.std.specs.Io.KnownBytes.{Consumes}
 use Rattle.plan_io.specs.declared.traits.Sink as sinks
 use Rattle.plan_io.specs.declared.traits.Source as sources
 use Rattle.plan_psplib.specs.declared.text.fault.FileCode.TheVariants as code
 use Rattle.plan_psplib.specs.declared.text.fault.FileFault.{FileFault}
-use Rattle.plan_io.specs.Devices.{most_calls, HasFailed}
+use Rattle.plan_io.specs.Devices.{most_calls}
 use Rattle.plan_psplib.specs.Plain.{longest_text}
 use Rattle.plan_psplib.specs.Project.{Project, SaysProject}
 use Rattle.plan_gantt.specs.DateTable.{IsDateText}
 use Rattle.plan_gantt.specs.FaultText.{file_fault_text_of}
-use Rattle.plan_cli.specs.declared.fault.CliFault.{CliFault}
-use Rattle.plan_cli.specs.declared.fault.CliFault.TheVariants as fault
+use Rattle.plan_errors.specs.declared.fault.CliFault.{CliFault}
+use Rattle.plan_errors.specs.declared.fault.CliFault.TheVariants as fault
+use Rattle.plan_errors.specs.Output.{HasSinkFailed, Writes}
 
 -- a call that makes a text makes one of this kind
 abbrev pub IfText : Result (String Global) CliFault → (List ℕ → Type 0) → Type 0
@@ -23,19 +23,6 @@ IfText result IsText = IfOk result (λ text. IsText (string_bytes text))
 -- a text is the date table of the project in a file
 abbrev pub IsDateTableOf : List ℕ → List ℕ → Type 0
 IsDateTableOf file text = (p : Project) × SaysProject file p × IsDateText p.network text
-
--- The bytes that a sink has taken after a run: the whole text. It has taken nothing if the file or
--- an argument is refused, memory runs out or the input fails. It has taken a shorter front of the
--- text if the output fails.
-abbrev pub Writes : (List ℕ → Type 0) → (List ℕ → Type 0) → Option (List ℕ) → Option (List ℕ)
-    → Result (Unit {0}) CliFault → Type 0
-Writes IsText IsLine taken after (Ok _) = (text : List ℕ) × IsText text × Appends taken after text
-Writes IsText IsLine taken after (Err (fault.Refused line)) =
-    IsLine (string_bytes line) × (after ≡ taken)
-Writes IsText IsLine taken after (Err fault.Memory) = after ≡ taken
-Writes IsText IsLine taken after (Err fault.Input) = after ≡ taken
-Writes IsText IsLine taken after (Err fault.Output) =
-    (text : List ℕ) × (n : ℕ) × IsText text × (n < length text) × Appends taken after (take n text)
 
 -- a run read some bytes, at most one more than the longest text has, and this holds for them
 abbrev pub JudgesFront : Option (List ℕ) → Option (List ℕ) → (List ℕ → Type 0) → Type 0
@@ -53,29 +40,9 @@ ReadsFront IsText IsLine remaining rest taken after (Err fault.Input) = Unit {0}
 ReadsFront IsText IsLine remaining rest taken after result =
     JudgesFront remaining rest (λ front. Writes (IsText front) (IsLine front) taken after result)
 
--- a command refuses a file by such a line, or memory runs out
-abbrev pub Refuses : (List ℕ → Type 0) → CliFault → Type 0
-Refuses IsLine (fault.Refused line) = IsLine (string_bytes line)
-Refuses IsLine fault.Memory = Unit {0}
-Refuses IsLine fault.Input = ⊥
-Refuses IsLine fault.Output = ⊥
-
 -- a line gives the error of a file, which isn't that of memory
 abbrev pub Tells : FileFault → List ℕ → Type 0
 Tells first line = (first.code ≡ code.Memory → ⊥) × (line ≡ file_fault_text_of first)
-
--- a sink takes a whole text, or a front of it if the output fails
-abbrev pub Sends : List ℕ → Option (List ℕ) → Option (List ℕ) → Result (Unit {0}) CliFault → Type 0
-Sends text taken after (Ok _) = Appends taken after text
-Sends text taken after (Err fault.Output) =
-    (n : ℕ) × (n < length text) × Appends taken after (take n text)
-Sends text taken after (Err _) = ⊥
-
--- a call of a sink failed, or the limit of calls was reached
-module _ {W : Type 0} (sink : sinks.Ghosts W) where
-  abbrev pub HasSinkFailed : W → W → Type 0
-  HasSinkFailed writer after =
-      HasFailed (sink.calls writer) (sink.calls after) (sink.faults writer) (sink.faults after)
 
 -- The effect of a run on its reader and its writer. IsText relates a file to the texts that are
 -- written for it, IsLine to the lines that refuse it.

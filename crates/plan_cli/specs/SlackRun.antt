@@ -12,7 +12,8 @@ use Rattle.plan_cli.specs.CheckRun.{TellsBadStarts}
 
 -- a text is the table of slacks of the schedule with the starts in a text
 abbrev pub IsSlackOf : List ℕ → Planned → List ℕ → Type 0
-IsSlackOf listed i text = (starts : List ℕ) × SaysStarts (activity_sheet i.project.network) listed starts
+IsSlackOf listed i text =
+    (starts : List ℕ) × SaysStarts (activity_sheet i.project.network) listed starts
     × IsSlackText i starts text
 
 -- a line gives the reason why starts have no slack
@@ -26,7 +27,8 @@ TellsSlackFault slack.Late line = line ≡ codes "S9 late"
 abbrev pub TellsBadSlack : List ℕ → Planned → List ℕ → Type 0
 TellsBadSlack listed i line = TellsBadStarts listed i line
     ⊎ ((starts : List ℕ) × SaysStarts (activity_sheet i.project.network) listed starts
-    × ((first : SlackFault) × RefusesSlack (problem_of i) starts first × TellsSlackFault first line))
+    × ((first : SlackFault) × RefusesSlack (problem_of i) starts first
+    × TellsSlackFault first line))
 
 -- the same, behind a need that is above its capacity
 abbrev pub TellsNoSlack : List ℕ → Planned → List ℕ → Type 0

@@ -8,8 +8,8 @@ use Rattle.plan_orlib.specs.ShopText.{FailsWith}
 use Rattle.plan_gantt.specs.FaultText.{file_fault_text_of}
 use Rattle.plan_report.specs.Sheet.{Sheet}
 use Rattle.plan_report.specs.StartsText.{starts_in}
-use Rattle.plan_cli.specs.declared.fault.CliFault.{CliFault}
-use Rattle.plan_cli.specs.Run.{Refuses}
+use Rattle.plan_errors.specs.declared.fault.CliFault.{CliFault}
+use Rattle.plan_errors.specs.Output.{Refuses}
 
 -- the line of the first check that a text of starts fails
 abbrev pub starts_fault_text_of : FileFault → List ℕ

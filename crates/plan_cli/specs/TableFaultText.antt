@@ -23,7 +23,8 @@ line_by code.NoDuration line word = codes "T3 no column " ++ column_named word
 line_by code.ColumnTwice line word = codes "T4 column " ++ word ++ codes " twice"
 line_by code.BadDuration line word = lined (codes "T5 line ") line (codes " duration")
 line_by code.BadId line word = lined (codes "T6 line ") line (codes " id")
-line_by code.IdTwice line word = lined (codes "T7 line ") line (codes " id " ++ word ++ codes " twice")
+line_by code.IdTwice line word =
+    lined (codes "T7 line ") line (codes " id " ++ word ++ codes " twice")
 line_by code.NoSuchId line word = lined (codes "T8 line ") line (codes " predecessor " ++ word)
 line_by code.BadNeed line word = lined (codes "T9 line ") line (codes " need " ++ word)
 line_by code.NoCapacity line word = codes "T10 no capacity " ++ word

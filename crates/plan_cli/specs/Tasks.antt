@@ -1,6 +1,7 @@
 -- The texts and lines of each task, and files that are given by their names (docs/definitions.md,
 -- "Runs").
-use Rattle.std.specs.Prelude.{◌≡◌, ℕ, ◌+◌, ◌≤◌, List, [], Option, Result, Err, IfSome, length, take, map}
+use Rattle.std.specs.Prelude.{◌≡◌, ℕ, ◌+◌, ◌≤◌, List, [], Option, Result, Err, IfSome, length}
+use Rattle.std.specs.Prelude.{take, map}
 use Rattle.std.specs.Prelude.{codes, bytes_eq, if◌then◌else◌}
 use Rattle.plan_gantt.specs.FirstFaults.{TellsFirstFailing, TellsFirstShopFault}
 use Rattle.plan_gantt.specs.ScheduleText.{IsScheduleTextOf, TellsRefusal}
@@ -13,7 +14,8 @@ use Rattle.plan_cli.specs.SlackRun.{IsSlackOf, TellsNoSlack}
 use Rattle.plan_cli.specs.FormattedText.{formatted}
 use Rattle.plan_formats.specs.declared.format.Format.{Format}
 use Rattle.plan_cli.specs.NamesRun.{AreNamesOf, TellsNotPlain}
-use Rattle.plan_cli.specs.CheckRun.{IsVerdictOf, TellsWhyNoVerdict, IsShopVerdictOf, TellsWhyNoShopVerdict}
+use Rattle.plan_cli.specs.CheckRun.{IsVerdictOf, TellsWhyNoVerdict}
+use Rattle.plan_cli.specs.CheckRun.{IsShopVerdictOf, TellsWhyNoShopVerdict}
 use Rattle.plan_cli.specs.ShopRun.{IsShopTableOf, TellsWhyNoShop}
 use Rattle.plan_cli.specs.BestRun.{IsBestTableOf, TellsWhyNoBest}
 use Rattle.plan_cli.specs.ProveRun.{IsProofTableOf, TellsWhyNoProof}
@@ -30,8 +32,8 @@ use Rattle.plan_cli.specs.declared.tasks.Rows.TheVariants as rows
 use Rattle.plan_cli.specs.declared.tasks.Task.{Task}
 use Rattle.plan_cli.specs.declared.tasks.Task.TheVariants as task
 use Rattle.plan_psplib.specs.Plain.{longest_text}
-use Rattle.plan_cli.specs.declared.fault.CliFault.{CliFault}
-use Rattle.plan_cli.specs.declared.fault.CliFault.TheVariants as fault
+use Rattle.plan_errors.specs.declared.fault.CliFault.{CliFault}
+use Rattle.plan_errors.specs.declared.fault.CliFault.TheVariants as fault
 
 -- the texts that a task writes for a file
 abbrev pub IsTextOf : Task → List ℕ → List ℕ → Type 0
@@ -73,7 +75,8 @@ IsLineOf (task.Slack starts given) = RefusesFile given.now (TellsNoSlack starts.
 IsLineOf (task.Shop rule instance) = TellsWhyNoShop rule.now instance.now
 IsLineOf (task.Best budget instance) = TellsWhyNoBest budget.now instance.now
 IsLineOf (task.Prove nodes instance) = TellsWhyNoProof nodes.now instance.now
-IsLineOf (task.BestProject budget given) = RefusesFile given.now (TellsBestProjectRefusal budget.now)
+IsLineOf (task.BestProject budget given) =
+    RefusesFile given.now (TellsBestProjectRefusal budget.now)
 IsLineOf (task.Solve conflicts capacities) = TellsWhyNotSolved capacities.now
 IsLineOf (task.SolveShop conflicts instance) = TellsFirstShopFault instance.now
 IsLineOf (task.Import given) = TellsNoImport (map override_of given.now)

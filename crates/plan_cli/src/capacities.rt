@@ -2,10 +2,10 @@
 
 ghost use Rattle.std.specs.Prelude.{◌≡◌, ◌+◌, ◌<◌, ℕ, true, false, codes, length};
 ghost use Rattle.std.specs.Prelude.{IfOk, IfErr, IfSome, IfNone};
-ghost use Rattle.plan_cli.specs.Run.{Refuses};
+ghost use Rattle.plan_errors.specs.Output.{Refuses};
 ghost use Rattle.plan_cli.specs.Capacities as spec;
 
-use crate::fault::{CliFault, refusal_by};
+use plan_errors::{CliFault, refusal_by};
 use std::alloc::{AllocError, Global};
 use std::fmt::Write;
 

@@ -3,17 +3,18 @@
 ghost use Rattle.std.specs.Prelude.{◌≡◌, IfErr, length};
 ghost use Rattle.plan_sgs.specs.Instances.{planned};
 ghost use Rattle.plan_shop.specs.Docs.{shop_of};
-ghost use Rattle.plan_cli.specs.Run.{IfText, Refuses};
+ghost use Rattle.plan_errors.specs.Output.{Refuses};
+ghost use Rattle.plan_cli.specs.Run.{IfText};
 ghost use Rattle.plan_cli.specs.Plans.{IsOfProject, PlannedWith, RefusesFile, RefusesWith};
 ghost use Rattle.plan_cli.specs.Plans.{IsOfShop, RefusesShop};
 ghost use Rattle.plan_cli.specs.Scheduled.{TellsNotMade, TellsShopNotMade};
 ghost use Rattle.plan_cli.specs.ChartRun.{IsChartFrom, IsShopChartFrom};
 
 use crate::capacities::{Capacity, replaced};
-use crate::fault::CliFault;
 use crate::origins::Origin;
 use crate::projects::{read_project, schedule_from};
 use crate::shops::{read_instance, shop_schedule_from};
+use plan_errors::CliFault;
 use plan_gantt::{chart, shop_chart};
 use plan_orlib::ShopDoc;
 use plan_psplib::ProjectDoc;

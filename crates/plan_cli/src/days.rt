@@ -8,18 +8,19 @@ ghost use Rattle.plan_shop.specs.Shop.{count_steps};
 ghost use Rattle.plan_calendar.specs.CalendarText.{IsCalendar};
 ghost use Rattle.plan_gantt.specs.CalendarTable.{IsCalendarTable, HasActivityBeyond};
 ghost use Rattle.plan_gantt.specs.ShopCharts.{IsShopCalendarTable, HasStepBeyond};
-ghost use Rattle.plan_cli.specs.Run.{IfText, Refuses};
+ghost use Rattle.plan_errors.specs.Output.{Refuses};
+ghost use Rattle.plan_cli.specs.Run.{IfText};
 ghost use Rattle.plan_cli.specs.Plans.{IsOfProject, PlannedWith, RefusesFile, RefusesWith};
 ghost use Rattle.plan_cli.specs.Plans.{IsOfShop, RefusesShop};
 ghost use Rattle.plan_cli.specs.Scheduled.{CanBeShown};
 ghost use Rattle.plan_cli.specs.DaysRun as spec;
 
 use crate::capacities::{Capacity, replaced};
-use crate::fault::CliFault;
 use crate::origins::Origin;
 use crate::projects::{read_project, schedule_from};
 use crate::refusals::{calendar_refusal, days_refusal};
 use crate::shops::{read_instance, shop_schedule_from};
+use plan_errors::CliFault;
 use plan_gantt::{Calendar, calendar_table, shop_calendar_table};
 use plan_net::Network;
 use plan_orlib::ShopDoc;
@@ -71,10 +72,10 @@ fn planned_text(
     capacities: &[u64],
 ) -> Result<String, CliFault>
     requires { length capacities.now ≡ length project.now.available }
-    ensures made { IfText result (spec.IsDaysFrom origin.entry dates.entry.start.now dates.entry.marks.now
-        (planned project.now capacities.now)) }
-    ensures refused { IfErr result (Refuses (spec.TellsNoDaysFrom
-        origin.entry dates.entry.start.now dates.entry.marks.now (planned project.now capacities.now))) }
+    ensures made { IfText result (spec.IsDaysFrom origin.entry
+        dates.entry.start.now dates.entry.marks.now (planned project.now capacities.now)) }
+    ensures refused { IfErr result (Refuses (spec.TellsNoDaysFrom origin.entry
+        dates.entry.start.now dates.entry.marks.now (planned project.now capacities.now))) }
 {
     let schedule = schedule_from(alloc, origin, project, capacities)?;
     let calendar = calendar_of(alloc, dates.start, dates.marks)?;

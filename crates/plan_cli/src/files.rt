@@ -4,17 +4,16 @@ ghost use Rattle.std.specs.Prelude.{◌≡◌, ◌⊎◌, ◌+◌, ◌≤◌, le
 ghost use Rattle.std.specs.Prelude.{IfOk, IfErr, IsErrOf, OnOk};
 ghost use Rattle.plan_io.specs.Devices.{most_calls};
 ghost use Rattle.plan_psplib.specs.Plain.{longest_text};
-ghost use Rattle.plan_cli.specs.Run.{HasSinkFailed};
+ghost use Rattle.plan_errors.specs.Output.{HasSinkFailed};
 ghost use Rattle.plan_cli.specs.Tasks.{DoesTask, AreRead, bytes_behind};
 ghost use Rattle.plan_cli.specs.ListedTasks.{DoesListed};
 
-use crate::bytes::read_file;
-use crate::fault::CliFault;
 use crate::inputs::{Inputs, SystemInputs};
 use crate::listed_tasks::{ListedTask, with_starts};
 use crate::runs::run_task;
 use crate::tasks::{Rows, Task};
 use crate::watchers::{Log, ProofWatcher, SolveWatcher, Unlogged, Unwatched};
+use plan_errors::{CliFault, read_file};
 use plan_io::Sink;
 use std::alloc::Global;
 use std::rt::Files;
@@ -63,8 +62,8 @@ fn read_named<I: Inputs>(alloc: Global, inputs: &I, name: &str) -> Result<Vec<u8
     read_file(alloc, &mut inputs.open(name)?)
 }
 
-/// Runs a task on a project's file and a file of starts, one of which may be `-` for standard input.
-/// The file of the starts is read first. A file that can't be opened or read is
+/// Runs a task on the file of a project or a job shop and a file of starts. One name may be `-` for
+/// standard input. The file of the starts is read first. A file that can't be opened or read is
 /// [`CliFault::Input`].
 pub fn listed_on_named<I: Inputs, W: Sink>(
     alloc: Global,

@@ -7,11 +7,12 @@ ghost use Rattle.plan_table.specs.Overrides.{override_of};
 ghost use Rattle.plan_table.specs.ProjectText as projects;
 ghost use Rattle.plan_table.specs.ShopReading.{shop_table_read};
 ghost use Rattle.plan_table.specs.ShopText as shops;
-ghost use Rattle.plan_cli.specs.Run.{IfText, Refuses};
+ghost use Rattle.plan_errors.specs.Output.{Refuses};
+ghost use Rattle.plan_cli.specs.Run.{IfText};
 ghost use Rattle.plan_cli.specs.ImportRun as spec;
 
-use crate::fault::{CliFault, refusal_by};
 use crate::table_faults::table_fault_text;
+use plan_errors::{CliFault, refusal_by};
 use plan_table::{
     Override, ReadError, ShopTable, Table, TableFault, TextFault, project_text, read_shop_table,
     read_table_with, shop_text,

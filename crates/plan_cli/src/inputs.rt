@@ -3,7 +3,7 @@
 ghost use Rattle.std.specs.Prelude.{◌≡◌, ◌⊎◌, ◌↔◌, ℕ, List, Option, Some, IfOk, IfErr, IfSome};
 ghost use Rattle.std.specs.IoError.{error_kind};
 
-use crate::fault::CliFault;
+use plan_errors::CliFault;
 use plan_io::{Source, StdSource};
 use std::fs;
 use std::io::{self, ErrorKind};

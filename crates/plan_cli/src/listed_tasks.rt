@@ -7,7 +7,8 @@ use crate::days::Dates;
 use crate::origins::Origin;
 use crate::tasks::Task;
 
-/// A task on a project or a job shop and a list of starts. What it writes is that of the [`Task`] of this name.
+/// A task on a project or a job shop and a list of starts. It writes the text of the [`Task`] with
+/// this name.
 #[derive(Clone, Copy, Debug, Drop)]
 pub enum ListedTask<'a> {
     Check,

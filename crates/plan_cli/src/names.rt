@@ -1,11 +1,11 @@
 //! `plan names`: the names of the instances in a job shop file.
 
 ghost use Rattle.std.specs.Prelude.{◌≡◌, map, IfOk, IfErr};
-ghost use Rattle.plan_cli.specs.Run.{Refuses};
+ghost use Rattle.plan_errors.specs.Output.{Refuses};
 ghost use Rattle.plan_cli.specs.NamesRun as spec;
 
-use crate::fault::CliFault;
 use crate::refusals::file_refusal;
+use plan_errors::CliFault;
 use plan_orlib::names;
 use std::alloc::{AllocError, Global};
 

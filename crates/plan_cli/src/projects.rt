@@ -5,16 +5,16 @@ ghost use Rattle.plan_psplib.specs.Project.{SaysProject};
 ghost use Rattle.plan_sgs.specs.Instances.{planned};
 ghost use Rattle.plan_gantt.specs.FirstFaults.{TellsFirstFailing};
 ghost use Rattle.plan_gantt.specs.ScheduleText.{TellsRefusal};
-ghost use Rattle.plan_cli.specs.Run.{Refuses};
+ghost use Rattle.plan_errors.specs.Output.{Refuses};
 ghost use Rattle.plan_cli.specs.ScheduleRun.{as_available, TellsNeed};
 ghost use Rattle.plan_cli.specs.Scheduled.{IsListed, IsMade, IsMadeBy, IsMadeFrom, IsShowable};
 ghost use Rattle.plan_cli.specs.Scheduled.{TellsNotListed, TellsNotMade};
 
-use crate::fault::CliFault;
 use crate::origins::Origin;
 use crate::refusals::{file_refusal, schedule_refusal};
 use crate::starts::read_starts;
 use crate::verdicts::check_feasible;
+use plan_errors::CliFault;
 use plan_psplib::{ProjectDoc, read_sm};
 use plan_report::makespan_of;
 use plan_sgs::{Instance, Rule, Schedule, serial};

@@ -6,12 +6,13 @@ ghost use Rattle.plan_shop.specs.Shop.{count_steps};
 ghost use Rattle.plan_shop.specs.Docs.{shop_of};
 ghost use Rattle.plan_prove.specs.Proofs.{IsNodeLimit};
 ghost use Rattle.plan_gantt.specs.Limits.{latest_start};
-ghost use Rattle.plan_cli.specs.Run.{IfText, Refuses};
+ghost use Rattle.plan_errors.specs.Output.{Refuses};
+ghost use Rattle.plan_cli.specs.Run.{IfText};
 ghost use Rattle.plan_cli.specs.ProofText.{IsBoundLine, ShowsProof};
 ghost use Rattle.plan_cli.specs.ProveRun as spec;
 
-use crate::fault::{CliFault, refusal_by};
 use crate::shops::{open_shop, read_instance};
+use plan_errors::{CliFault, refusal_by};
 use plan_gantt::shop_table;
 use plan_orlib::ShopDoc;
 use plan_prove::{Proof, ProveFault, Watcher, parse_nodes, prove_watched};

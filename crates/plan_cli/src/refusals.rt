@@ -1,12 +1,13 @@
 //! The errors of files, schedules, searches and calendars as lines of text.
 
-ghost use Rattle.plan_cli.specs.Run.{Refuses, Tells};
+ghost use Rattle.plan_errors.specs.Output.{Refuses};
+ghost use Rattle.plan_cli.specs.Run.{Tells};
 ghost use Rattle.plan_cli.specs.ScheduleRun.{TellsSchedule};
 ghost use Rattle.plan_cli.specs.ShopRun.{TellsShop};
 ghost use Rattle.plan_cli.specs.BestRun.{TellsSolving};
 ghost use Rattle.plan_cli.specs.DaysRun.{TellsCalendarFault, TellsDaysFault};
 
-use crate::fault::{CliFault, refusal_by};
+use plan_errors::{CliFault, refusal_by};
 use plan_exact::ExactFault;
 use plan_gantt::{
     CalendarFault, DaysFault, calendar_fault_text, exact_fault_text, file_fault_text,

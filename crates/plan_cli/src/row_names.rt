@@ -92,8 +92,8 @@ fn push_named(
     row: &[u8],
     label: Option<&[u8]>,
 ) -> Result<(), AllocError>
-    ensures { OnOk result (text.new.items ≡ text.old.items
-        ++ (spec.labelled width row.now (option_map (λ label. label.now) label.entry) ++ codes "\n")) }
+    ensures { OnOk result (text.new.items ≡ text.old.items ++ (spec.labelled width row.now
+        (option_map (λ label. label.now) label.entry) ++ codes "\n")) }
 {
     text.extend_from_slice(row)?;
     if let Some(label) = label {

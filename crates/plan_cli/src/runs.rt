@@ -3,17 +3,17 @@
 ghost use Rattle.std.specs.Prelude.{◌≡◌, ◌⊎◌, ◌+◌, ◌≤◌, OnOk, IfErr, IfSome, IsErrOf};
 ghost use Rattle.plan_io.specs.Devices.{most_calls};
 ghost use Rattle.plan_gantt.specs.FirstFaults.{TellsFirstFailing};
-ghost use Rattle.plan_cli.specs.Run.{HasSinkFailed, IsDateTableOf, ReadsFront, Runs, Writes};
+ghost use Rattle.plan_errors.specs.Output.{HasSinkFailed, Writes};
+ghost use Rattle.plan_cli.specs.Run.{IsDateTableOf, ReadsFront, Runs};
 ghost use Rattle.plan_cli.specs.ScheduleRun.{IsScheduleTableOf, TellsWhyNoSchedule};
 ghost use Rattle.plan_cli.specs.ShopRun.{IsShopTableOf, TellsWhyNoShop};
 ghost use Rattle.plan_cli.specs.BestRun.{IsBestTableOf, TellsWhyNoBest};
 ghost use Rattle.plan_cli.specs.BestProjectRun.{IsBestProjectTableOf, TellsWhyNoBestProject};
 ghost use Rattle.plan_cli.specs.Tasks.{IsLineOf, ShowsTask};
 
-use crate::bytes::{read_file, write_text};
-use crate::fault::CliFault;
 use crate::tasks::{Rows, Task, shown_text};
 use crate::watchers::{Log, ProofWatcher, SolveWatcher, Unlogged, Unwatched};
+use plan_errors::{CliFault, read_file, write_text};
 use plan_io::{Sink, Source};
 use std::alloc::Global;
 

@@ -9,16 +9,16 @@ ghost use Rattle.plan_orlib.specs.Says.{Says};
 ghost use Rattle.plan_shop.specs.Docs.{shop_of};
 ghost use Rattle.plan_gantt.specs.FirstFaults.{TellsFirstShopFault};
 ghost use Rattle.plan_gantt.specs.ShopText.{TellsNoRule};
-ghost use Rattle.plan_cli.specs.Run.{Refuses};
+ghost use Rattle.plan_errors.specs.Output.{Refuses};
 ghost use Rattle.plan_cli.specs.Scheduled.{IsMadeOfShop, IsMadeOfShopBy, IsMadeOfShopFrom};
 ghost use Rattle.plan_cli.specs.Scheduled.{IsShopListed, IsShopShowable};
 ghost use Rattle.plan_cli.specs.Scheduled.{TellsShopNotListed, TellsShopNotMade};
 
-use crate::fault::CliFault;
 use crate::origins::Origin;
 use crate::refusals::{file_refusal, shop_refusal};
 use crate::starts::read_shop_starts;
 use crate::verdicts::check_shop_feasible;
+use plan_errors::CliFault;
 use plan_orlib::{ShopDoc, read_shop};
 use plan_sgs::Schedule;
 use plan_shop::{Shop, ShopFault, ShopRule, giffler};

@@ -2,15 +2,16 @@
 
 ghost use Rattle.std.specs.Prelude.{◌≡◌, IfErr, length};
 ghost use Rattle.plan_sgs.specs.Instances.{planned};
-ghost use Rattle.plan_cli.specs.Run.{IfText, Refuses};
+ghost use Rattle.plan_errors.specs.Output.{Refuses};
+ghost use Rattle.plan_cli.specs.Run.{IfText};
 ghost use Rattle.plan_cli.specs.Plans.{IsOfProject, PlannedWith, RefusesFile, RefusesWith};
 ghost use Rattle.plan_cli.specs.SlackRun as spec;
 
 use crate::capacities::{Capacity, replaced};
-use crate::fault::{CliFault, refusal_by};
 use crate::projects::{instance_with, read_project};
 use crate::starts::read_starts;
 use crate::verdicts::sentence;
+use plan_errors::{CliFault, refusal_by};
 use plan_psplib::ProjectDoc;
 use plan_report::{SlackFault, slack_text};
 use plan_sgs::Instance;

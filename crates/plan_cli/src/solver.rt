@@ -7,19 +7,20 @@ ghost use Rattle.plan_shop.specs.Docs.{shop_of};
 ghost use Rattle.plan_solve.specs.Solutions.{IsConflictLimit};
 ghost use Rattle.plan_gantt.specs.FirstFaults.{TellsFirstShopFault};
 ghost use Rattle.plan_gantt.specs.Limits.{latest_start};
-ghost use Rattle.plan_cli.specs.Run.{IfText, Refuses};
+ghost use Rattle.plan_errors.specs.Output.{Refuses};
+ghost use Rattle.plan_cli.specs.Run.{IfText};
 ghost use Rattle.plan_sgs.specs.Instances.{planned};
 ghost use Rattle.plan_cli.specs.ScheduleRun.{TellsNeed};
 ghost use Rattle.plan_cli.specs.Plans.{PlannedWith, RefusesWith};
 ghost use Rattle.plan_cli.specs.SolveRun as spec;
 
 use crate::capacities::{Capacity, replaced};
-use crate::fault::CliFault;
 use crate::projects::{instance_with, read_project};
 use crate::proof::{bound_line, proof_table};
 use crate::shops::{open_shop, read_instance};
 use crate::turns::search_in_turns;
 use crate::watchers::{ProofWatcher, SolveWatcher};
+use plan_errors::CliFault;
 use plan_gantt::schedule_table;
 use plan_orlib::ShopDoc;
 use plan_psplib::ProjectDoc;
@@ -110,9 +111,9 @@ fn project_text<V: SolveWatcher, L: Log>(
     planned_text(alloc, conflicts, project, &capacities, watcher, log)
 }
 
-/// Returns the solution of the project in a file, with the given capacities in place of those of the
-/// file. The watcher is called during the search, and can stop it. The log gets
-/// what the search proves.
+/// Returns the solution of the project in a file, with the given capacities in place of those of
+/// the file. The watcher is called during the search, and can stop it. The log gets what the search
+/// proves.
 pub(crate) fn solution_text<V: SolveWatcher, L: Log>(
     alloc: Global,
     conflicts: u64,
@@ -128,7 +129,8 @@ pub(crate) fn solution_text<V: SolveWatcher, L: Log>(
     project_text(alloc, conflicts, given, &project, watcher, log)
 }
 
-// Returns the solution of a job shop that searches in turns find, each of at most so many conflicts.
+// Returns the solution of a job shop that searches in turns find. Each turn has at most so many
+// conflicts.
 #[tactic(auto, using(crate::proofs::TurnLemmas::solved_by_proof))]
 fn solved_shop_text<V: ProofWatcher + SolveWatcher>(
     alloc: Global,

@@ -5,10 +5,10 @@ ghost use Rattle.plan_net.specs.Network.{count_of};
 ghost use Rattle.plan_profile.specs.Usage.{IsInTime};
 ghost use Rattle.plan_shop.specs.Shop.{count_steps};
 ghost use Rattle.plan_report.specs.StartsText.{SaysStarts, activity_sheet, step_sheet};
-ghost use Rattle.plan_cli.specs.Run.{Refuses};
+ghost use Rattle.plan_errors.specs.Output.{Refuses};
 ghost use Rattle.plan_cli.specs.Starts as spec;
 
-use crate::fault::{CliFault, refusal_by};
+use plan_errors::{CliFault, refusal_by};
 use plan_gantt::file_fault_text;
 use plan_net::Network;
 use plan_psplib::{FileCode, FileFault, ReadError};

@@ -2,13 +2,12 @@
 
 ghost use Rattle.std.specs.Prelude.{◌≡◌, map, IfOk, IfErr};
 ghost use Rattle.plan_table.specs.Names.{name_of};
-ghost use Rattle.plan_cli.specs.Run.{Refuses};
+ghost use Rattle.plan_errors.specs.Output.{Refuses};
 ghost use Rattle.plan_cli.specs.Tasks.{IsFormattedText, IsTextOf, IsLineOf, ShowsTask, names_for};
 
 use crate::capacities::Capacity;
 use crate::charts::{chart_text, shop_chart_text};
 use crate::days::{Dates, days_text, shop_days_text};
-use crate::fault::CliFault;
 use crate::formatted::formatted;
 use crate::imports::{import_text, shop_import_text};
 use crate::names::names_text;
@@ -21,6 +20,7 @@ use crate::solver::{shop_solution_text, solution_text};
 use crate::tables::{date_text, schedule_text, shop_text};
 use crate::verdicts::{check_text, shop_check_text};
 use crate::watchers::{Log, ProofWatcher, SolveWatcher};
+use plan_errors::CliFault;
 use plan_formats::Format;
 use plan_table::{NameLine, Override, activity_names, machine_names, order_names};
 use std::alloc::{AllocError, Global};
@@ -86,10 +86,10 @@ pub enum Task<'a> {
         starts: &'a [u8],
         instance: &'a str,
     },
-    /// The slack of each activity in a feasible schedule: the time by which it can start later while
-    /// all others keep their starts and the makespan stays. The last line is a chain of activities
-    /// without slack. Errors: those of [`Task::Check`], the verdict if the starts aren't feasible,
-    /// `S9` (the end is after 10,000,000).
+    /// The slack of each activity in a feasible schedule: the time by which it can start later,
+    /// while all others keep their starts and the makespan stays. The last line is a chain of
+    /// activities without slack. Errors: those of [`Task::Check`], the verdict if the starts aren't
+    /// feasible, `S9` (the end is after 10,000,000).
     Slack {
         starts: &'a [u8],
         capacities: &'a [Capacity<'a>],

@@ -2,11 +2,10 @@
 
 ghost use Rattle.std.specs.Prelude.{◌≡◌, ◌⊎◌, ◌+◌, ◌≤◌, IfErr, IsErrOf, OnOk};
 ghost use Rattle.plan_io.specs.Devices.{most_calls};
-ghost use Rattle.plan_cli.specs.Run.{HasSinkFailed, Writes};
+ghost use Rattle.plan_errors.specs.Output.{HasSinkFailed, Writes};
 ghost use Rattle.plan_cli.specs.TemplateRun as spec;
 
-use crate::bytes::write_text;
-use crate::fault::CliFault;
+use plan_errors::{CliFault, write_text};
 use plan_io::Sink;
 use plan_table::{PROJECT_TEMPLATE, SHOP_TEMPLATE};
 

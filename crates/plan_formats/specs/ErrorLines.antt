@@ -40,7 +40,7 @@ abbrev pub number_before : Option ℕ → List ℕ → List ℕ
 number_before None ns = []
 number_before (Some n) ns = n ∷ ns
 
--- the numbers up to the first word that is none
+-- the numbers in front of the first word that isn't a number
 abbrev pub front_numbers : List (List ℕ) → List ℕ
 front_numbers [] = []
 front_numbers (word ∷ found) = number_before (number word) (front_numbers found)

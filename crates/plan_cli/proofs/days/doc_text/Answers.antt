@@ -2,7 +2,7 @@ use Rattle.std.specs.Prelude.{string_bytes}
 use Rattle.std.proofs.lemmas.Result.{IfOk-weaker}
 use Rattle.plan_shop.specs.Docs.{shop_of}
 use Rattle.plan_gantt.specs.ShopCharts.{IsShopCalendarTable, HasStepBeyond}
-use Rattle.plan_cli.specs.Run.{Refuses}
+use Rattle.plan_errors.specs.Output.{Refuses}
 use Rattle.plan_cli.specs.DaysRun.{IsShopDaysFrom, TellsBeyond, TellsNoShopDaysFrom}
 use Rattle.plan_cli.proofs.DaysLemmas.{shop_days_shown, shop_days_beyond}
 use Rattle.plan_cli.proofs.RunLemmas.{if_err_weaker}

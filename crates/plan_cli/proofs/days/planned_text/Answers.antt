@@ -2,7 +2,7 @@ use Rattle.std.specs.Prelude.{string_bytes}
 use Rattle.std.proofs.lemmas.Result.{IfOk-weaker}
 use Rattle.plan_sgs.specs.Instances.{planned}
 use Rattle.plan_gantt.specs.CalendarTable.{IsCalendarTable, HasActivityBeyond}
-use Rattle.plan_cli.specs.Run.{Refuses}
+use Rattle.plan_errors.specs.Output.{Refuses}
 use Rattle.plan_cli.specs.DaysRun.{IsDaysFrom, TellsBeyond, TellsNoDaysFrom}
 use Rattle.plan_cli.proofs.DaysLemmas.{days_shown, days_beyond}
 use Rattle.plan_cli.proofs.RunLemmas.{if_err_weaker}

@@ -2,7 +2,8 @@ use Rattle.std.proofs.Common.{rules, ◌⊎◌, IfErr}
 use Rattle.plan_psplib.specs.Faults.{IsWantOfMemory}
 use Rattle.plan_psplib.specs.Project.{IsFirstFailing}
 use Rattle.plan_gantt.specs.FirstFaults.{TellsFirstFailing}
-use Rattle.plan_cli.specs.Run.{Refuses, Tells}
+use Rattle.plan_errors.specs.Output.{Refuses}
+use Rattle.plan_cli.specs.Run.{Tells}
 use Rattle.plan_orlib.proofs.NameLemmas.{mapped}
 use Rattle.plan_cli.proofs.RunLemmas.{told_refuses}
 use Rattle.plan_cli.proofs.projects.read_project.Goals as goal

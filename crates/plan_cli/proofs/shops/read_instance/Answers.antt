@@ -2,7 +2,8 @@ use Rattle.std.proofs.Common.{rules, ◌⊎◌, List, ℕ, subst, IfErr}
 use Rattle.plan_psplib.specs.Faults.{IsWantOfMemory}
 use Rattle.plan_orlib.specs.ShopText as reading
 use Rattle.plan_gantt.specs.FirstFaults.{TellsFirstShopFault}
-use Rattle.plan_cli.specs.Run.{Refuses, Tells}
+use Rattle.plan_errors.specs.Output.{Refuses}
+use Rattle.plan_cli.specs.Run.{Tells}
 use Rattle.plan_orlib.proofs.NameLemmas.{mapped}
 use Rattle.plan_cli.proofs.RunLemmas.{told_no_shop}
 use Rattle.plan_cli.proofs.shops.read_instance.Goals as goal

@@ -1,7 +1,7 @@
 use Rattle.std.proofs.Common.{subst}
 use Rattle.std.proofs.lemmas.Result.{err_from_is_err_and}
 use Rattle.plan_shop.specs.Shop.{JobShop}
-use Rattle.plan_cli.specs.Run.{Refuses}
+use Rattle.plan_errors.specs.Output.{Refuses}
 use Rattle.plan_cli.specs.Scheduled.{TellsShopNotListed}
 use Rattle.plan_cli.proofs.shops.shop_schedule_listed.Goals as goal
 

@@ -5,7 +5,7 @@ use Rattle.plan_sgs.specs.Instances.{problem_of}
 use Rattle.plan_report.specs.Slack.{RefusesSlack}
 use Rattle.plan_report.specs.SlackText.{IsSlackText}
 use Rattle.plan_orlib.proofs.NameLemmas.{mapped}
-use Rattle.plan_cli.specs.Run.{Refuses}
+use Rattle.plan_errors.specs.Output.{Refuses}
 use Rattle.plan_cli.specs.CheckRun.{TellsBadStarts}
 use Rattle.plan_cli.specs.SlackRun.{IsSlackOf, TellsBadSlack, TellsSlackFault}
 use Rattle.plan_cli.proofs.CheckLemmas.{bad_starts}

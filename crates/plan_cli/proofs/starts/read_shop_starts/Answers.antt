@@ -5,7 +5,7 @@ use Rattle.plan_profile.specs.Usage.{IsInTime}
 use Rattle.plan_psplib.specs.Tokens.{Fails}
 use Rattle.plan_orlib.proofs.NameLemmas.{mapped}
 use Rattle.plan_report.specs.StartsText.{SaysStarts, step_sheet, starts_in}
-use Rattle.plan_cli.specs.Run.{Refuses}
+use Rattle.plan_errors.specs.Output.{Refuses}
 use Rattle.plan_cli.specs.Starts.{IsStartsError, TellsNoStarts}
 use Rattle.plan_cli.proofs.StartLemmas.{told_no_starts}
 use Rattle.plan_cli.proofs.starts.read_shop_starts.Goals as goal

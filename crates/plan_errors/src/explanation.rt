@@ -3,10 +3,10 @@
 ghost use Rattle.std.specs.Prelude.{◌≡◌, ◌⊎◌, ◌+◌, ◌≤◌, IfErr, IfOk, IsErrOf, OnOk, codes, drop};
 ghost use Rattle.std.specs.Prelude.{string_bytes};
 ghost use Rattle.plan_io.specs.Devices.{most_calls};
-ghost use Rattle.plan_cli.specs.Run.{HasSinkFailed, Refuses, Writes};
-ghost use Rattle.plan_cli.specs.ExplainRun as spec;
-ghost use Rattle.plan_cli.specs.ExplainRun.{CarriesCode, Explains, IsCodeOf, StartsWithCode};
-ghost use Rattle.plan_cli.specs.ExplainRun.{TellsNoCode};
+ghost use Rattle.plan_errors.specs.Output.{HasSinkFailed, Refuses, Writes};
+ghost use Rattle.plan_errors.specs.ExplainRun as spec;
+ghost use Rattle.plan_errors.specs.ExplainRun.{CarriesCode, Explains, IsCodeOf, StartsWithCode};
+ghost use Rattle.plan_errors.specs.ExplainRun.{TellsNoCode};
 
 use crate::bytes::write_text;
 use crate::codes::Code;

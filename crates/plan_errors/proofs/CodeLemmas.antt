@@ -2,9 +2,9 @@
 use Rattle.std.proofs.Common.{◌≡◌, ℕ, List, refl, sym, subst, codes}
 use Rattle.std.specs.Str.{IsUtf8}
 use lib.Utf8.{encode}
-use Rattle.plan_cli.specs.Codes.{name_of}
-use Rattle.plan_cli.specs.declared.codes.Code.{Code}
-use Rattle.plan_cli.specs.declared.codes.Code.TheVariants as code
+use Rattle.plan_errors.specs.Codes.{name_of}
+use Rattle.plan_errors.specs.declared.codes.Code.{Code}
+use Rattle.plan_errors.specs.declared.codes.Code.TheVariants as code
 
 name_is_text : (code : Code) → IsUtf8 (name_of code)
 unfolding encode

@@ -1,8 +1,8 @@
 -- The codes of error lines: the likely cause and the text of `plan explain` for each. Written by
 -- docs/entries from docs/errors.md.
 use Rattle.std.specs.Prelude.{ℕ, Bool, true, false, List, codes}
-use Rattle.plan_cli.specs.declared.codes.Code.{Code}
-use Rattle.plan_cli.specs.declared.codes.Code.TheVariants as code
+use Rattle.plan_errors.specs.declared.codes.Code.{Code}
+use Rattle.plan_errors.specs.declared.codes.Code.TheVariants as code
 
 -- the name of a code
 abbrev pub name_of : Code → List ℕ

@@ -1,7 +1,7 @@
 //! The hint that follows an error line on a terminal.
 
 ghost use Rattle.std.specs.Prelude.{◌≡◌, IfOk, option_map, string_bytes};
-ghost use Rattle.plan_cli.specs.HintText as spec;
+ghost use Rattle.plan_errors.specs.HintText as spec;
 
 use crate::codes::Code;
 use crate::explanation::next_code;

@@ -2,8 +2,8 @@
 //! docs/entries from docs/errors.md.
 
 ghost use Rattle.std.specs.Prelude.{◌≡◌, IfSome, IfNone};
-ghost use Rattle.plan_cli.specs.Codes.{name_of, cause_of, entry_of, carries_error};
-ghost use Rattle.plan_cli.specs.declared.codes.Code.{Code};
+ghost use Rattle.plan_errors.specs.Codes.{name_of, cause_of, entry_of, carries_error};
+ghost use Rattle.plan_errors.specs.declared.codes.Code.{Code};
 
 /// The code of an error line.
 #[derive(Clone, Copy, Debug, PartialEq, Eq)]

@@ -1,7 +1,7 @@
 //! The error of a command, as one line of text.
 
 ghost use Rattle.std.specs.Prelude.{◌≡◌, IfOk, IfErr};
-ghost use Rattle.plan_cli.specs.declared.fault.CliFault.TheVariants.{Memory};
+ghost use Rattle.plan_errors.specs.declared.fault.CliFault.TheVariants.{Memory};
 
 use plan_io::InputError;
 use std::alloc::AllocError;
@@ -26,7 +26,7 @@ pub enum CliFault {
 
 impl CliFault {
     ghost use Rattle.std.specs.Prelude.{◌≡◌};
-    ghost use Rattle.plan_cli.specs.Faults.{line_of};
+    ghost use Rattle.plan_errors.specs.Faults.{line_of};
 
     /// Returns the line without its end.
     pub fn line(&self) -> &str
@@ -42,7 +42,7 @@ impl CliFault {
 }
 
 /// Returns the error with this line, or the error of memory if there was none for the line.
-pub(crate) fn refusal_by(line: Result<String, AllocError>) -> CliFault
+pub fn refusal_by(line: Result<String, AllocError>) -> CliFault
     ensures line { IfOk line (λ text. result ≡ CliFault.Refused text) }
     ensures memory { IfErr line (λ _. result ≡ Memory) }
 {
@@ -54,7 +54,7 @@ pub(crate) fn refusal_by(line: Result<String, AllocError>) -> CliFault
 
 impl From<InputError> for CliFault {
     ghost use Rattle.std.specs.Prelude.{◌≡◌};
-    ghost use Rattle.plan_cli.specs.Faults.{input_fault};
+    ghost use Rattle.plan_errors.specs.Faults.{input_fault};
 
     ghost from_gives = { λ error e. e ≡ input_fault error };
 

@@ -5,11 +5,24 @@ use std::alloc::{AllocError, Global};
 
 // The start of the help.
 const HELP_START: &str =
-    "Schedules projects and job shops: dates, schedules, charts and calendar days\n\nUsage: plan <COMMAND>\n";
+    "Schedules projects and job shops: dates, schedules, charts and calendar days\n\n\
+    Usage: plan <COMMAND>\n";
 
 // The end of the help.
-const HELP_END: &str =
-    "  help          Prints this text, or the help of a command\n\nOptions:\n  -h, --help     Print help\n  -V, --version  Print version\n\nExamples:\n  plan import examples/house.csv\n  plan chart lft examples/house.sm\n  plan cpm examples/house.sm\n  plan days lft 2024-03-01 1111100 examples/house.sm\n  plan shop mwkr examples/shops.txt ft06\n  plan best 200000 examples/shops.txt ft06\n\nA command that fails prints one line that starts with a code; plan explain CODE prints the meaning\nand what to do. On a terminal a hint follows; PLAN_HINTS=0 turns it off, PLAN_HINTS=1 on.\n";
+const HELP_END: &str = "  help          Prints this text, or the help of a command\n\n\
+    Options:\n  \
+    -h, --help     Print help\n  \
+    -V, --version  Print version\n\n\
+    Examples:\n  \
+    plan import examples/house.csv\n  \
+    plan chart lft examples/house.sm\n  \
+    plan cpm examples/house.sm\n  \
+    plan days lft 2024-03-01 1111100 examples/house.sm\n  \
+    plan shop mwkr examples/shops.txt ft06\n  \
+    plan best 200000 examples/shops.txt ft06\n\n\
+    A command that fails prints one line that starts with a code; plan explain CODE prints \
+    the meaning\n\
+    and what to do. On a terminal a hint follows; PLAN_HINTS=0 turns it off, PLAN_HINTS=1 on.\n";
 
 // The names of the templates.
 const KINDS: &[&str] = &["project", "shop"];
@@ -170,7 +183,8 @@ const GIVEN_STARTS: Argument = Argument {
 const STARTS: Argument = Argument {
     name: "starts",
     form: Form::Starts,
-    help: "show the schedule with the start times in this file, or - for standard input; leave out RULE",
+    help: "show the schedule with the start times in this file, or - for standard input; \
+        leave out RULE",
 };
 
 const INSTANCE: Argument = Argument {
@@ -232,7 +246,10 @@ const LIST_COMMANDS: [Entry; 2] = [
     Entry {
         name: "import",
         about: "Converts a list, a CSV table, to a project or job shop file",
-        examples: "Examples:\n  plan import examples/house.csv\n  plan import --capacity crew=6 examples/house.csv\n  plan import --shop examples/shop.csv",
+        examples: "Examples:\n  \
+            plan import examples/house.csv\n  \
+            plan import --capacity crew=6 examples/house.csv\n  \
+            plan import --shop examples/shop.csv",
         arguments: &[
             FILE,
             Argument {
@@ -259,7 +276,9 @@ const PROJECT_COMMANDS: [Entry; 5] = [
     Entry {
         name: "schedule",
         about: "Prints a schedule of a project by a priority rule",
-        examples: "Examples:\n  plan schedule lft examples/house.sm\n  plan schedule --capacity R1=4 lft examples/house.sm",
+        examples: "Examples:\n  \
+            plan schedule lft examples/house.sm\n  \
+            plan schedule --capacity R1=4 lft examples/house.sm",
         arguments: &[PROJECT_RULE, FILE, CAPACITY, NAMES, FORMAT],
     },
     Entry {
@@ -271,7 +290,9 @@ const PROJECT_COMMANDS: [Entry; 5] = [
     Entry {
         name: "check",
         about: "Checks the start times of a schedule, and prints the first violation",
-        examples: "Examples:\n  plan check examples/six.sm examples/starts.txt\n  plan shop mwkr examples/shops.txt ft06 | plan check examples/shops.txt - ft06",
+        examples: "Examples:\n  \
+            plan check examples/six.sm examples/starts.txt\n  \
+            plan shop mwkr examples/shops.txt ft06 | plan check examples/shops.txt - ft06",
         arguments: &[
             FILE,
             GIVEN_STARTS,
@@ -287,7 +308,9 @@ const PROJECT_COMMANDS: [Entry; 5] = [
     Entry {
         name: "slack",
         about: "Prints by how much each activity of a schedule can start later",
-        examples: "Examples:\n  plan slack examples/six.sm examples/starts.txt\n  plan schedule lft examples/house.sm | plan slack --names examples/house.sm -",
+        examples: "Examples:\n  \
+            plan slack examples/six.sm examples/starts.txt\n  \
+            plan schedule lft examples/house.sm | plan slack --names examples/house.sm -",
         arguments: &[FILE, GIVEN_STARTS, CAPACITY, NAMES],
     },
 ];
@@ -334,7 +357,14 @@ const SCHEDULE_COMMANDS: [Entry; 3] = [
     Entry {
         name: "solve",
         about: "Prints a short schedule and a proved lower bound",
-        examples: "First line:\n  optimal 45      no schedule is shorter than 45, and this one takes 45\n  between 40 45   no schedule is shorter than 40, and this one takes 45\n\nExamples:\n  plan solve examples/house.sm\n  plan solve --seconds 60 examples/house.sm\n  plan solve --capacity R1=6 examples/house.sm\n  plan solve --conflicts 1000 examples/shops.txt ft06",
+        examples: "First line:\n  \
+            optimal 45      no schedule is shorter than 45, and this one takes 45\n  \
+            between 40 45   no schedule is shorter than 40, and this one takes 45\n\n\
+            Examples:\n  \
+            plan solve examples/house.sm\n  \
+            plan solve --seconds 60 examples/house.sm\n  \
+            plan solve --capacity R1=6 examples/house.sm\n  \
+            plan solve --conflicts 1000 examples/shops.txt ft06",
         arguments: &[
             FILE,
             INSTANCE_IF_SHOP,
@@ -361,7 +391,10 @@ const SCHEDULE_COMMANDS: [Entry; 3] = [
     Entry {
         name: "chart",
         about: "Draws the schedule by a priority rule, or a given one",
-        examples: "Examples:\n  plan chart lft examples/house.sm\n  plan chart mwkr examples/shops.txt ft06\n  plan chart --starts examples/starts.txt examples/six.sm",
+        examples: "Examples:\n  \
+            plan chart lft examples/house.sm\n  \
+            plan chart mwkr examples/shops.txt ft06\n  \
+            plan chart --starts examples/starts.txt examples/six.sm",
         arguments: &[
             RULE,
             FILE_UNLESS_STARTS,
@@ -374,7 +407,10 @@ const SCHEDULE_COMMANDS: [Entry; 3] = [
     Entry {
         name: "days",
         about: "Prints the calendar days of the schedule by a priority rule, or of a given one",
-        examples: "Examples:\n  plan days lft 2024-03-01 1111100 examples/house.sm\n  plan days mwkr 2024-03-01 1111100 examples/shops.txt ft06\n  plan days --starts examples/starts.txt 2024-03-01 1111100 examples/six.sm",
+        examples: "Examples:\n  \
+            plan days lft 2024-03-01 1111100 examples/house.sm\n  \
+            plan days mwkr 2024-03-01 1111100 examples/shops.txt ft06\n  \
+            plan days --starts examples/starts.txt 2024-03-01 1111100 examples/six.sm",
         arguments: &[
             RULE,
             Argument {

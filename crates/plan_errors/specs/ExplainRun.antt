@@ -3,8 +3,8 @@ use Rattle.std.specs.Prelude.{◌≡◌, ◌++◌, ℕ, Bool, true, false, List,
 use Rattle.std.specs.Prelude.{MatchOption, map, drop, codes}
 use Rattle.std.specs.Char.{to_ascii_uppercase}
 use Rattle.plan_psplib.specs.Lines.{words}
-use Rattle.plan_cli.specs.Codes.{name_of, entry_of, carries_error}
-use Rattle.plan_cli.specs.declared.codes.Code.{Code}
+use Rattle.plan_errors.specs.Codes.{name_of, entry_of, carries_error}
+use Rattle.plan_errors.specs.declared.codes.Code.{Code}
 
 -- the tokens of a text, in capitals
 abbrev pub tokens_of : List ℕ → List (List ℕ)

@@ -2,8 +2,8 @@
 use Rattle.std.specs.Prelude.{ℕ, List, codes, string_bytes}
 use Rattle.plan_io.specs.declared.whole.InputError.{InputError}
 use Rattle.plan_io.specs.declared.whole.InputError.TheVariants as input
-use Rattle.plan_cli.specs.declared.fault.CliFault.{CliFault}
-use Rattle.plan_cli.specs.declared.fault.CliFault.TheVariants as fault
+use Rattle.plan_errors.specs.declared.fault.CliFault.{CliFault}
+use Rattle.plan_errors.specs.declared.fault.CliFault.TheVariants as fault
 
 -- the error of a command whose input isn't read
 abbrev pub input_fault : InputError → CliFault

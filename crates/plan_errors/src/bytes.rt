@@ -4,7 +4,7 @@ ghost use Rattle.std.specs.Prelude.{◌≡◌, ◌⊎◌, ◌+◌, ◌≤◌, le
 ghost use Rattle.std.specs.Io.KnownBytes.{Consumes};
 ghost use Rattle.plan_io.specs.Devices.{most_calls};
 ghost use Rattle.plan_psplib.specs.Plain.{longest_text};
-ghost use Rattle.plan_cli.specs.Run.{HasSinkFailed, Sends};
+ghost use Rattle.plan_errors.specs.Output.{HasSinkFailed, Sends};
 
 use crate::fault::CliFault;
 use plan_io::{Sink, Source, read_beyond, write_whole};
@@ -12,7 +12,7 @@ use plan_psplib::LONGEST_TEXT;
 use std::alloc::Global;
 
 /// Reads the bytes of a file, at most one more than the longest text has.
-pub(crate) fn read_file<R: Source>(alloc: Global, reader: &mut R) -> Result<Vec<u8>, CliFault>
+pub fn read_file<R: Source>(alloc: Global, reader: &mut R) -> Result<Vec<u8>, CliFault>
     ensures calls { R.calls reader.new ≤ R.calls reader.old + most_calls }
     ensures consumed { IfOk result (λ v.
         Consumes (R.remaining reader.old) (R.remaining reader.new) v.items) }
@@ -28,7 +28,7 @@ pub(crate) fn read_file<R: Source>(alloc: Global, reader: &mut R) -> Result<Vec<
 }
 
 /// Writes a text. The only error is that of the output.
-pub(crate) fn write_text<W: Sink>(writer: &mut W, text: &[u8]) -> Result<(), CliFault>
+pub fn write_text<W: Sink>(writer: &mut W, text: &[u8]) -> Result<(), CliFault>
     ensures calls { W.calls writer.new ≤ W.calls writer.old + most_calls }
     ensures sent { Sends text.now (W.taken writer.old) (W.taken writer.new) result }
     ensures fine { OnOk result (W.faults writer.new ≡ W.faults writer.old) }

@@ -1,12 +1,7 @@
 //! The orders that the arguments of the command line spell.
 
-use crate::capacities::Capacity;
-use crate::days::Dates;
-use crate::listed_tasks::ListedTask;
-use crate::origins::Origin;
-use crate::tasks::{Rows, Task};
-use crate::templates::Template;
 use clap::ArgMatches;
+use plan_cli::{Capacity, Dates, ListedTask, Origin, Rows, Task, Template};
 use plan_formats::Format;
 use plan_solve::MOST_CONFLICTS;
 use plan_table::Override;
@@ -28,8 +23,8 @@ pub enum FileOrder<'a> {
     Task(Task<'a>, &'a str),
     /// The same, with a line of progress if standard error is a terminal.
     Watched(Task<'a>, &'a str),
-    /// A task of `solve` on the file with this name, with a time limit in seconds if there is one. What
-    /// it proves is written to the file with the name `log` if there is one.
+    /// A task of `solve` on the file with this name, with a time limit in seconds if there is one.
+    /// What it proves is written to the file with the name `log` if there is one.
     Solve {
         task: Task<'a>,
         file: &'a str,

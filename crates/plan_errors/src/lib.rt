@@ -1,0 +1,14 @@
+//! The error lines of commands, their explanation and their hints; the bytes that a command reads
+//! and writes.
+#![tactic(auto)]
+
+mod bytes;
+mod codes;
+mod explanation;
+mod fault;
+mod hints;
+
+pub use bytes::{read_file, write_text};
+pub use explanation::explain_run;
+pub use fault::{CliFault, refusal_by};
+pub use hints::hint;

@@ -1,0 +1,9 @@
+//! The command line of the program `plan`: its commands, their help, and the orders that its
+//! arguments make.
+#![tactic(auto)]
+
+mod arguments;
+mod orders;
+
+pub use arguments::{command, help};
+pub use orders::{FileOrder, OfficeOrder, Order, capacities_of, order_of, overrides_of};
