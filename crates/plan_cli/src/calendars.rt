@@ -7,7 +7,8 @@ ghost use Rattle.plan_cli.specs.Calendars as spec;
 use crate::refusals::{calendar_refusal, holiday_refusal};
 use plan_errors::CliFault;
 use plan_gantt::Calendar;
-use plan_holidays::{weekday_digits, with_holidays_in};
+use plan_holidays::{HolidayFault, weekday_digits, with_holidays_in};
+use plan_psplib::LONGEST_TEXT;
 use std::alloc::Global;
 
 /// The texts of a calendar: its first date, `YYYY-MM-DD` from 1900-01-01 to 2199-12-31; its working
@@ -31,9 +32,12 @@ fn plain_calendar(alloc: Global, dates: Dates<'_>) -> Result<Calendar, CliFault>
 
 // Returns a calendar with the holidays in a text.
 fn with_holidays(alloc: Global, calendar: Calendar, text: &[u8]) -> Result<Calendar, CliFault>
-    ensures made { IfOk result (spec.HasHolidays calendar text.now) }
+    ensures made { IfOk result (spec.AddsHolidays calendar text.now) }
     ensures refused { IfErr result (Refuses (spec.TellsBadHolidays text.now)) }
 {
+    if text.len() > LONGEST_TEXT {
+        return Err(holiday_refusal(alloc, HolidayFault::TooMany));
+    }
     with_holidays_in(alloc, calendar, text).map_err(|fault| holiday_refusal(alloc, fault))
 }
 
