@@ -3,10 +3,11 @@ use Rattle.std.proofs.Common.{◌≡◌, ◌+◌, ◌≤◌, ◌<◌, ◌⊎◌,
 use denote.Ref.{Bor}
 use Rattle.std.specs.Bool.{nat_eq}
 use Rattle.std.proofs.lemmas.Bool.{both_ways, eq-eqb}
+use Rattle.std.proofs.lemmas.List.Splits.{length-slice_split}
 use Rattle.jiff_core.specs.declared.civil.date.Date.{Date}
 use Rattle.plan_holidays.specs.declared.fault.HolidayFault.{HolidayFault}
 use Rattle.plan_holidays.specs.declared.fault.HolidayFault.TheVariants as fault
-use Rattle.plan_holidays.specs.HolidayText.{lines, entry, IsSpan, AreDays, NamesDays, IsBadLine, NameDays, AreHolidays, AddsDays, RefusesLine, AreRead, RefusesLines}
+use Rattle.plan_holidays.specs.HolidayText.{is_line_feed, lines, entry, IsSpan, AreDays, NamesDays, IsBadLine, NameDays, AreHolidays, AddsDays, RefusesLine, AreRead, RefusesLines}
 use Rattle.plan_holidays.specs.Rest.{rest_lines}
 
 -- a line that is neither blank nor a span is bad
@@ -54,6 +55,23 @@ refused_lines all before line after days number first read counted refused = rec
   so_far = read;
   refused = subst (λ (n : ℕ). RefusesLine days n line first) counted refused;
 }
+
+-- memory can run out at the first line
+memory_first : (all : List (List ℕ)) → 0 < length all → RefusesLines all fault.Memory
+memory_first [] some = absurd (omega (arith, some))
+memory_first (line ∷ after) some = record {
+  before = [];
+  line = line;
+  after = after;
+  days = [];
+  so_far = record { split = refl; named = refl; few = omega arith };
+  refused = tt;
+}
+
+pub memory_refused : (text : List ℕ) (first : HolidayFault) → first ≡ fault.Memory → RefusesLines (lines text) first
+memory_refused text first memory =
+    let long = length-slice_split is_line_feed text in
+    subst (RefusesLines (lines text)) (sym memory) (memory_first (lines text) (omega (arith, long)))
 
 -- ---- one line
 

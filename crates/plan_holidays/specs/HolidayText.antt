@@ -7,7 +7,7 @@ use Rattle.std.specs.List.{position_or_len, slice_split, starts_with}
 use Rattle.jiff_core.specs.Date.{epoch_day}
 use Rattle.jiff_core.specs.declared.civil.date.Date.{Date}
 use Rattle.plan_calendar.specs.CalendarText.{IsStartText}
-use Rattle.plan_calendar.specs.WorkingDay.{is_holiday}
+use Rattle.plan_calendar.specs.WorkingDay.{Workdays, is_holiday}
 use Rattle.plan_holidays.specs.declared.fault.HolidayFault.{HolidayFault}
 use Rattle.plan_holidays.specs.declared.fault.HolidayFault.TheVariants as fault
 
@@ -116,6 +116,13 @@ AreExactly all days = (day : ℤ) → (is_holiday days day ≡ true) ↔ HaveDay
 -- the days of a list are exactly those that a text names
 abbrev pub AreThoseOf : List ℕ → List Date → Type 0
 AreThoseOf text days = AreExactly (lines (without_mark text)) days
+
+-- a calendar is this one with the holidays that a text names
+pub record HasHolidays (calendar : Workdays) (text : List ℕ) (made : Workdays) : Type 0 where
+  pub days : List Date
+  pub named : NamesHolidays text days
+  pub exact : AreThoseOf text days
+  pub same : made ≡ record calendar { holidays = days }
 
 -- a line adds days to those before it, at most 10,000 in all
 abbrev pub AddsDays : List Date → List ℕ → List Date → Type 0

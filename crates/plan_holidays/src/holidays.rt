@@ -9,7 +9,7 @@ use crate::entries::span_of;
 use crate::fault::HolidayFault;
 use crate::lines::{cut_line, entry_of, without_mark};
 use jiff::civil::Date;
-use plan_calendar::MOST_HOLIDAYS;
+use plan_calendar::{Calendar, MOST_HOLIDAYS};
 use std::alloc::Global;
 
 // Returns the days that the line with this number names.
@@ -77,4 +77,18 @@ pub fn parse_holidays(alloc: Global, text: &[u8]) -> Result<Vec<Date>, HolidayFa
     ensures refused { IfErr result (spec.RefusesText text.now) }
 {
     days_in(alloc, without_mark(text))
+}
+
+/// Returns the calendar with the holidays in a text instead of its own, as [`parse_holidays`] reads
+/// them.
+pub fn with_holidays_in(
+    alloc: Global,
+    calendar: Calendar,
+    text: &[u8],
+) -> Result<Calendar, HolidayFault>
+    ensures made { IfOk result (spec.HasHolidays calendar text.now) }
+    ensures refused { IfErr result (spec.RefusesText text.now) }
+{
+    let days = parse_holidays(alloc, text)?;
+    Ok(calendar.with_holidays(alloc, days)?)
 }

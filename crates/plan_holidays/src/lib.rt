@@ -9,5 +9,5 @@ mod lines;
 mod weekdays;
 
 pub use fault::HolidayFault;
-pub use holidays::parse_holidays;
+pub use holidays::{parse_holidays, with_holidays_in};
 pub use weekdays::weekday_digits;
