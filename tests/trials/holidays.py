@@ -47,7 +47,7 @@ def entry(draw):
     first = datetime.date.fromordinal(day).isoformat()
     if draw.chance(0.7):
         return first
-    days = draw.pick((0, 1, 3, 10, 400)) if draw.chance(0.98) else 9000
+    days = draw.pick((0, 1, 3, 10, 400)) if draw.chance(0.98) else draw.pick((9999, 10000))
     blank = draw.pick(BLANKS)
     return f"{first}{blank}..{blank}{datetime.date.fromordinal(day + days).isoformat()}"
 
@@ -64,7 +64,7 @@ def holiday_text(draw):
     text = ("".join(lines) + draw.pick(("", "2024-03-15"))).encode()
     text = b"\xef\xbb\xbf" + text if draw.chance(0.1) else text
     text = draw.other_byte(text) if draw.chance(0.1) else text
-    return draw.pick((b"\n" * 1048576, b"#" * 1048577)) if draw.chance(0.005) else text
+    return draw.pick((b"\n" * 1048576, b"#" * 1048577)) if draw.chance(0.001) else text
 
 
 class Calendar:
@@ -97,13 +97,27 @@ def wanted_of(text, holidays, rule_name, start, marks, name):
         return 1, b"", fault.line.encode() + b"\n"
 
 
+def small_file(draw, is_shop):
+    """A small project or job shop, mostly a valid one, and the words behind its name."""
+    while True:
+        text = shop_text(draw) if is_shop else project_text(draw)
+        name = [instance(draw, text)] if is_shop else []
+        if len(text) < 1500 and (is_valid(text, name) or draw.chance(0.1)):
+            return text, name
+
+
+def is_valid(text, name):
+    try:
+        pages_of(text, name)
+    except Fault:
+        return False
+    return True
+
+
 def try_file(draw, folder):
     """One file of holidays."""
     is_shop = draw.chance(0.3)
-    text = shop_text(draw) if is_shop else project_text(draw)
-    while len(text) > 3000:
-        text = shop_text(draw) if is_shop else project_text(draw)
-    name = [instance(draw, text)] if is_shop else []
+    text, name = small_file(draw, is_shop)
     own = rule(draw, is_shop)
     start = draw.pick(NO_STARTS if draw.slips(0.03) else STARTS)
     marks = draw.pick(BAD_MARKS if draw.slips(0.05) else MARKS)

@@ -272,17 +272,17 @@ fn one_input(order: &FileOrder<'_>) -> Option<&'static str> {
 
 // Runs an order, and returns the status.
 fn do_order(rt: &HostRuntime, order: Order<'_>) -> Result<u8, Misuse> {
-    if let Order::File(files, _) = &order {
-        if let Some(what) = one_input(files) {
-            return Err(Misuse::OneInput(what));
-        }
-    }
     match order {
-        Order::File(order, rows) => Ok(match do_file_order(rt, order, rows) {
-            Ok(status) => status,
-            Err(fault) if rows == Rows::In(Format::Json) => print_json_error(rt, fault.line()),
-            Err(fault) => print_error(rt, order.file_of(fault.line()), fault.line()),
-        }),
+        Order::File(order, rows) => {
+            if let Some(what) = one_input(&order) {
+                return Err(Misuse::OneInput(what));
+            }
+            Ok(match do_file_order(rt, order, rows) {
+                Ok(status) => status,
+                Err(fault) if rows == Rows::In(Format::Json) => print_json_error(rt, fault.line()),
+                Err(fault) => print_error(rt, order.file_of(fault.line()), fault.line()),
+            })
+        }
         Order::Office(order) => Ok(match do_office_order(rt, order) {
             Ok(()) => 0,
             Err(fault) => print_office_error(rt, &order, fault),
