@@ -46,10 +46,7 @@ pub(crate) fn with_holidays<'a>(task: Task<'a>, holidays: &'a [u8]) -> Task<'a>
 }
 
 /// Returns the task on starts with the holidays in a text. Only `days` has holidays.
-pub(crate) fn listed_with_holidays<'a>(
-    task: ListedTask<'a>,
-    holidays: &'a [u8],
-) -> ListedTask<'a>
+pub(crate) fn listed_with_holidays<'a>(task: ListedTask<'a>, holidays: &'a [u8]) -> ListedTask<'a>
     ensures { result ≡ spec.listed_with_holidays task.entry holidays.entry }
 {
     match task {
