@@ -9,6 +9,7 @@ use Rattle.jiff_core.specs.declared.civil.date.Date.{Date}
 use Rattle.plan_calendar.specs.WorkingDay.{is_marked, is_holiday}
 use Rattle.plan_calendar.specs.Weeks.{marked_days}
 use Rattle.plan_calendar.specs.declared.days_off.DaysOff.{DaysOff}
+use Rattle.plan_calendar.specs.declared.days_off.TheConstants.{MOST_HOLIDAYS}
 
 -- the date is the marked day with this index
 pub record IsIndex (start : ℤ) (marks : List Bool) (date : Date) (index : ℕ) : Type 0 where
@@ -31,7 +32,7 @@ AreIndices start marks holidays indices =
 pub record AreDaysOff (start : ℤ) (marks : List Bool) (holidays : List Date) (indices : List ℕ) : Type 0 where
   pub rising : IsStrictlyIncreasing indices
   pub exact : AreIndices start marks holidays indices
-  pub few : length indices ≤ 10000
+  pub few : length indices ≤ MOST_HOLIDAYS
 
 -- the holidays of a calendar that may have none, and their indices
 abbrev pub holidays_of : Option DaysOff → List Date

@@ -32,7 +32,8 @@ one_if counts = if counts then 1 else 0
 -- the number of working days among the first n days from a day on
 unfoldable pub working_days : Workdays → ℤ → ℕ → ℕ
 working_days calendar day zero = 0
-working_days calendar day (suc n) = working_days calendar day n + one_if (is_working calendar (day +ℤ pos n))
+working_days calendar day (suc n) =
+    working_days calendar day n + one_if (is_working calendar (day +ℤ pos n))
 
 -- the date is a working day, and exactly t working days from the start on are before it
 pub record IsWorkingDay (calendar : Workdays) (t : ℕ) (date : Date) : Type 0 where

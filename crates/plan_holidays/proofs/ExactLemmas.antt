@@ -118,7 +118,7 @@ all_to [] days day none e = absurd (both_ways (is_holiday [] day) (holiday_none 
 all_to (line ∷ others) days day (first, rest, is, are, whole) e =
     let P : List Date → Type 0 = λ d. is_holiday d day ≡ true in
     elim (or_split (is_holiday first day) (is_holiday rest day) (sym (holiday_both first rest day) ∙ subst P whole e)) [
-      inl here ↦ inl (line_to line first day is here)
+      | inl here ↦ inl (line_to line first day is here)
       | inr later ↦ inr (all_to others rest day are later)
     ]
 

@@ -101,7 +101,8 @@ fn is_named(text: &[u8], day: u64) -> bool
     requires { day < 7 }
     ensures { result ≡ spec.is_named text.now day }
 {
-    text.split(|&byte| byte == b',').any(|item| item_has(day, item))
+    text.split(|&byte| byte == b',')
+        .any(|item| item_has(day, item))
 }
 
 // Returns the marks of the weekdays that a text names.
