@@ -1,6 +1,6 @@
 -- The texts of one date and of two.
-use Rattle.std.proofs.Common.{◌≡◌, ◌+◌, ◌-◌, ◌≤◌, ◌<◌, ◌⊎◌, inl, inr, ℕ, suc, Bool, true, false, List, [], ◌∷◌, ◌++◌, Option, Some, None, length, length-append, take, drop, get_or, refl, sym, ap, ◌∙◌, subst, append_assoc, arith, pos, ◌+ℤ◌, ℤ}
-use Rattle.std.proofs.lemmas.List.{take_all, take_at, drop_at, drop_more, take-append-drop, get_or-append_right}
+use Rattle.std.proofs.Common.{◌≡◌, ◌-◌, ◌≤◌, ◌<◌, inl, inr, ℕ, List, [], ◌∷◌, ◌++◌, Option, Some, None, length, length-append, take, drop, get_or, sym, ap, ◌∙◌, subst, append_assoc, arith, pos, ◌+ℤ◌, ℤ}
+use Rattle.std.proofs.lemmas.List.{take_at, drop_at, drop_more, take-append-drop, get_or-append_right}
 use Rattle.std.specs.Option.{IfNone}
 use Rattle.jiff_core.specs.Date.{epoch_day}
 use Rattle.jiff_core.specs.declared.civil.date.Date.{Date}

@@ -1,4 +1,4 @@
-use Rattle.std.proofs.Common.{◌≡◌, ◌-◌, ◌∙◌, pos, ◌+ℤ◌, ap, sym, arith}
+use Rattle.std.proofs.Common.{◌-◌, ◌∙◌, pos, ◌+ℤ◌, ap, sym}
 use Rattle.jiff_core.specs.Date.{epoch_day}
 use Rattle.plan_holidays.proofs.EntryLemmas.{gap_is, none_between, no_range}
 use Rattle.plan_holidays.proofs.entries.range_in.Goals as goal

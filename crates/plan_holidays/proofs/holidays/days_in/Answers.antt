@@ -1,4 +1,4 @@
-use Rattle.std.proofs.Common.{◌≡◌, ◌+◌, ◌∙◌, ◌++◌, ◌∷◌, [], length, length-append, ap, arith}
+use Rattle.std.proofs.Common.{◌++◌, ◌∷◌, [], length-append, ap, arith}
 use Rattle.plan_holidays.specs.HolidayText.{lines}
 use Rattle.plan_holidays.specs.Rest.{rest_lines, rest_size}
 use Rattle.plan_holidays.proofs.NamedLemmas.{next_read, more_read}

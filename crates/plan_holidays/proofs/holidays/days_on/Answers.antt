@@ -1,4 +1,4 @@
-use Rattle.std.proofs.Common.{◌≡◌, refl, inr}
+use Rattle.std.proofs.Common.{refl, inr}
 use Rattle.plan_holidays.proofs.NamedLemmas.{bad_entry, span_named}
 use Rattle.plan_holidays.proofs.holidays.days_on.Goals as goal
 
