@@ -9,8 +9,8 @@ use Rattle.plan_gantt.specs.CalendarFaultText.{calendar_fault_text_of}
 use Rattle.plan_calendar.specs.declared.calendar.CalendarFault.TheVariants as fault
 use Rattle.plan_gantt.specs.declared.days.DaysFault.{DaysFault}
 use Rattle.plan_gantt.specs.declared.days.DaysFault.TheVariants as days
-use Rattle.plan_cli.specs.Scheduled.{IsScheduleFrom, TellsNotMade}
 use Rattle.plan_cli.specs.Calendars.{IsDated, TellsNoCalendar}
+use Rattle.plan_cli.specs.Scheduled.{IsScheduleFrom, TellsNotMade}
 use Rattle.plan_cli.specs.Scheduled.{IsShopScheduleFrom, TellsShopNotMade}
 use Rattle.plan_cli.specs.declared.calendars.Dates.{Dates}
 use Rattle.plan_cli.specs.declared.origins.Origin.{Origin}
@@ -52,13 +52,15 @@ TellsNoDaysFrom from dates i line =
     TellsNotMade from i line ⊎ HidesDays from dates i line
 
 -- a text is the table of working days of a shop's schedule
-pub record IsShopDaysFrom (from : Origin) (dates : Dates) (s : JobShop) (text : List ℕ) : Type 0 where
+pub record IsShopDaysFrom (from : Origin) (dates : Dates) (s : JobShop) (text : List ℕ)
+    : Type 0 where
   pub starts : List ℕ
   pub schedule : IsShopScheduleFrom from s starts
   pub shown : ShowsDays dates (λ c. IsShopCalendarTable c s starts) text
 
 -- a line refuses the days of a shop's schedule, by its schedule
-pub record HidesShopDays (from : Origin) (dates : Dates) (s : JobShop) (line : List ℕ) : Type 0 where
+pub record HidesShopDays (from : Origin) (dates : Dates) (s : JobShop) (line : List ℕ)
+    : Type 0 where
   pub starts : List ℕ
   pub schedule : IsShopScheduleFrom from s starts
   pub hidden : TellsNoDays dates (λ c. HasStepBeyond c s starts) line

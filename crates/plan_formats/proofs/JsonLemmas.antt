@@ -6,9 +6,9 @@ use Rattle.std.specs.Cmp.Lexicographic.{slice_cmp}
 use Rattle.std.specs.Ordering.{nat_cmp, match_ordering}
 use Rattle.std.specs.Str.Lossy.{utf8_lossy}
 use Rattle.std.specs.List.{zip}
-use Rattle.serde_json.specs.Data.{Data, Members, no_members, member, no_items, item, object, array, string, put, depth, members_depth, items_depth}
+use Rattle.serde_json.specs.Data.{Data, Members, no_members, member, object, array, string, put, depth, members_depth, items_depth}
 use Rattle.serde_json.specs.Written.{has_float, members_have_float, items_have_float}
-use Rattle.serde_json.specs.View.{view, items_of, items_view}
+use Rattle.serde_json.specs.View.{items_of, items_view}
 use Rattle.serde_json.specs.declared.value.Value.{Value}
 use Rattle.plan_psplib.specs.Lines.{words}
 use Rattle.plan_formats.specs.Cells.{Cell, number, text, flag, empty, value_of}

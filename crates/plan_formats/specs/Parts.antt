@@ -1,6 +1,6 @@
 -- The lines of a printed table: at most one line with bounds, the names of the columns, the rows,
 -- and at most one line with a length (docs/definitions.md, "Formats").
-use Rattle.std.specs.Prelude.{ℕ, ◌+◌, ◌-◌, Bool, if◌then◌else◌, List, [], map, length}
+use Rattle.std.specs.Prelude.{ℕ, ◌+◌, ◌-◌, if◌then◌else◌, List, [], map, length}
 use Rattle.std.specs.Prelude.{slice_index_or}
 use Rattle.std.specs.List.{slice_range}
 use Rattle.plan_psplib.specs.Lines.{lines}

@@ -3,7 +3,7 @@ use Rattle.std.specs.Prelude.{ℕ, ◌&&◌, Bool, not, if◌then◌else◌, Lis
 use Rattle.std.specs.Prelude.{bytes_eq, codes}
 use Rattle.std.specs.List.{list_any}
 use Rattle.plan_psplib.specs.Lines.{words}
-use Rattle.plan_formats.specs.Cells.{Cell, text, flag, empty, cell_of_word}
+use Rattle.plan_formats.specs.Cells.{Cell, flag, empty, cell_of_word}
 use Rattle.plan_formats.specs.Tables.{Member, Table, or_one}
 use Rattle.plan_formats.specs.NameColumns.{NameColumn, with_names}
 use Rattle.plan_formats.specs.Shapes.{has_marks}

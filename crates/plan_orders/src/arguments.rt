@@ -418,7 +418,8 @@ const SCHEDULE_COMMANDS: [Entry; 3] = [
         examples: "Examples:\n  \
             plan days lft 2024-03-01 1111100 examples/house.sm\n  \
             plan days mwkr 2024-03-01 1111100 examples/shops.txt ft06\n  \
-            plan days --starts examples/starts.txt 2024-03-01 1111100 examples/six.sm\n  plan days --holidays examples/holidays.txt lft 2024-03-01 mon-fri examples/house.sm",
+            plan days --starts examples/starts.txt 2024-03-01 1111100 examples/six.sm\n  \
+            plan days --holidays examples/holidays.txt lft 2024-03-01 mon-fri examples/house.sm",
         arguments: &[
             RULE,
             Argument {
@@ -429,7 +430,8 @@ const SCHEDULE_COMMANDS: [Entry; 3] = [
             Argument {
                 name: "MARKS",
                 form: Form::Text,
-                help: "the working days: mon-fri or mon,wed,fri; or seven digits, Monday first: 1 for a working day, 0 for a free day",
+                help: "the working days: mon-fri or mon,wed,fri; or seven digits, Monday first: \
+                    1 for a working day, 0 for a free day",
             },
             FILE_UNLESS_STARTS,
             INSTANCE_IF_SHOP,
