@@ -10,7 +10,8 @@ use clap::Error;
 use clap::error::ErrorKind;
 use plan_cli::{
     CliFault, ListedTask, Log, ProofWatcher, Rows, SolveWatcher, Task, Unlogged, Unwatched,
-    explain_run, hint, listed_on_files, run_on_file, template_run,
+    dated_listed_on_files, dated_on_files, explain_run, hint, listed_on_files, run_on_file,
+    template_run,
 };
 use plan_formats::{Format, error_json};
 use plan_io::{MemSink, StdSink, write_whole};
@@ -35,7 +36,7 @@ enum Misuse {
     Usage(Error),
     NoText,
     NoCommand,
-    OneInput,
+    OneInput(&'static str),
     BadCapacity(String),
 }
 
@@ -132,11 +133,24 @@ fn do_file_order(rt: &HostRuntime, order: FileOrder<'_>, rows: Rows) -> Result<u
             do_task(rt, task, rows, &mut line, &mut log, file)?;
             log.end()?;
         }
+        FileOrder::Dated {
+            task,
+            file,
+            holidays,
+        } => dated_on_files(rt, task, rows, file, holidays, &mut writer)?,
+        FileOrder::Listed {
+            task,
+            file,
+            starts,
+            holidays: Some(holidays),
+            ..
+        } => dated_listed_on_files(rt, task, rows, file, starts, holidays, &mut writer)?,
         FileOrder::Listed {
             task,
             file,
             starts,
             is_status: false,
+            ..
         } => listed_on_files(rt, task, rows, file, starts, &mut writer)?,
         FileOrder::Listed {
             task,
@@ -229,22 +243,46 @@ fn print_office_error(rt: &HostRuntime, order: &OfficeOrder<'_>, fault: ServeFau
     1
 }
 
+// Returns the reason why an order can't have its files if two of them are standard input.
+fn one_input(order: &FileOrder<'_>) -> Option<&'static str> {
+    match *order {
+        FileOrder::Listed {
+            file: "-",
+            starts: "-",
+            ..
+        } => Some("FILE and STARTS can't both be standard input"),
+        FileOrder::Listed {
+            starts: "-",
+            holidays: Some("-"),
+            ..
+        } => Some("STARTS and HOLIDAYS can't both be standard input"),
+        FileOrder::Listed {
+            file: "-",
+            holidays: Some("-"),
+            ..
+        }
+        | FileOrder::Dated {
+            file: "-",
+            holidays: "-",
+            ..
+        } => Some("FILE and HOLIDAYS can't both be standard input"),
+        _ => None,
+    }
+}
+
 // Runs an order, and returns the status.
 fn do_order(rt: &HostRuntime, order: Order<'_>) -> Result<u8, Misuse> {
     match order {
-        Order::File(
-            FileOrder::Listed {
-                file: "-",
-                starts: "-",
-                ..
-            },
-            _,
-        ) => Err(Misuse::OneInput),
-        Order::File(order, rows) => Ok(match do_file_order(rt, order, rows) {
-            Ok(status) => status,
-            Err(fault) if rows == Rows::In(Format::Json) => print_json_error(rt, fault.line()),
-            Err(fault) => print_error(rt, order.file_of(fault.line()), fault.line()),
-        }),
+        Order::File(order, rows) => {
+            if let Some(what) = one_input(&order) {
+                return Err(Misuse::OneInput(what));
+            }
+            Ok(match do_file_order(rt, order, rows) {
+                Ok(status) => status,
+                Err(fault) if rows == Rows::In(Format::Json) => print_json_error(rt, fault.line()),
+                Err(fault) => print_error(rt, order.file_of(fault.line()), fault.line()),
+            })
+        }
         Order::Office(order) => Ok(match do_office_order(rt, order) {
             Ok(()) => 0,
             Err(fault) => print_office_error(rt, &order, fault),
@@ -322,7 +360,7 @@ fn report(rt: &HostRuntime, misuse: &Misuse) -> u8 {
         Misuse::NoText => print_misuse(rt, "a word of the command line isn't UTF-8"),
         Misuse::NoCommand => print_misuse(rt, "no command"),
         Misuse::BadCapacity(text) => print_bad_capacity(rt, text),
-        Misuse::OneInput => print_misuse(rt, "FILE and STARTS can't both be standard input"),
+        Misuse::OneInput(what) => print_misuse(rt, what),
     }
 }
 

@@ -6,6 +6,7 @@ pub mod OriginLemmas
 pub mod ScheduledLemmas
 pub mod StartLemmas
 pub mod TurnLemmas
+pub mod CalendarLemmas
 pub mod DaysLemmas
 pub mod CheckLemmas
 pub mod InputLemmas

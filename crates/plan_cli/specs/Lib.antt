@@ -5,6 +5,7 @@ pub mod ScheduleRun
 pub mod ShopRun
 pub mod Tasks
 pub mod ListedTasks
+pub mod DatedTasks
 pub use Rattle.plan_net.specs.Network
 pub use Rattle.plan_cpm.specs.Dates
 pub use Rattle.plan_io.specs.Devices
@@ -34,6 +35,7 @@ pub mod ProveRun
 pub mod SolveRun
 pub mod Scheduled
 pub mod ChartRun
+pub mod Calendars
 pub mod DaysRun
 pub mod NamesRun
 pub mod Starts

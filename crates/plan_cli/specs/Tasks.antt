@@ -41,10 +41,8 @@ IsTextOf task.Dates = IsDateTableOf
 IsTextOf (task.Schedule rule given) = IsOfProject given.now (IsScheduleTextOf rule.now)
 IsTextOf (task.Chart from given) = IsOfProject given.now (IsChartFrom from)
 IsTextOf (task.ShopChart from instance) = IsOfShop instance.now (IsShopChartFrom from)
-IsTextOf (task.Days from dates given) =
-    IsOfProject given.now (IsDaysFrom from dates.start.now dates.marks.now)
-IsTextOf (task.ShopDays from dates instance) =
-    IsOfShop instance.now (IsShopDaysFrom from dates.start.now dates.marks.now)
+IsTextOf (task.Days from dates given) = IsOfProject given.now (IsDaysFrom from dates)
+IsTextOf (task.ShopDays from dates instance) = IsOfShop instance.now (IsShopDaysFrom from dates)
 IsTextOf task.Names = AreNamesOf
 IsTextOf (task.Check starts) = IsVerdictOf starts.now
 IsTextOf (task.ShopCheck starts instance) = IsShopVerdictOf starts.now instance.now
@@ -64,10 +62,9 @@ IsLineOf task.Dates = TellsFirstFailing
 IsLineOf (task.Schedule rule given) = RefusesFile given.now (TellsRefusal rule.now)
 IsLineOf (task.Chart from given) = RefusesFile given.now (TellsNotMade from)
 IsLineOf (task.ShopChart from instance) = RefusesShop instance.now (TellsShopNotMade from)
-IsLineOf (task.Days from dates given) =
-    RefusesFile given.now (TellsNoDaysFrom from dates.start.now dates.marks.now)
+IsLineOf (task.Days from dates given) = RefusesFile given.now (TellsNoDaysFrom from dates)
 IsLineOf (task.ShopDays from dates instance) =
-    RefusesShop instance.now (TellsNoShopDaysFrom from dates.start.now dates.marks.now)
+    RefusesShop instance.now (TellsNoShopDaysFrom from dates)
 IsLineOf task.Names = TellsNotPlain
 IsLineOf (task.Check starts) = TellsWhyNoVerdict starts.now
 IsLineOf (task.ShopCheck starts instance) = TellsWhyNoShopVerdict starts.now instance.now

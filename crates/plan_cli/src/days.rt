@@ -5,7 +5,6 @@ ghost use Rattle.plan_sgs.specs.Instances.{planned};
 ghost use Rattle.plan_net.specs.Network.{count_of};
 ghost use Rattle.plan_shop.specs.Docs.{shop_of};
 ghost use Rattle.plan_shop.specs.Shop.{count_steps};
-ghost use Rattle.plan_calendar.specs.CalendarText.{IsCalendar};
 ghost use Rattle.plan_gantt.specs.CalendarTable.{IsCalendarTable, HasActivityBeyond};
 ghost use Rattle.plan_gantt.specs.ShopCharts.{IsShopCalendarTable, HasStepBeyond};
 ghost use Rattle.plan_errors.specs.Output.{Refuses};
@@ -15,10 +14,11 @@ ghost use Rattle.plan_cli.specs.Plans.{IsOfShop, RefusesShop};
 ghost use Rattle.plan_cli.specs.Scheduled.{CanBeShown};
 ghost use Rattle.plan_cli.specs.DaysRun as spec;
 
+use crate::calendars::{Dates, calendar_of};
 use crate::capacities::{Capacity, replaced};
 use crate::origins::Origin;
 use crate::projects::{read_project, schedule_from};
-use crate::refusals::{calendar_refusal, days_refusal};
+use crate::refusals::days_refusal;
 use crate::shops::{read_instance, shop_schedule_from};
 use plan_errors::CliFault;
 use plan_gantt::{Calendar, calendar_table, shop_calendar_table};
@@ -28,22 +28,6 @@ use plan_psplib::ProjectDoc;
 use plan_sgs::Schedule;
 use plan_shop::Shop;
 use std::alloc::Global;
-
-/// The texts of a calendar: its first date, `YYYY-MM-DD` from 1900-01-01 to 2199-12-31, and a mark,
-/// `0` or `1`, for each weekday from Monday on.
-#[derive(Clone, Copy, Debug, Drop)]
-pub struct Dates<'a> {
-    pub start: &'a str,
-    pub marks: &'a str,
-}
-
-// Returns the calendar that a first date and the marks of the weekdays spell.
-fn calendar_of(alloc: Global, start: &str, marks: &str) -> Result<Calendar, CliFault>
-    ensures made { IfOk result (IsCalendar start.now marks.now) }
-    ensures refused { IfErr result (Refuses (spec.TellsNoCalendar start.now marks.now)) }
-{
-    Calendar::new(start, marks).map_err(|fault| calendar_refusal(alloc, fault))
-}
 
 // Returns the working days of a project's schedule.
 fn schedule_days(
@@ -72,13 +56,13 @@ fn planned_text(
     capacities: &[u64],
 ) -> Result<String, CliFault>
     requires { length capacities.now ≡ length project.now.available }
-    ensures made { IfText result (spec.IsDaysFrom origin.entry
-        dates.entry.start.now dates.entry.marks.now (planned project.now capacities.now)) }
-    ensures refused { IfErr result (Refuses (spec.TellsNoDaysFrom origin.entry
-        dates.entry.start.now dates.entry.marks.now (planned project.now capacities.now))) }
+    ensures made { IfText result (spec.IsDaysFrom origin.entry dates.entry
+        (planned project.now capacities.now)) }
+    ensures refused { IfErr result (Refuses (spec.TellsNoDaysFrom origin.entry dates.entry
+        (planned project.now capacities.now))) }
 {
     let schedule = schedule_from(alloc, origin, project, capacities)?;
-    let calendar = calendar_of(alloc, dates.start, dates.marks)?;
+    let calendar = calendar_of(alloc, dates)?;
     schedule_days(alloc, project.network(), &schedule, &calendar)
 }
 
@@ -91,9 +75,9 @@ fn project_text(
     project: &ProjectDoc,
 ) -> Result<String, CliFault>
     ensures made { IfText result (λ text. PlannedWith given.now project.now (λ i.
-        spec.IsDaysFrom origin.entry dates.entry.start.now dates.entry.marks.now i text)) }
+        spec.IsDaysFrom origin.entry dates.entry i text)) }
     ensures refused { IfErr result (Refuses (RefusesWith given.now project.now
-        (spec.TellsNoDaysFrom origin.entry dates.entry.start.now dates.entry.marks.now))) }
+        (spec.TellsNoDaysFrom origin.entry dates.entry))) }
 {
     let capacities = replaced(alloc, given, project.avail())?;
     planned_text(alloc, origin, dates, project, &capacities)
@@ -109,9 +93,9 @@ pub(crate) fn days_text(
     file: &[u8],
 ) -> Result<String, CliFault>
     ensures made { IfText result (IsOfProject given.now
-        (spec.IsDaysFrom origin.entry dates.entry.start.now dates.entry.marks.now) file.now) }
+        (spec.IsDaysFrom origin.entry dates.entry) file.now) }
     ensures refused { IfErr result (Refuses (RefusesFile given.now
-        (spec.TellsNoDaysFrom origin.entry dates.entry.start.now dates.entry.marks.now) file.now)) }
+        (spec.TellsNoDaysFrom origin.entry dates.entry) file.now)) }
 {
     let project = read_project(alloc, file)?;
     project_text(alloc, origin, dates, given, &project)
@@ -143,12 +127,12 @@ fn doc_text(
     doc: &ShopDoc,
 ) -> Result<String, CliFault>
     ensures made { IfText result (spec.IsShopDaysFrom
-        origin.entry dates.entry.start.now dates.entry.marks.now (shop_of doc.now)) }
+        origin.entry dates.entry (shop_of doc.now)) }
     ensures refused { IfErr result (Refuses (spec.TellsNoShopDaysFrom
-        origin.entry dates.entry.start.now dates.entry.marks.now (shop_of doc.now))) }
+        origin.entry dates.entry (shop_of doc.now))) }
 {
     let (shop, schedule) = shop_schedule_from(alloc, origin, doc)?;
-    let calendar = calendar_of(alloc, dates.start, dates.marks)?;
+    let calendar = calendar_of(alloc, dates)?;
     shop_schedule_days(alloc, &shop, &schedule, &calendar)
 }
 
@@ -161,9 +145,9 @@ pub(crate) fn shop_days_text(
     file: &[u8],
 ) -> Result<String, CliFault>
     ensures made { IfText result (IsOfShop instance.now (spec.IsShopDaysFrom
-        origin.entry dates.entry.start.now dates.entry.marks.now) file.now) }
+        origin.entry dates.entry) file.now) }
     ensures refused { IfErr result (Refuses (RefusesShop instance.now (spec.TellsNoShopDaysFrom
-        origin.entry dates.entry.start.now dates.entry.marks.now) file.now)) }
+        origin.entry dates.entry) file.now)) }
 {
     let doc = read_instance(alloc, instance, file)?;
     doc_text(alloc, origin, dates, &doc)

@@ -7,7 +7,9 @@ ghost use Rattle.plan_psplib.specs.Plain.{longest_text};
 ghost use Rattle.plan_errors.specs.Output.{HasSinkFailed};
 ghost use Rattle.plan_cli.specs.Tasks.{DoesTask, AreRead, bytes_behind};
 ghost use Rattle.plan_cli.specs.ListedTasks.{DoesListed};
+ghost use Rattle.plan_cli.specs.DatedTasks.{DoesDated, DoesDatedListed};
 
+use crate::dated_tasks::{listed_with_holidays, with_holidays};
 use crate::inputs::{Inputs, SystemInputs};
 use crate::listed_tasks::{ListedTask, with_starts};
 use crate::runs::run_task;
@@ -98,6 +100,79 @@ pub fn listed_on_named<I: Inputs, W: Sink>(
     )
 }
 
+/// Runs a task on a file with the holidays in another file, one of which may be `-` for standard
+/// input. The file of the holidays is read first. A file that can't be opened or read is
+/// [`CliFault::Input`].
+pub fn dated_on_named<I: Inputs, W: Sink>(
+    alloc: Global,
+    inputs: &I,
+    task: Task<'_>,
+    rows: Rows,
+    path: &str,
+    holidays_path: &str,
+    writer: &mut W,
+) -> Result<(), CliFault>
+    // The text of the task is written for the holidays in the one file and the bytes of the other.
+    ensures does { DoesDated task.entry rows
+        (bytes_behind I.Inputs inputs.now holidays_path.now)
+        (bytes_behind I.Inputs inputs.now path.now)
+        (W.taken writer.old) (W.taken writer.new) result }
+    ensures writes { W.calls writer.new ≤ W.calls writer.old + most_calls }
+    // With any other error than that of the output, nothing is written.
+    ensures quiet { IfErr result (λ e. (e ≡ CliFault.Output) ⊎ (writer.new ≡ writer.old)) }
+    ensures fine { OnOk result (W.faults writer.new ≡ W.faults writer.old) }
+    ensures output { IsErrOf result CliFault.Output → HasSinkFailed W.Sink writer.old writer.new }
+{
+    let holidays = read_named(alloc, inputs, holidays_path)?;
+    run_on_named(
+        alloc,
+        inputs,
+        with_holidays(task, &holidays),
+        rows,
+        &mut Unwatched,
+        &mut Unlogged,
+        path,
+        writer,
+    )
+}
+
+/// Runs a task on a file and a file of starts with the holidays in a third file, one of which may
+/// be `-` for standard input. The file of the holidays is read first, then that of the starts. A
+/// file that can't be opened or read is [`CliFault::Input`].
+pub fn dated_listed_on_named<I: Inputs, W: Sink>(
+    alloc: Global,
+    inputs: &I,
+    task: ListedTask<'_>,
+    rows: Rows,
+    path: &str,
+    starts_path: &str,
+    holidays_path: &str,
+    writer: &mut W,
+) -> Result<(), CliFault>
+    // The text of the task is written for the holidays, the starts and the bytes in the files.
+    ensures does { DoesDatedListed task.entry rows
+        (bytes_behind I.Inputs inputs.now holidays_path.now)
+        (bytes_behind I.Inputs inputs.now starts_path.now)
+        (bytes_behind I.Inputs inputs.now path.now)
+        (W.taken writer.old) (W.taken writer.new) result }
+    ensures writes { W.calls writer.new ≤ W.calls writer.old + most_calls }
+    // With any other error than that of the output, nothing is written.
+    ensures quiet { IfErr result (λ e. (e ≡ CliFault.Output) ⊎ (writer.new ≡ writer.old)) }
+    ensures fine { OnOk result (W.faults writer.new ≡ W.faults writer.old) }
+    ensures output { IsErrOf result CliFault.Output → HasSinkFailed W.Sink writer.old writer.new }
+{
+    let holidays = read_named(alloc, inputs, holidays_path)?;
+    listed_on_named(
+        alloc,
+        inputs,
+        listed_with_holidays(task, &holidays),
+        rows,
+        path,
+        starts_path,
+        writer,
+    )
+}
+
 /// Calls [`run_on_named`] with the system's files and standard input.
 pub fn run_on_file<R: Files + Input + AllocGlobal, W: Sink, V: ProofWatcher + SolveWatcher, L: Log>(
     rt: &R,
@@ -153,6 +228,66 @@ pub fn listed_on_files<R: Files + Input + AllocGlobal, W: Sink>(
         rows,
         path,
         starts_path,
+        writer,
+    )
+}
+
+/// Calls [`dated_on_named`] with the system's files and standard input.
+pub fn dated_on_files<R: Files + Input + AllocGlobal, W: Sink>(
+    rt: &R,
+    task: Task<'_>,
+    rows: Rows,
+    path: &str,
+    holidays_path: &str,
+    writer: &mut W,
+) -> Result<(), CliFault>
+    // The text of the task is written for the holidays and the bytes that were read.
+    ensures does { DoesDated task.entry rows None None
+        (W.taken writer.old) (W.taken writer.new) result }
+    ensures writes { W.calls writer.new ≤ W.calls writer.old + most_calls }
+    // With any other error than that of the output, nothing is written.
+    ensures quiet { IfErr result (λ e. (e ≡ CliFault.Output) ⊎ (writer.new ≡ writer.old)) }
+    ensures fine { OnOk result (W.faults writer.new ≡ W.faults writer.old) }
+    ensures output { IsErrOf result CliFault.Output → HasSinkFailed W.Sink writer.old writer.new }
+{
+    dated_on_named(
+        rt.alloc(),
+        &SystemInputs::new(rt),
+        task,
+        rows,
+        path,
+        holidays_path,
+        writer,
+    )
+}
+
+/// Calls [`dated_listed_on_named`] with the system's files and standard input.
+pub fn dated_listed_on_files<R: Files + Input + AllocGlobal, W: Sink>(
+    rt: &R,
+    task: ListedTask<'_>,
+    rows: Rows,
+    path: &str,
+    starts_path: &str,
+    holidays_path: &str,
+    writer: &mut W,
+) -> Result<(), CliFault>
+    // The text of the task is written for the holidays, the starts and the bytes that were read.
+    ensures does { DoesDatedListed task.entry rows None None None
+        (W.taken writer.old) (W.taken writer.new) result }
+    ensures writes { W.calls writer.new ≤ W.calls writer.old + most_calls }
+    // With any other error than that of the output, nothing is written.
+    ensures quiet { IfErr result (λ e. (e ≡ CliFault.Output) ⊎ (writer.new ≡ writer.old)) }
+    ensures fine { OnOk result (W.faults writer.new ≡ W.faults writer.old) }
+    ensures output { IsErrOf result CliFault.Output → HasSinkFailed W.Sink writer.old writer.new }
+{
+    dated_listed_on_named(
+        rt.alloc(),
+        &SystemInputs::new(rt),
+        task,
+        rows,
+        path,
+        starts_path,
+        holidays_path,
         writer,
     )
 }

@@ -1,8 +1,10 @@
 //! The commands of `plan` on files, from the bytes that they read to the bytes that they write.
 #![tactic(auto)]
 
+mod calendars;
 mod capacities;
 mod charts;
+mod dated_tasks;
 mod days;
 mod files;
 mod formatted;
@@ -29,9 +31,12 @@ mod turns;
 mod verdicts;
 mod watchers;
 
+pub use calendars::Dates;
 pub use capacities::Capacity;
-pub use days::Dates;
-pub use files::{listed_on_files, listed_on_named, run_on_file, run_on_named};
+pub use files::{
+    dated_listed_on_files, dated_listed_on_named, dated_on_files, dated_on_named, listed_on_files,
+    listed_on_named, run_on_file, run_on_named,
+};
 pub use inputs::Inputs;
 pub use listed_tasks::ListedTask;
 pub use origins::Origin;

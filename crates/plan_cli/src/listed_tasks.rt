@@ -2,8 +2,8 @@
 
 ghost use Rattle.plan_cli.specs.ListedTasks.{HasStarts};
 
+use crate::calendars::Dates;
 use crate::capacities::Capacity;
-use crate::days::Dates;
 use crate::origins::Origin;
 use crate::tasks::Task;
 

@@ -5,7 +5,8 @@ ghost use Rattle.plan_cli.specs.Run.{Tells};
 ghost use Rattle.plan_cli.specs.ScheduleRun.{TellsSchedule};
 ghost use Rattle.plan_cli.specs.ShopRun.{TellsShop};
 ghost use Rattle.plan_cli.specs.BestRun.{TellsSolving};
-ghost use Rattle.plan_cli.specs.DaysRun.{TellsCalendarFault, TellsDaysFault};
+ghost use Rattle.plan_cli.specs.Calendars.{TellsCalendarFault, TellsHolidayFault};
+ghost use Rattle.plan_cli.specs.DaysRun.{TellsDaysFault};
 
 use plan_errors::{CliFault, refusal_by};
 use plan_exact::ExactFault;
@@ -13,6 +14,7 @@ use plan_gantt::{
     CalendarFault, DaysFault, calendar_fault_text, exact_fault_text, file_fault_text,
     schedule_fault_text, shop_fault_text,
 };
+use plan_holidays::HolidayFault;
 use plan_psplib::{FileCode, FileFault};
 use plan_sgs::SgsFault;
 use plan_shop::ShopFault;
@@ -60,6 +62,17 @@ pub(crate) fn calendar_refusal(alloc: Global, fault: CalendarFault) -> CliFault
     ensures { Refuses (TellsCalendarFault fault) result }
 {
     refusal_by(calendar_fault_text(fault).to_string(alloc))
+}
+
+/// Returns the error of a text of holidays.
+pub(crate) fn holiday_refusal(alloc: Global, fault: HolidayFault) -> CliFault
+    ensures { Refuses (TellsHolidayFault fault) result }
+{
+    match fault {
+        HolidayFault::BadLine(line) => refusal_by(format!(in alloc; "G5 line {line} date")),
+        HolidayFault::TooMany => refusal_by("G6 holidays".to_string(alloc)),
+        HolidayFault::Memory => CliFault::Memory,
+    }
 }
 
 /// Returns the error of a table of working days.

@@ -5,9 +5,10 @@ ghost use Rattle.plan_table.specs.Names.{name_of};
 ghost use Rattle.plan_errors.specs.Output.{Refuses};
 ghost use Rattle.plan_cli.specs.Tasks.{IsFormattedText, IsTextOf, IsLineOf, ShowsTask, names_for};
 
+use crate::calendars::Dates;
 use crate::capacities::Capacity;
 use crate::charts::{chart_text, shop_chart_text};
-use crate::days::{Dates, days_text, shop_days_text};
+use crate::days::{days_text, shop_days_text};
 use crate::formatted::formatted;
 use crate::imports::{import_text, shop_import_text};
 use crate::names::names_text;
@@ -57,7 +58,7 @@ pub enum Task<'a> {
     },
     /// The working days of a project's schedule, those of the first and of the last time unit of
     /// each activity. A time unit is a working day. Errors of the calendar: `G1` (the date), `G2`
-    /// (the marks), `G3` (a day after 9999-12-31).
+    /// (the marks), `G5` and `G6` (the holidays), `G3` (a day after 9999-12-31).
     Days {
         origin: Origin<'a>,
         dates: Dates<'a>,

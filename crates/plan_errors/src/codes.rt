@@ -49,6 +49,8 @@ pub(crate) enum Code {
     BadDays,
     BeyondCalendar,
     NoCalendar,
+    BadHoliday,
+    ManyHolidays,
     UnknownCode,
     BadMessage,
     LargeBody,
@@ -125,6 +127,8 @@ impl Code {
             "G2" => Some(Code::BadDays),
             "G3" => Some(Code::BeyondCalendar),
             "G4" => Some(Code::NoCalendar),
+            "G5" => Some(Code::BadHoliday),
+            "G6" => Some(Code::ManyHolidays),
             "C1" => Some(Code::UnknownCode),
             "H1" => Some(Code::BadMessage),
             "H2" => Some(Code::LargeBody),
@@ -201,6 +205,8 @@ impl Code {
             Code::BadDays => "G2",
             Code::BeyondCalendar => "G3",
             Code::NoCalendar => "G4",
+            Code::BadHoliday => "G5",
+            Code::ManyHolidays => "G6",
             Code::UnknownCode => "C1",
             Code::BadMessage => "H1",
             Code::LargeBody => "H2",
@@ -276,6 +282,8 @@ impl Code {
             Code::BadDays => "the weekday marks are invalid",
             Code::BeyondCalendar => "the last day is after 9999-12-31",
             Code::NoCalendar => "the plan has no calendar",
+            Code::BadHoliday => "a line of the holidays is invalid",
+            Code::ManyHolidays => "too many holidays",
             Code::UnknownCode => "no such code",
             Code::BadMessage => "the request is incomplete or malformed",
             Code::LargeBody => "the body is too large",
@@ -432,13 +440,19 @@ impl Code {
                 "G1 date\nThe first date isn't a date from 1900-01-01 to 2199-12-31 in the form 2024-03-01.\nCorrect the date.\n"
             }
             Code::BadDays => {
-                "G2 days\nThe weekday marks aren't seven digits 0 or 1, Monday first, or all of them are 0.\nWrite 1111100 for Monday to Friday.\n"
+                "G2 days\nThe weekday marks aren't seven digits 0 or 1, Monday first, or all of them are 0.\nWrite 1111100 for Monday to Friday. plan days also takes mon-fri.\n"
             }
             Code::BeyondCalendar => {
                 "G3 beyond calendar\nA day of the result is after 9999-12-31.\nMark more working days, or choose a coarser time unit.\n"
             }
             Code::NoCalendar => {
                 "G4 no calendar\nWorking days were requested, and the plan has no calendar.\nSet its first date and its weekday marks.\n"
+            }
+            Code::BadHoliday => {
+                "G5 line N date\nLine N of the file of holidays is neither a date from 1900-01-01 to 2199-12-31, such as 2024-12-25, nor a range such as 2024-12-24..2024-12-31.\nCorrect the line. A comment starts with #.\n"
+            }
+            Code::ManyHolidays => {
+                "G6 holidays\nThe file of holidays names more than 10,000 days, or has more than 1,048,576 bytes. A day counts as often as it is named.\nDelete the days before and after the schedule.\n"
             }
             Code::UnknownCode => {
                 "C1 unknown code\nNo error has this code.\nGive an error line or its first word, for example F7.\n"

@@ -70,6 +70,8 @@ enum Form {
     NameUnlessStarts,
     /// An option with the name of a file of starts.
     Starts,
+    /// An option with the name of a file of holidays.
+    Holidays,
     /// An option with the format of the output.
     Format,
     /// An option without a value.
@@ -185,6 +187,12 @@ const STARTS: Argument = Argument {
     form: Form::Starts,
     help: "show the schedule with the start times in this file, or - for standard input; \
         leave out RULE",
+};
+
+const HOLIDAYS: Argument = Argument {
+    name: "holidays",
+    form: Form::Holidays,
+    help: "skip the days in this file, or - for standard input: on each line a date or DATE..DATE",
 };
 
 const INSTANCE: Argument = Argument {
@@ -410,7 +418,8 @@ const SCHEDULE_COMMANDS: [Entry; 3] = [
         examples: "Examples:\n  \
             plan days lft 2024-03-01 1111100 examples/house.sm\n  \
             plan days mwkr 2024-03-01 1111100 examples/shops.txt ft06\n  \
-            plan days --starts examples/starts.txt 2024-03-01 1111100 examples/six.sm",
+            plan days --starts examples/starts.txt 2024-03-01 1111100 examples/six.sm\n  \
+            plan days --holidays examples/holidays.txt lft 2024-03-01 mon-fri examples/house.sm",
         arguments: &[
             RULE,
             Argument {
@@ -421,11 +430,13 @@ const SCHEDULE_COMMANDS: [Entry; 3] = [
             Argument {
                 name: "MARKS",
                 form: Form::Text,
-                help: "seven digits, Monday first: 1 for a working day, 0 for a free day",
+                help: "the working days: mon-fri or mon,wed,fri; or seven digits, Monday first: \
+                    1 for a working day, 0 for a free day",
             },
             FILE_UNLESS_STARTS,
             INSTANCE_IF_SHOP,
             STARTS,
+            HOLIDAYS,
             CAPACITY_IF_PROJECT,
             NAMES,
             FORMAT,
@@ -603,6 +614,7 @@ fn arg_of<'a>(alloc: Global, argument: &Argument) -> Result<Arg<'a>, AllocError>
             .long(argument.name)
             .value_name("STARTS")
             .conflicts_with("INSTANCE")?,
+        Form::Holidays => arg.long(argument.name).value_name("HOLIDAYS"),
         Form::Format => arg
             .long(argument.name)
             .value_name("FORMAT")

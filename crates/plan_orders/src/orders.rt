@@ -37,7 +37,15 @@ pub enum FileOrder<'a> {
         task: ListedTask<'a>,
         file: &'a str,
         starts: &'a str,
+        /// The name of the file of holidays, if there is one.
+        holidays: Option<&'a str>,
         is_status: bool,
+    },
+    /// A task on the file with this name, with the holidays in another file.
+    Dated {
+        task: Task<'a>,
+        file: &'a str,
+        holidays: &'a str,
     },
     /// A table to start from.
     New(Template),
@@ -50,6 +58,11 @@ fn shown_name(path: &str) -> &str {
     if path == "-" { "standard input" } else { path }
 }
 
+// Tests whether an error line is about a file of holidays.
+fn is_of_holidays(line: &str) -> bool {
+    line.starts_with("G5 ") || line.starts_with("G6 ")
+}
+
 impl<'a> FileOrder<'a> {
     /// Returns the name of the file that an error line is about, if it is known.
     pub fn file_of(&self, line: &str) -> Option<&'a str> {
@@ -59,11 +72,20 @@ impl<'a> FileOrder<'a> {
         match self {
             FileOrder::Task(_, path) | FileOrder::Watched(_, path) => Some(shown_name(path)),
             FileOrder::Solve { file, .. } => Some(shown_name(file)),
+            FileOrder::Dated { holidays, .. } if is_of_holidays(line) => Some(shown_name(holidays)),
+            FileOrder::Dated { file, .. } if line != "I1 file" => Some(shown_name(file)),
+            FileOrder::Listed {
+                holidays: Some(holidays),
+                ..
+            } if is_of_holidays(line) => Some(shown_name(holidays)),
             FileOrder::Listed { starts, .. } if line.ends_with(" of the starts") => {
                 Some(shown_name(starts))
             }
             FileOrder::Listed { file, .. } if line != "I1 file" => Some(shown_name(file)),
-            FileOrder::Listed { .. } | FileOrder::New(_) | FileOrder::Explain(_) => None,
+            FileOrder::Listed { .. }
+            | FileOrder::Dated { .. }
+            | FileOrder::New(_)
+            | FileOrder::Explain(_) => None,
         }
     }
 }
@@ -142,6 +164,7 @@ fn days_task<'a>(
     let dates = Dates {
         start: arguments.get_str("START")?,
         marks: arguments.get_str("MARKS")?,
+        holidays: &[],
     };
     let origin = Origin::Rule(rule);
     Some(match arguments.get_str("INSTANCE") {
@@ -423,6 +446,7 @@ fn listed_chart<'a>(
         },
         file: arguments.get_str("RULE")?,
         starts,
+        holidays: None,
         is_status: false,
     })
 }
@@ -436,6 +460,7 @@ fn listed_days<'a>(
     let dates = Dates {
         start: arguments.get_str("RULE")?,
         marks: arguments.get_str("START")?,
+        holidays: &[],
     };
     Some(FileOrder::Listed {
         task: match arguments.get_str("FILE") {
@@ -444,6 +469,7 @@ fn listed_days<'a>(
         },
         file: arguments.get_str("MARKS")?,
         starts,
+        holidays: arguments.get_str("holidays"),
         is_status: false,
     })
 }
@@ -457,6 +483,7 @@ fn check_order<'a>(arguments: &'a ArgMatches<'_>) -> Option<FileOrder<'a>> {
         },
         file: arguments.get_str("FILE")?,
         starts: arguments.get_str("STARTS")?,
+        holidays: None,
         is_status: arguments.get_flag("status"),
     })
 }
@@ -474,6 +501,20 @@ fn listed_order<'a>(
     }
 }
 
+// Returns the order of `days` if it has a file of holidays.
+fn dated_order<'a>(
+    arguments: &'a ArgMatches<'_>,
+    task: Task<'a>,
+    file: &'a str,
+) -> Option<FileOrder<'a>> {
+    let holidays = arguments.get_str("holidays")?;
+    Some(FileOrder::Dated {
+        task,
+        file,
+        holidays,
+    })
+}
+
 // Returns the order of a command with a task on one file.
 fn plain_order<'a>(
     name: &str,
@@ -481,7 +522,13 @@ fn plain_order<'a>(
     capacities: &'a [Capacity<'a>],
 ) -> Option<FileOrder<'a>> {
     let task = task_of(name, arguments, capacities)?;
-    Some(FileOrder::Task(task, arguments.get_str("FILE")?))
+    let file = arguments.get_str("FILE")?;
+    if name == "days" {
+        if let Some(order) = dated_order(arguments, task, file) {
+            return Some(order);
+        }
+    }
+    Some(FileOrder::Task(task, file))
 }
 
 // Returns the order of any other command.
@@ -502,6 +549,7 @@ fn file_order<'a>(
             task: ListedTask::Slack { capacities },
             file: arguments.get_str("FILE")?,
             starts: arguments.get_str("STARTS")?,
+            holidays: None,
             is_status: false,
         }),
         _ => match listed_order(name, arguments, capacities) {

@@ -22,7 +22,15 @@ def check_calendar(start, marks):
         raise Fault("G2 days")
 
 
-def working_day(start, marks, t):
+def working_day(calendar, t):
+    """The working day of an instant. Calendars are pairs of a start and marks, or have a call of
+    their own."""
+    if hasattr(calendar, "working_day"):
+        return calendar.working_day(t)
+    return marked_day(*calendar, t)
+
+
+def marked_day(start, marks, t):
     """The marked date from a start on with exactly t before it. A week has as many as marks."""
     weeks, t = divmod(t, marks.count("1"))
     day = datetime.date.fromisoformat(start).toordinal() + 7 * weeks
@@ -114,7 +122,7 @@ def days_of(calendar, start, end):
     """The days of the first and the last occupied instant, each in 12 places."""
     if start == end:
         return f"{'-':>12}{'-':>12}"
-    return "".join(f"{working_day(*calendar, t):>12}" for t in (start, end - 1))
+    return "".join(f"{working_day(calendar, t):>12}" for t in (start, end - 1))
 
 
 def project_days(project, starts, calendar):

@@ -15,8 +15,8 @@ returns-clause-made c =
     let s = c.in_ok-shop.schedule in
     let calendar = c.in_ok-calendar.calendar in
     IfOk-weaker c.shop_schedule_days.result (λ text. IsShopCalendarTable calendar c.in_ok-shop.shop s.starts.items (string_bytes text))
-    (λ text. IsShopDaysFrom a.origin a.dates.start.now a.dates.marks.now shop (string_bytes text))
-    (λ text shown. shop_days_shown a.origin a.dates.start.now a.dates.marks.now shop c.in_ok-shop.shop s calendar (string_bytes text)
+    (λ text. IsShopDaysFrom a.origin a.dates shop (string_bytes text))
+    (λ text shown. shop_days_shown a.origin a.dates shop c.in_ok-shop.shop s calendar (string_bytes text)
     c.in_ok-shop.ensures.made c.in_ok-calendar.ensures.made c.in_ok-shop.ensures.shop shown) c.shop_schedule_days.ensures.made
 
 pub returns-clause-refused : goal.returns-clause-refused
@@ -26,6 +26,6 @@ returns-clause-refused c =
     let s = c.in_ok-shop.schedule in
     let calendar = c.in_ok-calendar.calendar in
     if_err_weaker c.shop_schedule_days.result (Refuses (TellsBeyond (HasStepBeyond calendar c.in_ok-shop.shop s.starts.items)))
-    (Refuses (TellsNoShopDaysFrom a.origin a.dates.start.now a.dates.marks.now shop))
-    (λ e refused. shop_days_beyond a.origin a.dates.start.now a.dates.marks.now shop c.in_ok-shop.shop s calendar e
+    (Refuses (TellsNoShopDaysFrom a.origin a.dates shop))
+    (λ e refused. shop_days_beyond a.origin a.dates shop c.in_ok-shop.shop s calendar e
     c.in_ok-shop.ensures.made c.in_ok-calendar.ensures.made c.in_ok-shop.ensures.shop refused) c.shop_schedule_days.ensures.refused

@@ -16,8 +16,8 @@ returns-clause-made c =
     let calendar = c.in_ok-calendar.calendar in
     let net = c.network.result.now in
     IfOk-weaker c.schedule_days.result (λ text. IsCalendarTable calendar net s.starts.items (string_bytes text))
-    (λ text. IsDaysFrom a.origin a.dates.start.now a.dates.marks.now i (string_bytes text))
-    (λ text shown. days_shown a.origin a.dates.start.now a.dates.marks.now i s calendar net (string_bytes text)
+    (λ text. IsDaysFrom a.origin a.dates i (string_bytes text))
+    (λ text shown. days_shown a.origin a.dates i s calendar net (string_bytes text)
     c.in_ok-schedule.ensures.made c.in_ok-calendar.ensures.made c.network.ensures.network shown) c.schedule_days.ensures.made
 
 pub returns-clause-refused : goal.returns-clause-refused
@@ -28,6 +28,6 @@ returns-clause-refused c =
     let calendar = c.in_ok-calendar.calendar in
     let net = c.network.result.now in
     if_err_weaker c.schedule_days.result (Refuses (TellsBeyond (HasActivityBeyond calendar net s.starts.items)))
-    (Refuses (TellsNoDaysFrom a.origin a.dates.start.now a.dates.marks.now i))
-    (λ e refused. days_beyond a.origin a.dates.start.now a.dates.marks.now i s calendar net e
+    (Refuses (TellsNoDaysFrom a.origin a.dates i))
+    (λ e refused. days_beyond a.origin a.dates i s calendar net e
     c.in_ok-schedule.ensures.made c.in_ok-calendar.ensures.made c.network.ensures.network refused) c.schedule_days.ensures.refused

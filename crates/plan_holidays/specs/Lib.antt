@@ -1,0 +1,3 @@
+pub mod HolidayText
+pub mod Rest
+pub mod WeekdayText
