@@ -116,8 +116,9 @@ fn is_over<V: SolveWatcher>(proof: &Proof, watcher: &mut V) -> bool {
     proof.lower >= proof.schedule.makespan || watcher.is_late()
 }
 
-/// Searches in turns of more and more conflicts and nodes, each from the schedule and the lower bound
-/// of the turn before. No turn has more than this number of conflicts.
+/// Searches a shop in turns, by conflicts and by nodes. Each turn starts from the schedule and the
+/// lower bound of the turn before, and has more conflicts or nodes. `most` is the greatest number of
+/// conflicts of a turn.
 pub(crate) fn search_in_turns<V: ProofWatcher + SolveWatcher>(
     alloc: Global,
     shop: &Shop,

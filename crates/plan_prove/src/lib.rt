@@ -9,7 +9,6 @@ mod ends;
 mod fault;
 mod finder;
 mod graph;
-mod guide;
 mod known;
 mod nodes;
 mod proof;

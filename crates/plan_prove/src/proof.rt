@@ -191,6 +191,8 @@ pub fn prove_from<W: Watcher>(
     ensures refused { IfErr result (spec.RefusesProving nodes) }
     // An invalid call allocates nothing.
     ensures early { IsErrOf result ProveFault.NoMemory → spec.IsNodeLimit nodes }
+    // It is no worse than the known proof.
+    ensures no_worse { IfOk result (spec.IsNoWorse known) }
     // All reports to the watcher are true of the shop, even if the search fails.
     ensures told { HearsTruth shop.now nodes (W.was_told watcher.old) (W.was_told watcher.new) }
 {
@@ -225,6 +227,7 @@ fn proof_of<W: Watcher>(
 ) -> Result<Proof, AllocError>
     requires { spec.IsProofOf shop.now known }
     ensures proof { IfOk result (spec.IsProofOf shop.now) }
+    ensures no_worse { IfOk result (spec.IsNoWorse known) }
     ensures nodes { IfOk result (λ proof. proof.nodes ≤ nodes) }
     ensures told { HearsTruth shop.now nodes (W.was_told watcher.old) (W.was_told watcher.new) }
 {

@@ -8,12 +8,12 @@ ghost use Rattle.plan_prove.specs.Proofs as spec;
 ghost use Rattle.plan_prove.specs.declared.refutation.Outcome.TheVariants.{Refuted, Stopped};
 
 use crate::graph::{Graph, graph_of};
-use crate::guide::active_schedule;
 use crate::proof::Proof;
 use crate::queue::Queue;
 use crate::refutation::{Outcome, first_states, refute};
 use crate::state::State;
 use crate::watcher::Watcher;
+use plan_active::active_shop_schedule;
 use plan_shop::Shop;
 use std::alloc::{AllocError, Global};
 
@@ -53,6 +53,7 @@ impl Search {
         requires { spec.IsProofOf shop.now proof }
         ensures search { IfOk result (spec.IsSearchOf shop.now) }
         ensures most { IfOk result (λ search. search.most ≡ nodes) }
+        ensures proof { IfOk result (λ search. search.proof ≡ proof) }
     {
         let graph = graph_of(alloc, shop)?;
         let queue = Queue::new(alloc, &graph)?;
@@ -172,6 +173,7 @@ impl Search {
     ) -> Result<bool, AllocError>
         requires { spec.IsSearchOf shop.now self.old }
         ensures search { IfOk result (λ _. spec.IsSearchOf shop.now self.new) }
+        ensures no_worse { IfOk result (λ _. spec.IsNoWorse self.old.proof self.new.proof) }
         ensures most { self.new.most ≡ self.old.most }
         ensures told { HearsTruth shop.now self.old.most (W.was_told watcher.old)
             (W.was_told watcher.new) }
@@ -206,6 +208,7 @@ impl Search {
     ) -> Result<(), AllocError>
         requires { spec.IsSearchOf shop.now self.old }
         ensures search { IfOk result (λ _. spec.IsSearchOf shop.now self.new) }
+        ensures no_worse { IfOk result (λ _. spec.IsNoWorse self.old.proof self.new.proof) }
         ensures most { self.new.most ≡ self.old.most }
         ensures told { HearsTruth shop.now self.old.most (W.was_told watcher.old)
             (W.was_told watcher.new) }
@@ -236,6 +239,7 @@ impl Search {
     ) -> Result<u64, AllocError>
         requires { spec.IsSearchOf shop.now self.old }
         ensures search { IfOk result (λ _. spec.IsSearchOf shop.now self.new) }
+        ensures no_worse { IfOk result (λ _. spec.IsNoWorse self.old.proof self.new.proof) }
         ensures most { self.new.most ≡ self.old.most }
         ensures told { HearsTruth shop.now self.old.most (W.was_told watcher.old)
             (W.was_told watcher.new) }
@@ -258,6 +262,7 @@ impl Search {
     ) -> Result<(), AllocError>
         requires { spec.IsSearchOf shop.now self.old }
         ensures search { IfOk result (λ _. spec.IsSearchOf shop.now self.new) }
+        ensures no_worse { IfOk result (λ _. spec.IsNoWorse self.old.proof self.new.proof) }
         ensures most { self.new.most ≡ self.old.most }
         ensures told { HearsTruth shop.now self.old.most (W.was_told watcher.old)
             (W.was_told watcher.new) }
@@ -281,6 +286,7 @@ impl Search {
     ) -> Result<(), AllocError>
         requires { spec.IsSearchOf shop.now self.old }
         ensures search { IfOk result (λ _. spec.IsSearchOf shop.now self.new) }
+        ensures no_worse { IfOk result (λ _. spec.IsNoWorse self.old.proof self.new.proof) }
         ensures most { self.new.most ≡ self.old.most }
         ensures told { HearsTruth shop.now self.old.most (W.was_told watcher.old)
             (W.was_told watcher.new) }
@@ -295,13 +301,13 @@ impl Search {
 // Keeps the active schedule of the heads of a leaf if it is shorter. Returns whether it is.
 fn improve(alloc: Global, shop: &Shop, heads: &[u32], proof: &mut Proof) -> Result<bool, AllocError>
     requires { spec.IsProofOf shop.now proof.old }
-    ensures { IfOk result (λ _. spec.IsProofOf shop.now proof.new) }
+    ensures proof { IfOk result (λ _. spec.IsProofOf shop.now proof.new) }
+    ensures no_worse { IfOk result (λ _. spec.IsNoWorse proof.old proof.new) }
 {
-    match active_schedule(alloc, shop, heads)? {
-        Some(schedule) if schedule.makespan < proof.schedule.makespan => {
-            proof.schedule = schedule;
-            Ok(true)
-        }
-        _ => Ok(false),
+    let schedule = active_shop_schedule(alloc, shop, heads)?;
+    let is_shorter = schedule.makespan < proof.schedule.makespan;
+    if is_shorter {
+        proof.schedule = schedule;
     }
+    Ok(is_shorter)
 }

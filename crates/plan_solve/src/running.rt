@@ -51,7 +51,8 @@ fn kernel_of<S: Solvable>(alloc: Global, source: &S, starts: &[u64]) -> Result<K
 fn lower_bound<S: Solvable>(source: &S, kernel: &Kernel, simple: u64) -> u64
     requires problem { inputs.problem_of kernel.now.known.input ≡ S.problem source.now }
     requires simple { IsLowerBound (S.problem source.now) simple }
-    ensures { IsLowerBound (S.problem source.now) result }
+    ensures lower { IsLowerBound (S.problem source.now) result }
+    ensures no_lower { simple ≤ result }
 {
     simple.max(kernel.lower_bound() as u64)
 }
@@ -93,6 +94,7 @@ pub fn run<S: Solvable, W: Watcher, L: Log>(
 ) -> Result<Found, AllocError>
     requires simple { IsLowerBound (S.problem source.now) simple }
     ensures lower { IfOk result (λ found. IsLowerBound (S.problem source.now) found.lower) }
+    ensures no_lower { IfOk result (λ found. simple ≤ found.lower) }
     ensures conflicts { IfOk result (λ found. found.conflicts ≤ conflicts) }
     ensures told { HearsTruth (S.problem source.now) conflicts
         (W.was_told watcher.old) (W.was_told watcher.new) }

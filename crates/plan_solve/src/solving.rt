@@ -36,7 +36,7 @@ impl Solved {
     }
 }
 
-// The shortest of a schedule and that of starts that were found.
+// Returns the shorter one of a schedule and the active schedule of starts that were found.
 fn best_of<S: Solvable>(
     alloc: Global,
     source: &S,
@@ -44,7 +44,8 @@ fn best_of<S: Solvable>(
     starts: &[u32],
 ) -> Result<Schedule, AllocError>
     requires { S.is_schedule source.now schedule }
-    ensures { IfOk result (S.is_schedule source.now) }
+    ensures schedule { IfOk result (S.is_schedule source.now) }
+    ensures no_longer { IfOk result (λ best. best.makespan ≤ schedule.makespan) }
 {
     match source.tightened(alloc, starts)? {
         Some(found) => Ok(shorter(found, schedule)),
@@ -52,25 +53,28 @@ fn best_of<S: Solvable>(
     }
 }
 
-/// Returns the result of a search with at most so many conflicts that starts from a schedule and a
-/// lower bound.
+/// Returns the result of a search with at most so many conflicts that starts from a known schedule
+/// and lower bound.
 pub fn searched_from<S: Solvable, W: Watcher, L: Log>(
     alloc: Global,
     source: &S,
-    schedule: Schedule,
-    lower: u64,
+    known: Solved,
     conflicts: u64,
     watcher: &mut W,
     log: &mut L,
 ) -> Result<Solved, AllocError>
-    requires schedule { S.is_schedule source.now schedule }
-    requires lower { spec.IsLowerBound (S.problem source.now) lower }
+    requires schedule { S.is_schedule source.now known.schedule }
+    requires lower { spec.IsLowerBound (S.problem source.now) known.lower }
+    ensures no_longer { IfOk result (λ solved.
+        solved.schedule.makespan ≤ known.schedule.makespan) }
+    ensures no_lower { IfOk result (λ solved. known.lower ≤ solved.lower) }
     ensures schedule { IfOk result (λ solved. S.is_schedule source.now solved.schedule) }
     ensures lower { IfOk result (λ solved. spec.IsLowerBound (S.problem source.now) solved.lower) }
     ensures conflicts { IfOk result (λ solved. solved.conflicts ≤ conflicts) }
     ensures told { HearsTruth (S.problem source.now) conflicts
         (W.was_told watcher.old) (W.was_told watcher.new) }
 {
+    let (schedule, lower) = (known.schedule, known.lower);
     if lower >= schedule.makespan && !log.is_wanted() {
         return Ok(Solved {
             schedule,
@@ -109,7 +113,10 @@ pub fn searched<S: Solvable, W: Watcher, L: Log>(
     ensures told { HearsTruth (S.problem source.now) conflicts
         (W.was_told watcher.old) (W.was_told watcher.new) }
 {
-    let schedule = source.by_rules(alloc)?;
-    let simple = source.simple_bound(alloc)?;
-    searched_from(alloc, source, schedule, simple, conflicts, watcher, log)
+    let known = Solved {
+        schedule: source.by_rules(alloc)?,
+        lower: source.simple_bound(alloc)?,
+        conflicts: 0,
+    };
+    searched_from(alloc, source, known, conflicts, watcher, log)
 }
