@@ -401,6 +401,15 @@ impl Search {
         Ok(Advance::Open)
     }
 
+    /// Takes the starts of a schedule, if they are feasible and shorter than the best ones. Returns
+    /// whether there is something left to search for.
+    pub fn take(&mut self, starts: Vec<u32>) -> Result<bool, AllocError>
+        ensures { self.new.prover.kernel.known.input ≡ self.old.prover.kernel.known.input }
+    {
+        self.go_back(0)?;
+        Ok(!self.prover.lower(starts)? || self.take_facts()?)
+    }
+
     /// Begins. Returns whether there is something to search for.
     pub fn begin(&mut self, alloc: Global) -> Result<bool, AllocError>
         ensures { self.new.prover.kernel.known.input ≡ self.old.prover.kernel.known.input }
