@@ -107,7 +107,8 @@ fn is_over<V: SolveWatcher>(proof: &Proof, watcher: &mut V) -> bool {
 }
 
 /// Searches a shop in turns, by conflicts and by nodes. Each search continues where it stopped, from
-/// the schedule and the lower bound of the other one. `most` is the number of conflicts of all turns.
+/// the schedule and the lower bound of the other one. `most` is the greatest number of conflicts of
+/// all turns.
 pub(crate) fn search_in_turns<V: ProofWatcher + SolveWatcher>(
     alloc: Global,
     shop: &Shop,
