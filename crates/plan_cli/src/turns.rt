@@ -106,9 +106,9 @@ fn is_over<V: SolveWatcher>(proof: &Proof, watcher: &mut V) -> bool {
     proof.lower >= proof.schedule.makespan || watcher.is_late()
 }
 
-/// Searches a shop in turns, by conflicts and by nodes. Each search continues where it stopped, from
-/// the schedule and the lower bound of the other one. `most` is the greatest number of conflicts of
-/// all turns.
+/// Searches a shop in turns, by conflicts and by nodes. Each search continues where it stopped,
+/// from the schedule and the lower bound of the other one. `most` is the greatest number of
+/// conflicts of all turns.
 pub(crate) fn search_in_turns<V: ProofWatcher + SolveWatcher>(
     alloc: Global,
     shop: &Shop,

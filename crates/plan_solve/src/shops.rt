@@ -162,8 +162,8 @@ pub fn solve_shop_watched<W: Watcher>(
     solve_shop_logged(alloc, shop, conflicts, watcher, &mut Unlogged)
 }
 
-/// Does the same, and writes what it proves to a log. With a log it also searches if the bounds that
-/// need no search meet. No clause says what the log gets: a checker of logs checks it.
+/// Does the same, and writes what it proves to a log. With a log it also searches if the bounds
+/// that need no search meet. No clause says what the log gets: a checker of logs checks it.
 pub fn solve_shop_logged<W: Watcher, L: Log>(
     alloc: Global,
     shop: &Shop,
@@ -201,8 +201,8 @@ pub fn solve_shop_logged<W: Watcher, L: Log>(
     Ok(searched?)
 }
 
-/// Returns the shortest schedule of the priority rules and a lower bound of all makespans that needs
-/// no search.
+/// Returns the shortest schedule of the priority rules and a lower bound of all makespans that
+/// needs no search.
 pub fn rule_solution(alloc: Global, shop: &Shop) -> Result<Solved, AllocError>
     ensures schedule { IfOk result (λ solved. IsActiveShopSchedule shop.now solved.schedule) }
     ensures lower { IfOk result (λ solved.
