@@ -224,6 +224,9 @@ impl Session {
             (W.was_told watcher.old) (W.was_told watcher.new) }
     {
         self.take(alloc, schedule)?;
+        if self.conflicts > 0 {
+            self.search.aim_above(simple);
+        }
         let used = self.search_all(alloc, source, simple, conflicts, watcher, log)?;
         let prover = &mut self.search.prover;
         let lower = prover.kernel.lower_bound();
