@@ -202,9 +202,7 @@ impl Search {
 
     // Whether no nodes are left, the turn is over, or the watcher ended the search.
     fn is_over(&self) -> bool {
-        self.left == 0
-            || self.is_late
-            || self.most.saturating_sub(self.left) >= self.course.turn
+        self.left == 0 || self.is_late || self.most.saturating_sub(self.left) >= self.course.turn
     }
 
     // Halves the gap between the lower bound and the best makespan by searches of `allowed` nodes

@@ -186,7 +186,8 @@ impl Session {
         for conflict in 0..conflicts {
             let kernel = &self.search.prover.kernel;
             if conflict % CONFLICTS_BETWEEN == 0
-                && (tell(watcher, source, kernel, simple, conflict) || is_met(kernel, simple, log))
+                && (tell(watcher, source, kernel, simple, conflict)
+                    || is_met(kernel, simple, log))
             {
                 return Ok(conflict);
             }
