@@ -240,8 +240,8 @@ fn proof_of<W: Watcher>(
     let taken = mem::replace(course, Course::new(alloc));
     let mut search = Search::new(alloc, shop, known, nodes, taken)?;
     search.run(alloc, shop, watcher)?;
-    *course = search.course;
-    course.weights = search.queue.weights;
+    search.course.weights = mem::replace(&mut search.queue.weights, Vec::new(alloc));
+    *course = mem::replace(&mut search.course, Course::new(alloc));
     let mut proof = search.proof;
     proof.nodes = search.most - search.left;
     Ok(proof)
