@@ -1,23 +1,19 @@
 //! Searches of a job shop in turns: by conflicts (plan_solve) and by nodes (plan_prove).
 
-ghost use Rattle.std.specs.Prelude.{◌≡◌, IfOk};
+ghost use Rattle.std.specs.Prelude.{◌≡◌, ◌≤◌, IfOk};
+ghost use Rattle.plan_shop.specs.Shop.{problem_of};
 ghost use Rattle.plan_prove.specs.Proofs.{IsNodeLimit, IsProofOf};
+ghost use Rattle.plan_solve.specs.Sessions.{IsSessionOf};
 ghost use Rattle.plan_solve.specs.Solutions.{IsConflictLimit};
 
 use crate::watchers::{ProofWatcher, SolveWatcher};
-use plan_prove::{MOST_NODES, Proof, ProveFault, prove_from};
+use plan_prove::{Course, MOST_NODES, Proof, ProveFault, prove_from};
 use plan_shop::Shop;
-use plan_solve::{SolveFault, Solved, solve_shop_from, solve_shop_watched};
+use plan_solve::{Session, SolveFault, Solved, rule_solution, shop_session, solve_shop_from};
 use std::alloc::{AllocError, Global};
 
-/// The greatest number of turns.
-const MOST_TURNS: u32 = 64;
-
-/// The number of conflicts of the first turn.
-const FIRST_CONFLICTS: u64 = 2_000;
-
-/// The number of conflicts of a turn, divided by that of the turn before.
-const GROWTH: u64 = 4;
+/// The least number of conflicts of a turn.
+const TURN_CONFLICTS: u64 = 2_000;
 
 /// The number of nodes that take about as long as one conflict.
 const NODES_PER_CONFLICT: u64 = 6;
@@ -34,60 +30,55 @@ fn proof_of(solved: Solved) -> Proof
     }
 }
 
-// Returns the proof of a search of at most so many conflicts that starts from the priority rules.
-fn first_proof<V: SolveWatcher>(
-    alloc: Global,
-    shop: &Shop,
-    conflicts: u64,
-    watcher: &mut V,
-) -> Result<Proof, AllocError>
-    requires { IsConflictLimit conflicts }
-    ensures { IfOk result (IsProofOf shop.now) }
-{
-    match solve_shop_watched(alloc, shop, conflicts, watcher) {
-        Ok(solved) => Ok(proof_of(solved)),
-        Err(SolveFault::NoMemory) => Err(AllocError),
-        Err(SolveFault::BadConflicts) => unreachable!(),
-    }
-}
-
-// Returns the proof of a search of at most so many conflicts that starts from another proof.
+// Continues a search from another proof, with at most so many conflicts.
 fn by_conflicts<V: SolveWatcher>(
     alloc: Global,
     shop: &Shop,
     known: Proof,
+    session: &mut Session,
     conflicts: u64,
     watcher: &mut V,
 ) -> Result<Proof, AllocError>
     requires known { IsProofOf shop.now known }
-    requires conflicts { IsConflictLimit conflicts }
-    ensures { IfOk result (IsProofOf shop.now) }
+    requires session { IsSessionOf (problem_of shop.now) session.old }
+    requires conflicts { conflicts ≤ 1000000000 }
+    ensures proof { IfOk result (IsProofOf shop.now) }
+    ensures session { IsSessionOf (problem_of shop.now) session.new }
 {
+    if conflicts == 0 {
+        return Ok(known);
+    }
     let known = Solved {
         schedule: known.schedule,
         lower: known.lower,
         conflicts: 0,
     };
-    match solve_shop_from(alloc, shop, known, conflicts, watcher) {
+    match solve_shop_from(alloc, shop, known, session, conflicts, watcher) {
         Ok(solved) => Ok(proof_of(solved)),
         Err(SolveFault::NoMemory) => Err(AllocError),
         Err(SolveFault::BadConflicts) => unreachable!(),
     }
 }
 
-// Returns the proof of a search of at most so many nodes that starts from another proof.
+// Continues a search from another proof, with at most so many nodes.
 fn by_nodes<V: ProofWatcher>(
     alloc: Global,
     shop: &Shop,
-    known: Proof,
+    mut known: Proof,
+    course: &mut Course,
     nodes: u64,
     watcher: &mut V,
 ) -> Result<Proof, AllocError>
     requires known { IsProofOf shop.now known }
-    requires nodes { IsNodeLimit nodes }
-    ensures { IfOk result (IsProofOf shop.now) }
+    requires nodes { nodes ≤ 1000000000 }
+    ensures proof { IfOk result (IsProofOf shop.now) }
+    ensures nodes { IfOk result (λ proof. proof.nodes ≤ nodes) }
 {
-    match prove_from(alloc, shop, known, nodes, watcher) {
+    if nodes == 0 {
+        known.nodes = 0;
+        return Ok(known);
+    }
+    match prove_from(alloc, shop, known, nodes, course, watcher) {
         Ok(proof) => Ok(proof),
         Err(ProveFault::NoMemory) => Err(AllocError),
         Err(ProveFault::BadNodes) => unreachable!(),
@@ -96,19 +87,18 @@ fn by_nodes<V: ProofWatcher>(
 
 // Returns the number of nodes that take about as long as so many conflicts.
 fn nodes_for(conflicts: u64) -> u64
-    requires { IsConflictLimit conflicts }
-    ensures { IsNodeLimit result }
+    ensures { result ≤ 1000000000 }
 {
     conflicts.saturating_mul(NODES_PER_CONFLICT).min(MOST_NODES)
 }
 
-// Returns the number of conflicts of the next turn, which is at most a limit.
-fn next_conflicts(conflicts: u64, most: u64) -> u64
-    requires conflicts { IsConflictLimit conflicts }
-    requires most { IsConflictLimit most }
-    ensures { IsConflictLimit result }
-{
-    conflicts.saturating_mul(GROWTH).min(most)
+// Returns the number of nodes after which a turn ends. The last turn takes all that are left.
+fn nodes_of_turn(turn: u64, conflicts: u64) -> u64 {
+    if conflicts == 0 {
+        u64::MAX
+    } else {
+        nodes_for(turn)
+    }
 }
 
 // Whether the schedule is a shortest one, or the watcher ends the search.
@@ -116,8 +106,9 @@ fn is_over<V: SolveWatcher>(proof: &Proof, watcher: &mut V) -> bool {
     proof.lower >= proof.schedule.makespan || watcher.is_late()
 }
 
-/// Searches in turns of more and more conflicts and nodes, each from the schedule and the lower
-/// bound of the turn before. No turn has more than this number of conflicts.
+/// Searches a shop in turns, by conflicts and by nodes. Each search continues where it stopped,
+/// from the schedule and the lower bound of the other one. `most` is the greatest number of
+/// conflicts of all turns.
 pub(crate) fn search_in_turns<V: ProofWatcher + SolveWatcher>(
     alloc: Global,
     shop: &Shop,
@@ -127,18 +118,25 @@ pub(crate) fn search_in_turns<V: ProofWatcher + SolveWatcher>(
     requires { IsConflictLimit most }
     ensures { IfOk result (IsProofOf shop.now) }
 {
-    let mut conflicts = most.min(FIRST_CONFLICTS);
-    let mut best = first_proof(alloc, shop, conflicts, watcher)?;
-    for _turn in 0..MOST_TURNS {
+    let known = rule_solution(alloc, shop)?;
+    let mut session = shop_session(alloc, shop, &known)?;
+    let mut course = Course::new(alloc);
+    let mut best = proof_of(known);
+    let (mut conflicts, mut nodes, mut turn) = (most, nodes_for(most), TURN_CONFLICTS);
+    for _turn in 0..most {
+        if is_over(&best, watcher) || conflicts == 0 && nodes == 0 {
+            break;
+        }
+        let part = turn.min(conflicts);
+        best = by_conflicts(alloc, shop, best, &mut session, part, watcher)?;
+        conflicts -= part;
         if is_over(&best, watcher) {
             break;
         }
-        best = by_nodes(alloc, shop, best, nodes_for(conflicts), watcher)?;
-        if conflicts == most || is_over(&best, watcher) {
-            break;
-        }
-        conflicts = next_conflicts(conflicts, most);
-        best = by_conflicts(alloc, shop, best, conflicts, watcher)?;
+        course.turn = nodes_of_turn(turn, conflicts);
+        best = by_nodes(alloc, shop, best, &mut course, nodes, watcher)?;
+        nodes -= best.nodes;
+        turn = TURN_CONFLICTS.max(best.nodes / NODES_PER_CONFLICT);
     }
     Ok(best)
 }

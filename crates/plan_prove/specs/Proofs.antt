@@ -1,8 +1,9 @@
 -- Proofs: schedules with lower bounds of all makespans (docs/definitions.md, "Proofs of optima").
-use Rattle.std.specs.Prelude.{◌≡◌, ℕ, ◌≤◌, ◌<◌, List, All}
-use Rattle.plan_sgs.specs.Problem.{IsFeasible, IsActive, makespan}
+use Rattle.std.specs.Prelude.{◌≡◌, ℕ, ◌≤◌, ◌<◌, List}
+use Rattle.plan_sgs.specs.Problem.{IsFeasible, makespan}
 use Rattle.plan_sgs.specs.declared.schedule.Schedule.{Schedule}
 use Rattle.plan_shop.specs.Shop.{JobShop, problem_of}
+use Rattle.plan_active.specs.Shifts.{IsActiveInTime}
 use Rattle.plan_prove.specs.declared.fault.ProveFault.{ProveFault}
 use Rattle.plan_prove.specs.declared.fault.ProveFault.TheVariants.{NoMemory, BadNodes}
 use Rattle.plan_prove.specs.declared.proof.Proof.{Proof}
@@ -15,15 +16,18 @@ IsLowerBound s lower =
     (starts : List ℕ) → IsFeasible (problem_of s) starts → lower ≤ makespan (problem_of s) starts
 
 -- an active schedule of a shop with its makespan, no start of which is after 10,000,000
-pub record IsActiveSchedule (s : JobShop) (schedule : Schedule) : Type 0 where
-  pub active : IsActive (problem_of s) schedule.starts.items
-  pub makespan_is : schedule.makespan ≡ makespan (problem_of s) schedule.starts.items
-  pub within : All (λ t. t ≤ 10000000) schedule.starts.items
+abbrev pub IsActiveSchedule : JobShop → Schedule → Type 0
+IsActiveSchedule s schedule = IsActiveInTime (problem_of s) schedule
 
 -- an active schedule and a lower bound
 pub record IsProofOf (s : JobShop) (proof : Proof) : Type 0 where
   pub schedule : IsActiveSchedule s proof.schedule
   pub lower : IsLowerBound s proof.lower
+
+-- a proof is no worse than an old one
+pub record IsNoWorse (old new : Proof) : Type 0 where
+  pub no_longer : new.schedule.makespan ≤ old.schedule.makespan
+  pub no_lower : old.lower ≤ new.lower
 
 -- the invariant of a search of a shop: the graph and the proof are those of the shop, and no more
 -- nodes are left than the search may visit in all

@@ -3,13 +3,13 @@
 
 mod branching;
 mod cliques;
+mod course;
 mod deduction;
 mod edges;
 mod ends;
 mod fault;
 mod finder;
 mod graph;
-mod guide;
 mod known;
 mod nodes;
 mod proof;
@@ -19,6 +19,7 @@ mod search;
 mod state;
 mod watcher;
 
+pub use course::Course;
 pub use fault::ProveFault;
 pub use nodes::parse_nodes;
 pub use proof::{MOST_NODES, Proof, prove, prove_from, prove_watched};

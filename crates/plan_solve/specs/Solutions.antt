@@ -1,9 +1,10 @@
 -- Active schedules with lower bounds of all makespans (docs/definitions.md, "Proofs of optima").
-use Rattle.std.specs.Prelude.{◌≡◌, ℕ, ◌≤◌, ◌<◌, List, All}
+use Rattle.std.specs.Prelude.{◌≡◌, ℕ, ◌≤◌, ◌<◌, List}
 use Rattle.plan_sgs.specs.Problem.{Problem, IsFeasible, IsActive, makespan}
 use Rattle.plan_sgs.specs.Placement.{AllEndBy, latest_end}
 use Rattle.plan_sgs.specs.declared.schedule.Schedule.{Schedule}
 use Rattle.plan_shop.specs.Shop.{JobShop, problem_of}
+use Rattle.plan_active.specs.Shifts.{IsActiveInTime}
 use Rattle.plan_solve.specs.declared.fault.SolveFault.{SolveFault}
 use Rattle.plan_solve.specs.declared.fault.SolveFault.TheVariants.{NoMemory, BadConflicts}
 
@@ -18,10 +19,8 @@ pub record IsActiveSchedule (p : Problem) (schedule : Schedule) : Type 0 where
   pub ends : AllEndBy p schedule.starts.items latest_end
 
 -- an active schedule of a shop with its makespan, no start of which is after 10,000,000
-pub record IsActiveShopSchedule (s : JobShop) (schedule : Schedule) : Type 0 where
-  pub active : IsActive (problem_of s) schedule.starts.items
-  pub makespan_is : schedule.makespan ≡ makespan (problem_of s) schedule.starts.items
-  pub within : All (λ t. t ≤ 10000000) schedule.starts.items
+abbrev pub IsActiveShopSchedule : JobShop → Schedule → Type 0
+IsActiveShopSchedule s schedule = IsActiveInTime (problem_of s) schedule
 
 -- how many conflicts may be allowed
 abbrev pub IsConflictLimit : ℕ → Type 0

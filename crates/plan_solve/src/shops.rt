@@ -1,19 +1,21 @@
 //! Shortest schedules of job shops.
 
-ghost use Rattle.std.specs.Prelude.{◌≡◌, ◌≤◌, All, Contains, IfOk, IfErr, IfSome, IsErrOf};
+ghost use Rattle.std.specs.Prelude.{◌≡◌, ◌≤◌, All, IfOk, IfErr, IsErrOf};
 ghost use Rattle.plan_sgs.specs.Problem.{IsActive, IsShortest, makespan};
 ghost use Rattle.plan_shop.specs.Shop.{problem_of};
 ghost use Rattle.plan_solve.specs.Solutions.{IsActiveShopSchedule};
 ghost use Rattle.plan_solve.specs.Progress.{HearsTruth};
+ghost use Rattle.plan_solve.specs.Sessions.{IsSessionOf};
 ghost use Rattle.plan_solve.specs.Solutions as spec;
 
 use crate::fault::SolveFault;
-use crate::lists::{at, put};
 use crate::log::{Log, Unlogged};
+use crate::running::Session;
 use crate::schedules::shorter;
 use crate::solvable::Solvable;
-use crate::solving::{MOST_CONFLICTS, Solved, searched, searched_from};
+use crate::solving::{MOST_CONFLICTS, Solved, searched, searched_from, unsearched};
 use crate::watcher::{Unwatched, Watcher};
+use plan_active::active_shop_schedule;
 use plan_kernel::{Input, Order};
 use plan_sgs::Schedule;
 use plan_shop::{Shop, ShopRule, ShopTree, giffler};
@@ -75,56 +77,6 @@ fn by_rules(alloc: Global, shop: &Shop) -> Result<Schedule, AllocError>
     Ok(shorter(shorter(most_work, first_come), shortest_time))
 }
 
-// Returns the letter whose next step starts first in a list of starts.
-fn first_of(letters: &[u32], next: &[u32], starts: &[u32]) -> Option<u32>
-    ensures { IfSome result (Contains letters.now) }
-{
-    let mut best: Option<u32> = None;
-    let mut least = u32::MAX;
-    for letter in letters {
-        let start = at(starts, at(next, *letter));
-        if start < least {
-            least = start;
-            best = Some(*letter);
-        }
-    }
-    best
-}
-
-// The first step of each job, by the job's number from 1 on.
-fn first_steps(alloc: Global, shop: &Shop) -> Result<Vec<u32>, AllocError> {
-    let mut next = Vec::new(alloc);
-    next.push(0)?;
-    for job in 0..shop.jobs() {
-        next.push(job * shop.machines())?;
-    }
-    Ok(next)
-}
-
-// Builds an active schedule (Giffler and Thompson 1960). Among the steps that compete it chooses
-// the one that starts first in the given list.
-fn activated(alloc: Global, shop: &Shop, starts: &[u32]) -> Result<Option<Schedule>, AllocError>
-    ensures { IfOk result (λ found. IfSome found (IsActiveShopSchedule shop.now)) }
-{
-    let mut tree = ShopTree::new(alloc, shop)?;
-    let mut next = first_steps(alloc, shop)?;
-    let mut letters = Vec::new(alloc);
-    for _turn in 0..shop.jobs() * shop.machines() {
-        letters.clear();
-        tree.letters(&mut letters)?;
-        if let Some(letter) = first_of(&letters, &next, starts) {
-            tree.push(letter)?;
-            let following = at(&next, letter).saturating_add(1);
-            put(&mut next, letter, following);
-        }
-    }
-    if tree.full() {
-        Ok(Some(tree.schedule(alloc)?))
-    } else {
-        Ok(None)
-    }
-}
-
 impl Solvable for Shop {
     ghost use Rattle.plan_shop.specs.Shop.{problem_of};
     ghost use Rattle.plan_solve.specs.Solutions.{IsActiveShopSchedule};
@@ -146,7 +98,7 @@ impl Solvable for Shop {
     }
 
     fn tightened(&self, alloc: Global, starts: &[u32]) -> Result<Option<Schedule>, AllocError> {
-        activated(alloc, self, starts)
+        Ok(Some(active_shop_schedule(alloc, self, starts)?))
     }
 }
 
@@ -210,8 +162,8 @@ pub fn solve_shop_watched<W: Watcher>(
     solve_shop_logged(alloc, shop, conflicts, watcher, &mut Unlogged)
 }
 
-/// Does the same, and writes what it proves to a log. With a log it also searches if the bounds that
-/// need no search meet. No clause says what the log gets: a checker of logs checks it.
+/// Does the same, and writes what it proves to a log. With a log it also searches if the bounds
+/// that need no search meet. No clause says what the log gets: a checker of logs checks it.
 pub fn solve_shop_logged<W: Watcher, L: Log>(
     alloc: Global,
     shop: &Shop,
@@ -249,17 +201,37 @@ pub fn solve_shop_logged<W: Watcher, L: Log>(
     Ok(searched?)
 }
 
-/// Does the same as [`solve_shop_watched`], and starts from a schedule and a lower bound that are
-/// known instead of those of the priority rules.
+/// Returns the shortest schedule of the priority rules and a lower bound of all makespans that
+/// needs no search.
+pub fn rule_solution(alloc: Global, shop: &Shop) -> Result<Solved, AllocError>
+    ensures schedule { IfOk result (λ solved. IsActiveShopSchedule shop.now solved.schedule) }
+    ensures lower { IfOk result (λ solved.
+        spec.IsLowerBound (problem_of shop.now) solved.lower) }
+{
+    unsearched(alloc, shop)
+}
+
+/// Returns a search of a job shop that starts from a schedule and hasn't begun.
+pub fn shop_session(alloc: Global, shop: &Shop, known: &Solved) -> Result<Session, AllocError>
+    ensures { IfOk result (IsSessionOf (problem_of shop.now)) }
+{
+    Session::new(alloc, shop, &known.schedule.starts, false)
+}
+
+/// Continues a search of a job shop from a known schedule and lower bound, otherwise as
+/// [`solve_shop_watched`].
 pub fn solve_shop_from<W: Watcher>(
     alloc: Global,
     shop: &Shop,
     known: Solved,
+    session: &mut Session,
     conflicts: u64,
     watcher: &mut W,
 ) -> Result<Solved, SolveFault>
     requires schedule { IsActiveShopSchedule shop.now known.schedule }
     requires lower { spec.IsLowerBound (problem_of shop.now) known.lower }
+    requires session { IsSessionOf (problem_of shop.now) session.old }
+    ensures session { IsSessionOf (problem_of shop.now) session.new }
     ensures active { IfOk result (λ solved.
         IsActive (problem_of shop.now) solved.schedule.starts.items) }
     ensures makespan { IfOk result (λ solved.
@@ -278,6 +250,10 @@ pub fn solve_shop_from<W: Watcher>(
     ensures refused { IfErr result (spec.RefusesSolving conflicts) }
     // What is refused takes no memory.
     ensures early { IsErrOf result SolveFault.NoMemory → spec.IsConflictLimit conflicts }
+    // It is no worse than what was known.
+    ensures no_longer { IfOk result (λ solved.
+        solved.schedule.makespan ≤ known.schedule.makespan) }
+    ensures no_lower { IfOk result (λ solved. known.lower ≤ solved.lower) }
     // All that the watcher is told is true of the shop, whatever the search comes to.
     ensures told { HearsTruth (problem_of shop.now) conflicts
         (W.was_told watcher.old) (W.was_told watcher.new) }
@@ -285,16 +261,8 @@ pub fn solve_shop_from<W: Watcher>(
     if conflicts == 0 || conflicts > MOST_CONFLICTS {
         return Err(SolveFault::BadConflicts);
     }
-    let (schedule, lower) = (known.schedule, known.lower);
-    let searched = searched_from(
-        alloc,
-        shop,
-        schedule,
-        lower,
-        conflicts,
-        watcher,
-        &mut Unlogged,
-    );
+    let log = &mut Unlogged;
+    let searched = searched_from(alloc, shop, known, session, conflicts, watcher, log);
     watcher.end();
     Ok(searched?)
 }

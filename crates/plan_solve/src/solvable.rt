@@ -30,8 +30,8 @@ pub trait Solvable {
     fn simple_bound(&self, alloc: Global) -> Result<u64, AllocError>
         ensures { IfOk result (IsLowerBound (problem self.now)) };
 
-    /// Returns an active schedule made from a feasible list of starts. It should be no longer than
-    /// the list, which no clause states.
+    /// Returns an active schedule made from a feasible list of starts. For a job shop it is proved
+    /// to be no longer than the list (plan_active).
     fn tightened(&self, alloc: Global, starts: &[u32]) -> Result<Option<Schedule>, AllocError>
         ensures { IfOk result (λ found. IfSome found (is_schedule self.now)) };
 }

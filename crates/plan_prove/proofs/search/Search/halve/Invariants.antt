@@ -1,5 +1,5 @@
 use Rattle.std.proofs.Common.{◌≡◌}
-use Rattle.plan_prove.specs.Proofs.{IsSearchOf}
+use Rattle.plan_prove.specs.Proofs.{IsSearchOf, IsNoWorse}
 use Rattle.plan_prove.specs.Progress.{HearsTruth}
 use Rattle.plan_prove.proofs.search.Search.halve.Given as goal
 
@@ -7,6 +7,7 @@ use Rattle.plan_prove.proofs.search.Search.halve.Given as goal
 abbrev pub invariant-loop-halving : goal.invariant-loop-halving
 invariant-loop-halving g l = record {
   search : IsSearchOf l.shop l.self;
+  no_worse : IsNoWorse l.fn.self.proof l.self.proof;
   most : l.self.most ≡ l.fn.self.most;
   told : HearsTruth l.shop l.fn.self.most (g.W.Watcher.was_told l.fn.watcher) (g.W.Watcher.was_told l.watcher);
 }
