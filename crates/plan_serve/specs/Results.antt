@@ -22,8 +22,8 @@ use Rattle.plan_serve.specs.InitRun.{IsOpenedFrom}
 use Rattle.plan_serve.specs.Reports.{ReportsTo, KeepsNone}
 use Rattle.plan_serve.specs.Returned.{Closed, InitsOnce, WorksOnce}
 
--- The reported result of a command that ended with `done`: the same, or another cause in the place
--- of the store's refusal. It is the same if files were closed.
+-- The result that is reported if a command ended with `done`: `done` itself, or the cause for which
+-- the store refused the files. If files were closed, it is `done`.
 abbrev pub IsToldOf : {C : Type 0} → Result (Unit {0}) ServeFault → Option C
     → Result (Unit {0}) ServeFault → Type 0
 IsToldOf done closed told = IsToldAnew done told × IfSome closed (λ _. told ≡ done)
