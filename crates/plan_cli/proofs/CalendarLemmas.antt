@@ -1,5 +1,5 @@
 -- The calendar of texts, and their refusals.
-use Rattle.std.proofs.Common.{inl, inr, ℕ, List}
+use Rattle.std.proofs.Common.{inl, inr}
 use Rattle.plan_calendar.specs.WorkingDay.{Workdays}
 use Rattle.plan_errors.specs.declared.fault.CliFault.{CliFault}
 use Rattle.plan_errors.specs.Output.{Refuses}

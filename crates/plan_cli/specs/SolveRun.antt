@@ -1,5 +1,5 @@
 -- The output of `plan solve` for the bytes that it reads (docs/definitions.md, "Runs").
-use Rattle.std.specs.Prelude.{◌≡◌, ◌⊎◌, ℕ, List, ◌++◌}
+use Rattle.std.specs.Prelude.{◌≡◌, ℕ, List, ◌++◌}
 use Rattle.plan_orlib.specs.Shop as docs
 use Rattle.plan_orlib.specs.Says.{Says}
 use Rattle.plan_sgs.specs.Problem.{IsActive, IsShortest, makespan}

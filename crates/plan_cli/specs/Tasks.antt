@@ -1,6 +1,6 @@
 -- The texts and lines of each task, and files that are given by their names (docs/definitions.md,
 -- "Runs").
-use Rattle.std.specs.Prelude.{◌≡◌, ℕ, ◌+◌, ◌≤◌, List, [], Option, Result, Err, IfSome, length}
+use Rattle.std.specs.Prelude.{◌≡◌, ℕ, ◌+◌, List, [], Option, Result, IfSome}
 use Rattle.std.specs.Prelude.{take, map}
 use Rattle.std.specs.Prelude.{codes, bytes_eq, if◌then◌else◌}
 use Rattle.plan_gantt.specs.FirstFaults.{TellsFirstFailing, TellsFirstShopFault}
@@ -33,7 +33,6 @@ use Rattle.plan_cli.specs.declared.tasks.Task.{Task}
 use Rattle.plan_cli.specs.declared.tasks.Task.TheVariants as task
 use Rattle.plan_psplib.specs.Plain.{longest_text}
 use Rattle.plan_errors.specs.declared.fault.CliFault.{CliFault}
-use Rattle.plan_errors.specs.declared.fault.CliFault.TheVariants as fault
 
 -- the texts that a task writes for a file
 abbrev pub IsTextOf : Task → List ℕ → List ℕ → Type 0

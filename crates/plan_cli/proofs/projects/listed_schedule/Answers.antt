@@ -1,6 +1,6 @@
 use Rattle.std.proofs.lemmas.Result.{err_from_is_err_and}
 use Rattle.plan_cli.proofs.CheckLemmas.{bad_starts}
-use Rattle.plan_cli.proofs.OriginLemmas.{unlisted, shows}
+use Rattle.plan_cli.proofs.OriginLemmas.{unlisted}
 use Rattle.plan_cli.proofs.projects.listed_schedule.Goals as goal
 
 pub returns-in_err-starts-clause-refused : goal.returns-in_err-starts-clause-refused

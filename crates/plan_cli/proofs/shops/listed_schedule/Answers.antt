@@ -1,5 +1,5 @@
 use Rattle.std.proofs.lemmas.Result.{err_from_is_err_and}
-use Rattle.plan_cli.proofs.OriginLemmas.{shop_unlisted, shows_shop}
+use Rattle.plan_cli.proofs.OriginLemmas.{shop_unlisted}
 use Rattle.plan_cli.proofs.shops.listed_schedule.Goals as goal
 
 pub returns-in_err-starts-clause-refused : goal.returns-in_err-starts-clause-refused
