@@ -57,7 +57,8 @@ impl Next {
 enum Rank {
     Waiting,
     Late,
-    Ready,
+    Long,
+    Whole,
 }
 
 // A queued connection: the time when it was queued, and what has arrived since.
@@ -109,13 +110,13 @@ impl Pending {
 
     fn rank(&self, now: Instant, patience: u32) -> Rank {
         if self.arrival == Arrival::Whole {
-            return Rank::Ready;
+            return Rank::Whole;
         }
         if self.is_late(now, patience) {
             return Rank::Late;
         }
         if self.arrival == Arrival::Enough {
-            return Rank::Ready;
+            return Rank::Long;
         }
         Rank::Waiting
     }
@@ -201,7 +202,7 @@ impl Queue {
         let Ok(connection) = Pending::new(rt, stream) else {
             return false;
         };
-        let is_full = self.pending.len() >= MOST_PENDING;
+        let is_full = self.is_full();
         if is_full {
             self.close_oldest();
         }
@@ -244,16 +245,27 @@ impl Queue {
         })
     }
 
-    /// Removes and returns the oldest connection whose request has arrived. If there is none, it
-    /// takes the oldest one whose request didn't arrive in `patience` seconds. It also reads what
-    /// clients send after their responses.
+    /// Whether no more connections can be queued without closing one.
+    pub(crate) fn is_full(&self) -> bool {
+        self.pending.len() >= MOST_PENDING
+    }
+
+    /// Removes and returns the oldest connection whose request has arrived; if there is none, the
+    /// oldest one with the first bytes of a long request. It also reads what clients send after
+    /// their responses.
     pub(crate) fn pop(&mut self, now: Instant, patience: u32) -> Option<Next> {
         self.closing.drain(now);
         self.look(now);
-        let place = match self.oldest(Rank::Ready, now, patience) {
+        let place = match self.oldest(Rank::Whole, now, patience) {
             Some(place) => place,
-            None => self.oldest(Rank::Late, now, patience)?,
+            None => self.oldest(Rank::Long, now, patience)?,
         };
+        self.take(place)
+    }
+
+    /// Removes and returns the oldest connection whose request didn't arrive in `patience` seconds.
+    pub(crate) fn pop_late(&mut self, now: Instant, patience: u32) -> Option<Next> {
+        let place = self.oldest(Rank::Late, now, patience)?;
         self.take(place)
     }
 

@@ -76,27 +76,50 @@ impl<'a> Acceptor<'a> {
         Err(io::Error::from(ErrorKind::TimedOut))
     }
 
-    // Polls the queue and the listener once. It returns None if no connection is ready yet, and
-    // fails if one is lost or an accept fails.
+    // Accepts and queues a connection, and returns whether there was one. It fails if one is lost or
+    // the accept fails.
+    fn admit_one(&mut self) -> io::Result<bool>
+        ensures counted { self.new.failures ≤ self.old.failures + 1 }
+        ensures accepted { OnOk result (self.new.failures ≤ self.old.failures) }
+    {
+        match self.accept() {
+            Ok(Some(stream)) => {
+                self.enqueue(stream)?;
+                Ok(true)
+            }
+            Ok(None) => Ok(false),
+            Err(error) => {
+                self.pause();
+                Err(error)
+            }
+        }
+    }
+
+    // Polls the listener and the queue once: all clients that connect are queued before a turn, so
+    // that their time runs; if the queue is full or the last accept failed, after it. It returns
+    // None if no connection is ready yet, and fails if one is lost or an accept fails.
     fn poll(&mut self, patience: u32) -> io::Result<Option<Next>>
         ensures counted { self.new.failures ≤ self.old.failures + 1 }
         ensures accepted { OnOk result (self.new.failures ≤ self.old.failures) }
     {
+        let is_deferred = self.failures > 0 || self.queue.is_full();
+        if !is_deferred && self.admit_one()? {
+            return Ok(None);
+        }
         let now = Instant::now(self.rt)?;
         if let Some(next) = self.queue.pop(now, patience) {
+            return Ok(Some(next));
+        }
+        if is_deferred && self.admit_one()? {
+            return Ok(None);
+        }
+        if let Some(next) = self.queue.pop_late(now, patience) {
             return Ok(Some(next));
         }
         if self.queue.drop_silent(now) {
             return Err(io::Error::from(ErrorKind::TimedOut));
         }
-        match self.accept() {
-            Ok(Some(stream)) => self.enqueue(stream)?,
-            Ok(None) => self.queue.wait(self.listener),
-            Err(error) => {
-                self.pause();
-                return Err(error);
-            }
-        }
+        self.queue.wait(self.listener);
         Ok(None)
     }
 
