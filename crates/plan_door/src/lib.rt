@@ -3,6 +3,8 @@
 //! text.
 #![tactic(auto)]
 
+mod arrival;
+mod closing;
 mod fault;
 mod first_line;
 mod hints;

@@ -80,8 +80,8 @@ impl<'a> Log<'a> {
         Ok(Log { rt, routes })
     }
 
-    /// Writes the line of a connection: method, route, end, bytes read, bytes sent, and
-    /// milliseconds since the first read. A line that can't be written is lost.
+    /// Writes the line of a connection: method, route, end, bytes read, bytes sent, and the
+    /// milliseconds of its turn. A line that can't be written is lost.
     pub(crate) fn write(&self, reader: &Side<'_>, writer: &Side<'_>, end: ConnEnd) {
         let Some(routes) = &self.routes else {
             return;

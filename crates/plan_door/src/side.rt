@@ -5,24 +5,18 @@ ghost use Rattle.std.specs.Duration.{as_nanos};
 ghost use Rattle.std.specs.Io.{ReadsAtMost, WritesAtMost};
 
 use crate::first_line::FirstLine;
+use crate::queue::Next;
 use plan_http::{Client, Trace};
 use plan_io::{DeviceFault, Sink, Tally};
 use std::io::{self, ErrorKind, Read, Write};
-use std::net::{Shutdown, TcpStream};
+use std::net::TcpStream;
 use std::time::{Duration, Instant};
-
-// The limits of draining a connection after its response: the silence of the client and the whole
-// time, in seconds, and the number of reads.
-const DRAIN_SILENCE: u64 = 1;
-
-const DRAIN_LIMIT: u64 = 5;
-
-const DRAIN_READS: u32 = 4096;
 
 // The least timeout that is set, in nanoseconds: for the system, 0 means no limit.
 const LEAST: u128 = 1_000_000;
 
-// The deadline of one side: `patience` seconds after its first call.
+// The deadline of one side: `patience` seconds after its start, which is its first call unless
+// another one is given.
 #[derive(Drop)]
 struct Timer<'a> {
     rt: &'a HostRuntime,
@@ -64,6 +58,9 @@ pub struct Side<'a> {
     sent: Trace,
     bytes: u64,
     line: FirstLine,
+    // The beginning of the turn, and the end of the last read.
+    turn: Instant,
+    heard: Instant,
 }
 
 // Reads bytes before the deadline.
@@ -105,7 +102,9 @@ impl<'a> Client for Side<'a> {
         if self.is_ended {
             return self.tally.count(Ok::<usize, DeviceFault>(0));
         }
-        match read_in_time(&mut self.timer, &self.stream, buf) {
+        let outcome = read_in_time(&mut self.timer, &self.stream, buf);
+        self.heard = Instant::now(self.timer.rt).unwrap_or(self.heard);
+        match outcome {
             Ok(count) => {
                 self.is_ended = count == 0 && !buf.is_empty();
                 self.bytes = self.bytes.saturating_add(count as u64);
@@ -140,7 +139,13 @@ impl<'a> Sink for Side<'a> {
     }
 }
 
-fn side_of(rt: &HostRuntime, stream: TcpStream, patience: u32) -> Side<'_>
+fn side_of(
+    rt: &HostRuntime,
+    stream: TcpStream,
+    patience: u32,
+    turn: Instant,
+    start: Option<Instant>,
+) -> Side<'_>
     ensures untouched { result.tally.calls ≡ 0 }
     ensures fresh { (result.received.bytes ≡ []) × (result.is_ended ≡ false)
         × (result.sent.bytes ≡ []) }
@@ -151,7 +156,7 @@ fn side_of(rt: &HostRuntime, stream: TcpStream, patience: u32) -> Side<'_>
         timer: Timer {
             rt,
             patience,
-            start: None,
+            start,
         },
         tally: Tally::new(),
         received: Trace::new(),
@@ -159,14 +164,16 @@ fn side_of(rt: &HostRuntime, stream: TcpStream, patience: u32) -> Side<'_>
         sent: Trace::new(),
         bytes: 0,
         line: FirstLine::new(),
+        turn,
+        heard: turn,
     }
 }
 
-// Returns the two sides of a connection before their first calls, each with a deadline of
-// `patience` seconds: the reader and the writer.
+// Returns the two sides of the next connection before their first calls, each with a deadline of
+// `patience` seconds: the reader and the writer. The time of the reader may have begun before.
 pub(crate) fn both_sides(
     rt: &HostRuntime,
-    stream: TcpStream,
+    next: Next,
     patience: u32,
 ) -> io::Result<(Side<'_>, Side<'_>)>
     ensures untouched { IfOk result
@@ -177,9 +184,14 @@ pub(crate) fn both_sides(
     ensures timed { IfOk result
         (λ sides. (sides.0.timer.patience ≡ patience) × (sides.1.timer.patience ≡ patience)) }
 {
-    stream.set_nonblocking(false)?;
-    let writer = stream.try_clone()?;
-    Ok((side_of(rt, stream, patience), side_of(rt, writer, patience)))
+    let turn = Instant::now(rt)?;
+    let start = next.start(turn, patience);
+    next.stream.set_nonblocking(false)?;
+    let writer = next.stream.try_clone()?;
+    Ok((
+        side_of(rt, next.stream, patience, turn, start),
+        side_of(rt, writer, patience, turn, None),
+    ))
 }
 
 impl<'a> Side<'a> {
@@ -193,32 +205,24 @@ impl<'a> Side<'a> {
         &self.line
     }
 
-    // The milliseconds since its first call.
+    // The milliseconds since the beginning of the turn.
     pub(crate) fn milliseconds(&self) -> u128 {
-        let Some(start) = self.timer.start else {
-            return 0;
-        };
-        match start.elapsed(self.timer.rt) {
+        match self.turn.elapsed(self.timer.rt) {
             Ok(time) => time.as_millis(),
             Err(_) => 0,
         }
     }
 
-    // Ends the response. Then it reads and discards bytes of the client for a while, because
-    // closing a connection with unread bytes could destroy the response.
-    pub(crate) fn drain(&self) -> io::Result<()> {
-        self.stream.shutdown(Shutdown::Write)?;
-        self.stream
-            .set_read_timeout(Some(Duration::from_secs(DRAIN_SILENCE)))?;
-        let start = Instant::now(self.timer.rt)?;
-        let end = Duration::from_secs(DRAIN_LIMIT);
-        let mut reader = &self.stream;
-        let mut rest = [0; 8192];
-        for _ in 0..DRAIN_READS {
-            if reader.read(&mut rest)? == 0 || start.elapsed(self.timer.rt)? >= end {
-                return Ok(());
-            }
+    // The time since the end of the last read.
+    pub(crate) fn since_heard(&self) -> Duration {
+        match self.heard.elapsed(self.timer.rt) {
+            Ok(time) => time,
+            Err(_) => Duration::from_secs(0),
         }
-        Ok(())
+    }
+
+    // Returns the socket.
+    pub(crate) fn into_stream(self) -> TcpStream {
+        self.stream
     }
 }

@@ -7,7 +7,7 @@ ghost use Rattle.plan_door.specs.Turns.{Turn, misses_in, Runs};
 
 use crate::fault::ServeFault;
 use crate::log::Log;
-use crate::queue::Queue;
+use crate::queue::{Next, Queue};
 use crate::service::Service;
 use crate::side::{Side, both_sides};
 use crate::visitors::{Visitors, serve_visitors};
@@ -17,7 +17,7 @@ use plan_io::{DeviceFault, Tally};
 use std::io::{self, ErrorKind};
 use std::net::{TcpListener, TcpStream};
 use std::thread;
-use std::time::Duration;
+use std::time::{Duration, Instant};
 
 // The number of consecutive failed accepts after which the server stops.
 const MOST_FAILURES: u32 = 100;
@@ -76,41 +76,77 @@ impl<'a> Acceptor<'a> {
         Err(io::Error::from(ErrorKind::TimedOut))
     }
 
-    // Polls the queue and the listener once. It returns None if no connection is ready yet, and
-    // fails if one is lost or an accept fails.
-    fn poll(&mut self) -> io::Result<Option<TcpStream>>
+    // Accepts and queues a connection, and returns whether there was one. It fails if one is lost or
+    // the accept fails.
+    fn admit_one(&mut self) -> io::Result<bool>
         ensures counted { self.new.failures ≤ self.old.failures + 1 }
         ensures accepted { OnOk result (self.new.failures ≤ self.old.failures) }
     {
-        if let Some(stream) = self.queue.pop_ready() {
-            return Ok(Some(stream));
-        }
-        if self.queue.drop_silent(self.rt) {
-            return Err(io::Error::from(ErrorKind::TimedOut));
-        }
         match self.accept() {
-            Ok(Some(stream)) => self.enqueue(stream)?,
-            Ok(None) => self.queue.wait()?,
+            Ok(Some(stream)) => {
+                self.enqueue(stream)?;
+                Ok(true)
+            }
+            Ok(None) => Ok(false),
             Err(error) => {
                 self.pause();
-                return Err(error);
+                Err(error)
             }
         }
+    }
+
+    // Polls the listener and the queue once: all clients that connect are queued before a turn, so
+    // that their time runs; if the queue is full or the last accept failed, after it. It returns
+    // None if no connection is ready yet, and fails if one is lost or an accept fails.
+    fn poll(&mut self, patience: u32) -> io::Result<Option<Next>>
+        ensures counted { self.new.failures ≤ self.old.failures + 1 }
+        ensures accepted { OnOk result (self.new.failures ≤ self.old.failures) }
+    {
+        let is_deferred = self.failures > 0 || self.queue.is_full();
+        if !is_deferred && self.admit_one()? {
+            return Ok(None);
+        }
+        let now = Instant::now(self.rt)?;
+        if let Some(next) = self.queue.pop(now, patience) {
+            return Ok(Some(next));
+        }
+        if is_deferred && self.admit_one()? {
+            return Ok(None);
+        }
+        if let Some(next) = self.queue.pop_late(now, patience) {
+            return Ok(Some(next));
+        }
+        if self.queue.drop_silent(now) {
+            return Err(io::Error::from(ErrorKind::TimedOut));
+        }
+        self.queue.wait(self.listener);
         Ok(None)
     }
 
     // Returns the next connection to serve. It fails after one failed accept, which counts as a
     // connection.
-    fn next_stream(&mut self) -> io::Result<TcpStream>
+    fn next(&mut self, patience: u32) -> io::Result<Next>
         ensures counted { self.new.failures ≤ self.old.failures + 1 }
         ensures accepted { OnOk result (self.new.failures ≤ self.old.failures) }
     {
         for _ in 0..u64::MAX {
-            if let Some(stream) = self.poll()? {
-                return Ok(stream);
+            if let Some(next) = self.poll(patience)? {
+                return Ok(next);
             }
         }
         Err(io::Error::from(ErrorKind::TimedOut))
+    }
+
+    // Closes a connection that was served; after a response, once its client has closed it. The
+    // time since its last read doesn't count for the queued connections.
+    fn release(&mut self, reader: Side<'_>, is_answered: bool) -> io::Result<()>
+        ensures { self.new.failures ≡ self.old.failures }
+    {
+        self.queue.forgive(reader.since_heard());
+        if is_answered {
+            return self.queue.close(self.rt, reader.into_stream());
+        }
+        Ok(())
     }
 
     // Returns the two sides of the next connection, each with a deadline of `patience` seconds.
@@ -126,8 +162,8 @@ impl<'a> Acceptor<'a> {
         ensures counted { self.new.failures ≤ self.old.failures + 1 }
         ensures accepted { OnOk result (self.new.failures ≤ self.old.failures) }
     {
-        let stream = self.next_stream()?;
-        both_sides(self.rt, stream, patience)
+        let next = self.next(patience)?;
+        both_sides(self.rt, next, patience)
     }
 }
 
@@ -179,11 +215,9 @@ impl<'a> Visitors for SocketVisitors<'a> {
 
     fn dismiss(&mut self, reader: Side<'a>, writer: Side<'a>, end: ConnEnd) {
         self.log.write(&reader, &writer, end);
-        let drained = match end {
-            ConnEnd::Replied(_) => reader.drain(),
-            _ => Ok(()),
-        };
-        let _ended = self.ended.count(drained);
+        let is_answered = matches!(end, ConnEnd::Replied(_));
+        let released = self.acceptor.release(reader, is_answered);
+        let _ended = self.ended.count(released);
     }
 
     fn is_closed(&self) -> bool {
@@ -217,13 +251,13 @@ fn socket_visitors<'a>(
 }
 
 /// Serves `service.count` connections of a socket, one after another: the oldest queued connection
-/// that has sent data comes first. A connection that is closed or fails counts too, and ends
+/// whose request has arrived comes first. A connection that is closed or fails counts too, and ends
 /// without an effect on others. So does a failed accept. Each connection has the service's deadline
 /// for its request, and again for its response.
-pub fn serve_listener<B: Book>(
-    rt: &HostRuntime,
+pub fn serve_listener<'a, B: Book>(
+    rt: &'a HostRuntime,
     office: &mut Office<B>,
-    listener: &TcpListener,
+    listener: &'a TcpListener,
     service: &Service<'_>,
 ) -> Result<(), ServeFault>
     ensures turns { OnOk result
@@ -247,5 +281,7 @@ pub fn serve_listener<B: Book>(
         return Err(ServeFault::Memory);
     };
     let mut visitors = socket_visitors(rt, listener, queue, log, service);
-    serve_visitors(rt.alloc(), office, &mut visitors, service.count)
+    let served = serve_visitors(rt.alloc(), office, &mut visitors, service.count);
+    visitors.acceptor.queue.finish(rt);
+    served
 }

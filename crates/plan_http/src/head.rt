@@ -26,11 +26,14 @@ pub(crate) enum HeadEnd {
     Failed,
 }
 
-// The state of the first bytes of a connection.
+/// The state of the first bytes of a connection.
 #[derive(Clone, Copy)]
-enum Judged {
+pub(crate) enum Judged {
+    /// They begin with a head.
     Whole(RequestSpans),
+    /// They don't, whatever follows.
     Hopeless,
+    /// More bytes can complete a head.
     Unfinished,
 }
 
@@ -50,8 +53,8 @@ pub(crate) fn fill<R: Client>(
     reader.read(&mut buf[filled..])
 }
 
-// Whether the bytes begin with a head: they are all bytes if `is_end`, else more may follow.
-fn judge(front: &[u8], is_end: bool, headers: &mut [HeaderSpan]) -> Judged
+/// Whether the bytes begin with a head: they are all bytes if `is_end`, else more may follow.
+pub(crate) fn judge(front: &[u8], is_end: bool, headers: &mut [HeaderSpan]) -> Judged
     requires room { length front.now ≤ 8192 }
     requires fields { length headers.old ≡ 64 }
     ensures within { JudgedWithin front.now is_end headers.new result }

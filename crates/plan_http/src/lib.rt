@@ -18,6 +18,7 @@ mod request;
 mod response;
 mod routes;
 mod runs;
+mod size;
 mod trace;
 
 pub use checks::Check;
@@ -29,4 +30,5 @@ pub use request::{Asked, read_request};
 pub use response::{respond, response_bytes};
 pub use routes::{Route, Routes};
 pub use runs::{RunFault, serve_run};
+pub use size::request_size;
 pub use trace::Trace;

@@ -1,5 +1,5 @@
 use Rattle.std.proofs.Common.{◌≤◌}
-use Rattle.plan_door.proofs.socket.Acceptor.next_stream.Given as goal
+use Rattle.plan_door.proofs.socket.Acceptor.next.Given as goal
 
 -- no accept has failed
 abbrev pub invariant-loop : goal.invariant-loop
