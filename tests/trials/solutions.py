@@ -2,8 +2,8 @@
 """Random projects of up to nine activities, with durations, needs and capacities of 0, and random job
 shops. The optimum of `plan solve` is that of all serial schedules (least_makespans.py) and of
 `plan best-project`, for a job shop that of `plan best`. With 1 to 50 conflicts it lies within the
-bounds. The schedules are checked
-here: they are feasible, and no activity of a project can start earlier by itself.
+bounds. The schedules are checked here: they are feasible, and no activity of a project can start
+earlier by itself. A shop of the literature takes several turns of both searches.
 
     tests/trials/solutions.py               1,000 projects and shops; prints nothing on success
     tests/trials/solutions.py CASES SEED    CASES of each, drawn from this seed
@@ -22,6 +22,23 @@ import proofs
 from answers import Wrong, plan, same, written
 
 ENOUGH = "1000000"
+
+# 10 jobs on 10 machines (Fisher and Thompson 1963).
+TEN = """\
+0 29 1 78 2 9 3 36 4 49 5 11 6 62 7 56 8 44 9 21
+0 43 2 90 4 75 9 11 3 69 1 28 6 46 5 46 7 72 8 30
+1 91 0 85 3 39 2 74 8 90 5 10 7 12 6 89 9 45 4 33
+1 81 2 95 0 71 4 99 6 9 8 52 7 85 3 98 9 22 5 43
+2 14 0 6 1 22 5 61 3 26 4 69 8 21 7 49 9 72 6 53
+2 84 1 2 5 52 3 95 8 48 9 72 0 47 6 65 4 6 7 25
+1 46 0 37 3 61 2 13 6 32 5 21 9 32 8 89 7 30 4 55
+2 31 0 86 1 46 5 74 4 32 6 88 8 19 9 48 7 36 3 79
+0 76 1 69 3 76 5 51 2 85 9 11 6 40 7 89 4 26 8 74
+1 85 0 13 2 61 6 7 8 64 9 76 5 47 3 52 4 90 7 45
+"""
+
+# Its least makespan (Carlier and Pinson 1989).
+LEAST_OF_TEN = 930
 
 
 def release(parts, j, starts):
@@ -90,10 +107,26 @@ def try_shop(draw, folder):
     return found[0]
 
 
+def try_turns(folder):
+    """A shop that no search proves in its first turn, to the end and with fewer turns."""
+    numbers = [[int(word) for word in line.split()] for line in TEN.splitlines()]
+    rows = [list(zip(line[::2], line[1::2])) for line in numbers]
+    shop = written(folder, "ten.txt", proofs.text_of(rows).encode())
+    for conflicts in ("2001", "4001", ENOUGH):
+        what = f"ten jobs, {conflicts} conflicts"
+        answer = plan(folder, "solve", "--conflicts", conflicts, shop, "-")
+        found, table = proofs.answer_of(what, answer)
+        same(what, proofs.judge(what, rows, table), int(found[-1]))
+        if not least.is_right(" ".join(found), LEAST_OF_TEN):
+            raise Wrong(f"{what}: {LEAST_OF_TEN} isn't within {found}")
+    same("ten jobs", found, ["optimal", str(LEAST_OF_TEN)])
+
+
 def try_solutions(cases, seed, is_verbose=False):
     """So many random projects, and as many job shops."""
     draw = Random(f"solutions {seed}")
     with tempfile.TemporaryDirectory() as folder:
+        try_turns(folder)
         for name, trial in (("projects", try_project), ("shops", try_shop)):
             kinds = [trial(draw, folder) for _ in range(cases)]
             if kinds.count("optimal") < cases // 3:

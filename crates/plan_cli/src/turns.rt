@@ -1,26 +1,26 @@
 //! Searches of a job shop in turns: by conflicts (plan_solve) and by nodes (plan_prove).
 
-ghost use Rattle.std.specs.Prelude.{◌≡◌, IfOk};
+ghost use Rattle.std.specs.Prelude.{◌≡◌, ◌≤◌, ◌<◌, IfOk};
+ghost use Rattle.plan_shop.specs.Shop.{problem_of};
 ghost use Rattle.plan_prove.specs.Proofs.{IsNodeLimit, IsProofOf};
+ghost use Rattle.plan_solve.specs.Sessions.{IsSessionOf};
 ghost use Rattle.plan_solve.specs.Solutions.{IsConflictLimit};
 
 use crate::watchers::{ProofWatcher, SolveWatcher};
-use plan_prove::{MOST_NODES, Proof, ProveFault, prove_from};
+use plan_prove::{Course, MOST_NODES, Proof, ProveFault, prove_from};
 use plan_shop::Shop;
-use plan_solve::{SolveFault, Solved, solve_shop_from, solve_shop_watched};
+use plan_solve::{Session, SolveFault, Solved, rule_solution, shop_session, solve_shop_from};
 use std::alloc::{AllocError, Global};
 
-/// The greatest number of turns.
-const MOST_TURNS: u32 = 64;
+/// The least number of nodes of a turn. Fewer conflicts take as long.
+const TURN_NODES: u64 = 12_000;
 
-/// The number of conflicts of the first turn.
-const FIRST_CONFLICTS: u64 = 2_000;
+/// The least number of nodes that take about as long as one conflict.
+const LEAST_NODES: u64 = 6;
 
-/// The number of conflicts of a turn, divided by that of the turn before.
-const GROWTH: u64 = 4;
-
-/// The number of nodes that take about as long as one conflict.
-const NODES_PER_CONFLICT: u64 = 6;
+/// The square of the number of jobs, divided by the nodes that take about as long as one conflict.
+/// Measured on shops of 20 to 50 jobs.
+const SQUARE_PER_NODE: u64 = 60;
 
 // Returns the schedule and the lower bound of a search as a proof.
 fn proof_of(solved: Solved) -> Proof
@@ -34,91 +34,94 @@ fn proof_of(solved: Solved) -> Proof
     }
 }
 
-// Returns the proof of a search of at most so many conflicts that starts from the priority rules.
-fn first_proof<V: SolveWatcher>(
-    alloc: Global,
-    shop: &Shop,
-    conflicts: u64,
-    watcher: &mut V,
-) -> Result<Proof, AllocError>
-    requires { IsConflictLimit conflicts }
-    ensures { IfOk result (IsProofOf shop.now) }
-{
-    match solve_shop_watched(alloc, shop, conflicts, watcher) {
-        Ok(solved) => Ok(proof_of(solved)),
-        Err(SolveFault::NoMemory) => Err(AllocError),
-        Err(SolveFault::BadConflicts) => unreachable!(),
-    }
-}
-
-// Returns the proof of a search of at most so many conflicts that starts from another proof.
+// Continues a search from another proof, with at most so many conflicts.
 fn by_conflicts<V: SolveWatcher>(
     alloc: Global,
     shop: &Shop,
     known: Proof,
+    session: &mut Session,
     conflicts: u64,
     watcher: &mut V,
 ) -> Result<Proof, AllocError>
     requires known { IsProofOf shop.now known }
-    requires conflicts { IsConflictLimit conflicts }
-    ensures { IfOk result (IsProofOf shop.now) }
+    requires session { IsSessionOf (problem_of shop.now) session.old }
+    requires conflicts { conflicts ≤ 1000000000 }
+    ensures proof { IfOk result (IsProofOf shop.now) }
+    ensures session { IsSessionOf (problem_of shop.now) session.new }
 {
+    if conflicts == 0 {
+        return Ok(known);
+    }
     let known = Solved {
         schedule: known.schedule,
         lower: known.lower,
         conflicts: 0,
     };
-    match solve_shop_from(alloc, shop, known, conflicts, watcher) {
+    match solve_shop_from(alloc, shop, known, session, conflicts, watcher) {
         Ok(solved) => Ok(proof_of(solved)),
         Err(SolveFault::NoMemory) => Err(AllocError),
         Err(SolveFault::BadConflicts) => unreachable!(),
     }
 }
 
-// Returns the proof of a search of at most so many nodes that starts from another proof.
-fn by_nodes<V: ProofWatcher>(
+// Continues a search from another proof, with at most so many nodes, unless the search is over.
+fn by_nodes<V: ProofWatcher + SolveWatcher>(
     alloc: Global,
     shop: &Shop,
-    known: Proof,
+    mut known: Proof,
+    course: &mut Course,
     nodes: u64,
     watcher: &mut V,
 ) -> Result<Proof, AllocError>
     requires known { IsProofOf shop.now known }
-    requires nodes { IsNodeLimit nodes }
-    ensures { IfOk result (IsProofOf shop.now) }
+    requires nodes { nodes ≤ 1000000000 }
+    ensures proof { IfOk result (IsProofOf shop.now) }
+    ensures nodes { IfOk result (λ proof. proof.nodes ≤ nodes) }
 {
-    match prove_from(alloc, shop, known, nodes, watcher) {
+    if nodes == 0 || is_over(&known, nodes, watcher) {
+        known.nodes = 0;
+        return Ok(known);
+    }
+    match prove_from(alloc, shop, known, nodes, course, watcher) {
         Ok(proof) => Ok(proof),
         Err(ProveFault::NoMemory) => Err(AllocError),
         Err(ProveFault::BadNodes) => unreachable!(),
     }
 }
 
+// Returns the number of nodes that take about as long as one conflict.
+fn nodes_per_conflict(shop: &Shop) -> u64
+    ensures { 0 < result }
+{
+    let jobs = shop.jobs() as u64;
+    LEAST_NODES.max(jobs.saturating_mul(jobs) / SQUARE_PER_NODE)
+}
+
 // Returns the number of nodes that take about as long as so many conflicts.
-fn nodes_for(conflicts: u64) -> u64
-    requires { IsConflictLimit conflicts }
-    ensures { IsNodeLimit result }
+fn nodes_for(conflicts: u64, ratio: u64) -> u64
+    ensures { result ≤ 1000000000 }
 {
-    conflicts.saturating_mul(NODES_PER_CONFLICT).min(MOST_NODES)
+    conflicts.saturating_mul(ratio).min(MOST_NODES)
 }
 
-// Returns the number of conflicts of the next turn, which is at most a limit.
-fn next_conflicts(conflicts: u64, most: u64) -> u64
-    requires conflicts { IsConflictLimit conflicts }
-    requires most { IsConflictLimit most }
-    ensures { IsConflictLimit result }
-{
-    conflicts.saturating_mul(GROWTH).min(most)
+// Returns the number of nodes after which a turn ends. The last turn takes all that are left.
+fn nodes_of_turn(turn: u64, ratio: u64, conflicts: u64) -> u64 {
+    if conflicts == 0 {
+        u64::MAX
+    } else {
+        nodes_for(turn, ratio)
+    }
 }
 
-// Whether the schedule is a shortest one, or the watcher ends the search.
-fn is_over<V: SolveWatcher>(proof: &Proof, watcher: &mut V) -> bool {
-    proof.lower >= proof.schedule.makespan || watcher.is_late()
+// Whether nothing is left of the limits, the schedule is a shortest one, or the watcher ends the
+// search.
+fn is_over<V: SolveWatcher>(proof: &Proof, left: u64, watcher: &mut V) -> bool {
+    left == 0 || proof.lower >= proof.schedule.makespan || watcher.is_late()
 }
 
-/// Searches a shop in turns, by conflicts and by nodes. Each turn starts from the schedule and the
-/// lower bound of the turn before, and has more conflicts or nodes. `most` is the greatest number of
-/// conflicts of a turn.
+/// Searches a shop in turns, by conflicts and by nodes. Each search continues where it stopped,
+/// from the schedule and the lower bound of the other one. `most` is the greatest number of
+/// conflicts of all turns.
 pub(crate) fn search_in_turns<V: ProofWatcher + SolveWatcher>(
     alloc: Global,
     shop: &Shop,
@@ -128,18 +131,23 @@ pub(crate) fn search_in_turns<V: ProofWatcher + SolveWatcher>(
     requires { IsConflictLimit most }
     ensures { IfOk result (IsProofOf shop.now) }
 {
-    let mut conflicts = most.min(FIRST_CONFLICTS);
-    let mut best = first_proof(alloc, shop, conflicts, watcher)?;
-    for _turn in 0..MOST_TURNS {
-        if is_over(&best, watcher) {
+    let known = rule_solution(alloc, shop)?;
+    let mut session = shop_session(alloc, shop, &known)?;
+    let mut course = Course::new(alloc);
+    let mut best = proof_of(known);
+    let ratio = nodes_per_conflict(shop);
+    let (mut conflicts, mut nodes, mut turn) = (most, nodes_for(most, ratio), TURN_NODES / ratio);
+    for _turn in 0..most {
+        if is_over(&best, conflicts + nodes, watcher) {
             break;
         }
-        best = by_nodes(alloc, shop, best, nodes_for(conflicts), watcher)?;
-        if conflicts == most || is_over(&best, watcher) {
-            break;
-        }
-        conflicts = next_conflicts(conflicts, most);
-        best = by_conflicts(alloc, shop, best, conflicts, watcher)?;
+        let part = turn.max(1).min(conflicts);
+        best = by_conflicts(alloc, shop, best, &mut session, part, watcher)?;
+        conflicts -= part;
+        course.turn = nodes_of_turn(turn, ratio, conflicts);
+        best = by_nodes(alloc, shop, best, &mut course, nodes, watcher)?;
+        nodes -= best.nodes;
+        turn = TURN_NODES.max(best.nodes) / ratio;
     }
     Ok(best)
 }

@@ -3,6 +3,7 @@
 
 mod branching;
 mod cliques;
+mod course;
 mod deduction;
 mod edges;
 mod ends;
@@ -18,6 +19,7 @@ mod search;
 mod state;
 mod watcher;
 
+pub use course::Course;
 pub use fault::ProveFault;
 pub use nodes::parse_nodes;
 pub use proof::{MOST_NODES, Proof, prove, prove_from, prove_watched};

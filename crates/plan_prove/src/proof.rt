@@ -6,6 +6,7 @@ ghost use Rattle.plan_shop.specs.Shop.{problem_of};
 ghost use Rattle.plan_prove.specs.Progress.{HearsTruth};
 ghost use Rattle.plan_prove.specs.Proofs as spec;
 
+use crate::course::Course;
 use crate::fault::ProveFault;
 use crate::search::Search;
 use crate::watcher::{Unwatched, Watcher};
@@ -13,6 +14,7 @@ use plan_exact::{ExactFault, GREATEST_BUDGET, solve_shop};
 use plan_sgs::Schedule;
 use plan_shop::{Shop, ShopRule, giffler};
 use std::alloc::{AllocError, Global};
+use std::mem;
 
 /// The greatest number of nodes of a search.
 pub const MOST_NODES: u64 = 1_000_000_000;
@@ -166,12 +168,14 @@ pub fn prove_watched<W: Watcher>(
 }
 
 /// Does the same as [`prove_watched`], and starts from the schedule and the lower bound of a proof
-/// instead of those of the priority rules.
+/// instead of those of the priority rules. It continues the course of earlier calls, and stores how
+/// far it comes.
 pub fn prove_from<W: Watcher>(
     alloc: Global,
     shop: &Shop,
     known: Proof,
     nodes: u64,
+    course: &mut Course,
     watcher: &mut W,
 ) -> Result<Proof, ProveFault>
     requires { spec.IsProofOf shop.now known }
@@ -197,7 +201,7 @@ pub fn prove_from<W: Watcher>(
     ensures told { HearsTruth shop.now nodes (W.was_told watcher.old) (W.was_told watcher.new) }
 {
     check(nodes)?;
-    let found = proof_of(alloc, shop, known, nodes, watcher);
+    let found = proof_of(alloc, shop, known, nodes, course, watcher);
     watcher.end();
     Ok(found?)
 }
@@ -214,15 +218,17 @@ fn proof_by_rules<W: Watcher>(
     ensures told { HearsTruth shop.now nodes (W.was_told watcher.old) (W.was_told watcher.new) }
 {
     let first = first_proof(alloc, shop)?;
-    proof_of(alloc, shop, first, nodes, watcher)
+    proof_of(alloc, shop, first, nodes, &mut Course::new(alloc), watcher)
 }
 
-// Returns the proof of a search of at most `nodes` nodes that starts from a proof.
+// Returns the proof of a search of at most `nodes` nodes that starts from a proof and continues a
+// course.
 fn proof_of<W: Watcher>(
     alloc: Global,
     shop: &Shop,
     known: Proof,
     nodes: u64,
+    course: &mut Course,
     watcher: &mut W,
 ) -> Result<Proof, AllocError>
     requires { spec.IsProofOf shop.now known }
@@ -231,8 +237,11 @@ fn proof_of<W: Watcher>(
     ensures nodes { IfOk result (λ proof. proof.nodes ≤ nodes) }
     ensures told { HearsTruth shop.now nodes (W.was_told watcher.old) (W.was_told watcher.new) }
 {
-    let mut search = Search::new(alloc, shop, known, nodes)?;
+    let taken = mem::replace(course, Course::new(alloc));
+    let mut search = Search::new(alloc, shop, known, nodes, taken)?;
     search.run(alloc, shop, watcher)?;
+    search.course.weights = mem::replace(&mut search.queue.weights, Vec::new(alloc));
+    *course = mem::replace(&mut search.course, Course::new(alloc));
     let mut proof = search.proof;
     proof.nodes = search.most - search.left;
     Ok(proof)

@@ -17,7 +17,7 @@ pub struct Queue {
     waits: Vec<bool>,
     stale: Vec<bool>,
     finder: Finder,
-    weights: Vec<u32>,
+    pub weights: Vec<u32>,
 }
 
 // Returns the index after another one in a ring.
@@ -30,9 +30,11 @@ fn place_after(place: usize, length: usize) -> usize {
 }
 
 impl Queue {
-    /// Returns an empty queue for the steps of a graph.
-    pub fn new(alloc: Global, graph: &Graph) -> Result<Queue, AllocError> {
+    /// Returns an empty queue for the steps of a graph. The weights of the pairs are those of an
+    /// earlier search, or 1 if their number is another one.
+    pub fn new(alloc: Global, graph: &Graph, weights: Vec<u32>) -> Result<Queue, AllocError> {
         let steps = graph.times.len();
+        let is_known = weights.len() == graph.pairs.len();
         Ok(Queue {
             ring: vec![in alloc; 0; steps.saturating_add(1)]?,
             front: 0,
@@ -40,7 +42,11 @@ impl Queue {
             waits: vec![in alloc; false; steps]?,
             stale: vec![in alloc; false; graph.cliques.len()]?,
             finder: Finder::new(alloc, graph)?,
-            weights: vec![in alloc; 1; graph.pairs.len()]?,
+            weights: if is_known {
+                weights
+            } else {
+                vec![in alloc; 1; graph.pairs.len()]?
+            },
         })
     }
 

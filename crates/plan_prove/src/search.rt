@@ -7,6 +7,7 @@ ghost use Rattle.plan_prove.specs.Progress.{HearsKnown, HearsTruth};
 ghost use Rattle.plan_prove.specs.Proofs as spec;
 ghost use Rattle.plan_prove.specs.declared.refutation.Outcome.TheVariants.{Refuted, Stopped};
 
+use crate::course::Course;
 use crate::graph::{Graph, graph_of};
 use crate::proof::Proof;
 use crate::queue::Queue;
@@ -16,19 +17,17 @@ use crate::watcher::Watcher;
 use plan_active::active_shop_schedule;
 use plan_shop::Shop;
 use std::alloc::{AllocError, Global};
+use std::mem;
 
 /// The greatest number of short searches with the same number of nodes.
 const MOST_HALVINGS: u32 = 64;
 
-/// The number of nodes of the first search below the best makespan. Later searches get more.
-const FIRST_PATIENCE: u64 = 1_000;
-
 /// The number of nodes between two reports to a watcher, which can then end the search.
 const NODES_BETWEEN: u64 = 1_000;
 
-/// A search: the graph of a shop, its queue and the proof so far. It counts the nodes that may be
-/// visited in all, those that are left, and those until the next report to a watcher. The search
-/// is late if the watcher ended it.
+/// A search: the graph of a shop, its queue, the proof so far and its course. It counts the nodes
+/// that may be visited in all, those that are left, and those until the next report to a watcher.
+/// The search is late if the watcher ended it.
 #[derive(Drop)]
 pub struct Search {
     pub graph: Graph,
@@ -36,6 +35,7 @@ pub struct Search {
     pub proof: Proof,
     pub most: u64,
     pub left: u64,
+    pub course: Course,
     until_told: u64,
     is_late: bool,
 }
@@ -48,21 +48,29 @@ fn target(best: u64, lower: u64) -> u64 {
 }
 
 impl Search {
-    /// Returns a search of at most `nodes` nodes that starts from a proof.
-    pub fn new(alloc: Global, shop: &Shop, proof: Proof, nodes: u64) -> Result<Search, AllocError>
+    /// Returns a search of at most `nodes` nodes that starts from a proof and continues a course.
+    pub fn new(
+        alloc: Global,
+        shop: &Shop,
+        proof: Proof,
+        nodes: u64,
+        mut course: Course,
+    ) -> Result<Search, AllocError>
         requires { spec.IsProofOf shop.now proof }
         ensures search { IfOk result (spec.IsSearchOf shop.now) }
         ensures most { IfOk result (λ search. search.most ≡ nodes) }
         ensures proof { IfOk result (λ search. search.proof ≡ proof) }
     {
         let graph = graph_of(alloc, shop)?;
-        let queue = Queue::new(alloc, &graph)?;
+        let weights = mem::replace(&mut course.weights, Vec::new(alloc));
+        let queue = Queue::new(alloc, &graph, weights)?;
         Ok(Search {
             graph,
             queue,
             proof,
             most: nodes,
             left: nodes,
+            course,
             until_told: NODES_BETWEEN,
             is_late: false,
         })
@@ -192,14 +200,14 @@ impl Search {
         }
     }
 
-    // Whether no nodes are left, or the watcher ended the search.
+    // Whether no nodes are left, the turn is over, or the watcher ended the search.
     fn is_over(&self) -> bool {
-        self.left == 0 || self.is_late
+        self.left == 0 || self.is_late || self.most.saturating_sub(self.left) >= self.course.turn
     }
 
-    /// Halves the gap between the lower bound and the best makespan by searches of `allowed` nodes
-    /// each. After a search without an outcome the next target is lower.
-    pub fn halve<W: Watcher>(
+    // Halves the gap between the lower bound and the best makespan by searches of `allowed` nodes
+    // each. After a search without an outcome the next target is lower.
+    fn halve<W: Watcher>(
         &mut self,
         alloc: Global,
         shop: &Shop,
@@ -213,15 +221,38 @@ impl Search {
         ensures told { HearsTruth shop.now self.old.most (W.was_told watcher.old)
             (W.was_told watcher.new) }
     {
-        let mut above = self.proof.schedule.makespan;
         for _halving in 0..MOST_HALVINGS {
-            above = above.min(self.proof.schedule.makespan);
+            let above = self.course.above.min(self.proof.schedule.makespan);
             if self.proof.lower >= above || self.is_over() {
                 break;
             }
             let target = above - (above - self.proof.lower) / 2;
             if !self.attempt(alloc, shop, target, allowed, watcher)? {
-                above = target.saturating_sub(1);
+                self.course.above = target.saturating_sub(1);
+            }
+        }
+        Ok(())
+    }
+
+    // Continues a halving by searches of `allowed` nodes each, unless it is done.
+    fn halve_once<W: Watcher>(
+        &mut self,
+        alloc: Global,
+        shop: &Shop,
+        allowed: u64,
+        watcher: &mut W,
+    ) -> Result<(), AllocError>
+        requires { spec.IsSearchOf shop.now self.old }
+        ensures search { IfOk result (λ _. spec.IsSearchOf shop.now self.new) }
+        ensures no_worse { IfOk result (λ _. spec.IsNoWorse self.old.proof self.new.proof) }
+        ensures most { self.new.most ≡ self.old.most }
+        ensures told { HearsTruth shop.now self.old.most (W.was_told watcher.old)
+            (W.was_told watcher.new) }
+    {
+        if self.course.halving == allowed {
+            self.halve(alloc, shop, allowed, watcher)?;
+            if !self.is_over() {
+                self.course.end_halving();
             }
         }
         Ok(())
@@ -253,8 +284,8 @@ impl Search {
         Ok(more)
     }
 
-    /// Searches below the best makespan until it is the lower bound or the search is over.
-    pub fn close<W: Watcher>(
+    // Searches below the best makespan until it is the lower bound or the search is over.
+    fn close<W: Watcher>(
         &mut self,
         alloc: Global,
         shop: &Shop,
@@ -267,12 +298,12 @@ impl Search {
         ensures told { HearsTruth shop.now self.old.most (W.was_told watcher.old)
             (W.was_told watcher.new) }
     {
-        let mut allowed = FIRST_PATIENCE;
         for _step in 0..self.left {
             if self.proof.lower >= self.proof.schedule.makespan || self.is_over() {
                 break;
             }
-            allowed = self.step_down(alloc, shop, allowed, watcher)?;
+            let allowed = self.course.patience;
+            self.course.patience = self.step_down(alloc, shop, allowed, watcher)?;
         }
         Ok(())
     }
@@ -291,9 +322,9 @@ impl Search {
         ensures told { HearsTruth shop.now self.old.most (W.was_told watcher.old)
             (W.was_told watcher.new) }
     {
-        self.halve(alloc, shop, 1, watcher)?;
-        self.halve(alloc, shop, 100, watcher)?;
-        self.halve(alloc, shop, 10_000, watcher)?;
+        self.halve_once(alloc, shop, 1, watcher)?;
+        self.halve_once(alloc, shop, 100, watcher)?;
+        self.halve_once(alloc, shop, 10_000, watcher)?;
         self.close(alloc, shop, watcher)
     }
 }

@@ -1,5 +1,6 @@
 pub mod Solutions
 pub mod Progress
+pub mod Sessions
 pub use Rattle.plan_sgs.specs.Problem
 pub use Rattle.plan_sgs.specs.Instances
 pub use Rattle.plan_sgs.specs.Placement

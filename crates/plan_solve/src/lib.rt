@@ -35,6 +35,9 @@ mod windows;
 pub use fault::SolveFault;
 pub use log::{Log, Unlogged};
 pub use projects::{solve, solve_logged, solve_watched};
-pub use shops::{solve_shop, solve_shop_from, solve_shop_logged, solve_shop_watched};
+pub use running::Session;
+pub use shops::{
+    rule_solution, shop_session, solve_shop, solve_shop_from, solve_shop_logged, solve_shop_watched,
+};
 pub use solving::{MOST_CONFLICTS, Solved};
 pub use watcher::{Unwatched, Watcher};

@@ -1,8 +1,9 @@
-//! A search from a schedule on, within a number of conflicts.
+//! Searches that start from a schedule and can be continued, each time for some conflicts.
 
 ghost use Rattle.std.specs.Prelude.{◌≡◌, ◌≤◌, IfOk};
 ghost use Rattle.plan_kernel.specs.Inputs as inputs;
 ghost use Rattle.plan_solve.specs.Progress.{HearsNothing, HearsTruth};
+ghost use Rattle.plan_solve.specs.Sessions.{IsSessionOf};
 ghost use Rattle.plan_solve.specs.Solutions.{IsLowerBound};
 
 use crate::lines::Lines;
@@ -13,6 +14,7 @@ use crate::solvable::Solvable;
 use crate::stop::Clash;
 use crate::watcher::Watcher;
 use plan_kernel::Kernel;
+use plan_sgs::Schedule;
 use std::alloc::{AllocError, Global};
 
 /// After how many conflicts a watcher is told how far the search is.
@@ -33,17 +35,31 @@ pub struct Found {
     pub conflicts: u64,
 }
 
+/// A search that can be continued.
+#[derive(Drop)]
+pub struct Session {
+    pub search: Search,
+    // whether something is left to search for, and how many conflicts there were so far
+    is_open: bool,
+    conflicts: u64,
+}
+
+// Starts as 32-bit numbers.
+fn narrowed(alloc: Global, starts: &[u64]) -> Result<Vec<u32>, AllocError> {
+    let mut narrowed = Vec::with_capacity(alloc, starts.len())?;
+    for &start in starts {
+        narrowed.push((start & 0xffff_ffff) as u32)?;
+    }
+    Ok(narrowed)
+}
+
 // A kernel that knows starts.
 fn kernel_of<S: Solvable>(alloc: Global, source: &S, starts: &[u64]) -> Result<Kernel, AllocError>
     ensures { IfOk result (λ kernel.
         inputs.problem_of kernel.known.input ≡ S.problem source.now) }
 {
     let mut kernel = Kernel::new(alloc, source.input(alloc)?)?;
-    let mut narrowed = Vec::with_capacity(alloc, starts.len())?;
-    for &start in starts {
-        narrowed.push((start & 0xffff_ffff) as u32)?;
-    }
-    let _ = kernel.lower(narrowed);
+    let _ = kernel.lower(narrowed(alloc, starts)?);
     Ok(kernel)
 }
 
@@ -82,40 +98,6 @@ fn is_met<L: Log>(kernel: &Kernel, simple: u64, log: &L) -> bool {
     kernel.upper() as u64 <= simple && !log.is_wanted()
 }
 
-/// Searches from a schedule on, with at most so many conflicts.
-pub fn run<S: Solvable, W: Watcher, L: Log>(
-    alloc: Global,
-    source: &S,
-    starts: &[u64],
-    simple: u64,
-    conflicts: u64,
-    watcher: &mut W,
-    log: &mut L,
-) -> Result<Found, AllocError>
-    requires simple { IsLowerBound (S.problem source.now) simple }
-    ensures lower { IfOk result (λ found. IsLowerBound (S.problem source.now) found.lower) }
-    ensures no_lower { IfOk result (λ found. simple ≤ found.lower) }
-    ensures conflicts { IfOk result (λ found. found.conflicts ≤ conflicts) }
-    ensures told { HearsTruth (S.problem source.now) conflicts
-        (W.was_told watcher.old) (W.was_told watcher.new) }
-{
-    let kernel = kernel_of(alloc, source, starts)?;
-    let mut search = Search::new(alloc, prover_of(alloc, kernel, log.is_wanted())?)?;
-    let used = search_all(alloc, source, &mut search, simple, conflicts, watcher, log)?;
-    let lower = search.prover.kernel.lower_bound();
-    search.prover.lines.lower(lower)?;
-    hand_over(&mut search.prover.lines, log, 0);
-    let starts = match search.prover.kernel.best() {
-        Some(starts) => Vec::from_slice(alloc, starts)?,
-        None => Vec::new(alloc),
-    };
-    Ok(Found {
-        starts,
-        lower: lower_bound(source, &search.prover.kernel, simple),
-        conflicts: used,
-    })
-}
-
 // Hands the lines of a prover over if there are so many.
 fn hand_over<L: Log>(lines: &mut Lines, log: &mut L, many: usize) {
     if lines.is_on() && lines.text().len() >= many {
@@ -147,41 +129,118 @@ fn next_clash<W: Watcher>(
     Ok(None)
 }
 
-// Searches until nothing is left, a limit is reached or the watcher ends it. Returns how many
-// conflicts there were.
-fn search_all<S: Solvable, W: Watcher, L: Log>(
-    alloc: Global,
-    source: &S,
-    search: &mut Search,
-    simple: u64,
-    conflicts: u64,
-    watcher: &mut W,
-    log: &mut L,
-) -> Result<u64, AllocError>
-    requires problem { inputs.problem_of search.old.prover.kernel.known.input ≡ S.problem source.now }
-    requires simple { IsLowerBound (S.problem source.now) simple }
-    ensures input { search.new.prover.kernel.known.input ≡ search.old.prover.kernel.known.input }
-    ensures used { IfOk result (λ used. used ≤ conflicts) }
-    ensures told { HearsTruth (S.problem source.now) conflicts
-        (W.was_told watcher.old) (W.was_told watcher.new) }
-{
-    if !search.can_search() || !search.begin(alloc)? {
-        return Ok(0);
+impl Session {
+    /// Returns a search that starts from a schedule.
+    pub fn new<S: Solvable>(
+        alloc: Global,
+        source: &S,
+        starts: &[u64],
+        is_logged: bool,
+    ) -> Result<Session, AllocError>
+        ensures { IfOk result (IsSessionOf (S.problem source.now)) }
+    {
+        let kernel = kernel_of(alloc, source, starts)?;
+        let mut search = Search::new(alloc, prover_of(alloc, kernel, is_logged)?)?;
+        let is_open = search.can_search() && search.begin(alloc)?;
+        Ok(Session {
+            search,
+            is_open,
+            conflicts: 0,
+        })
     }
-    for conflict in 0..conflicts {
-        let kernel = &search.prover.kernel;
-        if conflict % CONFLICTS_BETWEEN == 0
-            && (tell(watcher, source, kernel, simple, conflict) || is_met(kernel, simple, log))
-        {
-            return Ok(conflict);
+
+    // Takes a schedule if it is shorter than the best one.
+    fn take(&mut self, alloc: Global, schedule: &Schedule) -> Result<(), AllocError>
+        ensures { self.new.search.prover.kernel.known.input
+            ≡ self.old.search.prover.kernel.known.input }
+    {
+        if self.is_open && schedule.makespan < self.search.prover.kernel.upper() as u64 {
+            let starts = narrowed(alloc, &schedule.starts)?;
+            self.is_open = self.search.take(starts)?;
         }
-        let Some(clash) = next_clash(alloc, search, watcher)? else {
-            return Ok(conflict);
+        Ok(())
+    }
+
+    // Searches until nothing is left, a limit is reached or the watcher ends it. Returns how many
+    // conflicts there were.
+    fn search_all<S: Solvable, W: Watcher, L: Log>(
+        &mut self,
+        alloc: Global,
+        source: &S,
+        simple: u64,
+        conflicts: u64,
+        watcher: &mut W,
+        log: &mut L,
+    ) -> Result<u64, AllocError>
+        requires problem { IsSessionOf (S.problem source.now) self.old }
+        requires simple { IsLowerBound (S.problem source.now) simple }
+        ensures input { self.new.search.prover.kernel.known.input
+            ≡ self.old.search.prover.kernel.known.input }
+        ensures used { IfOk result (λ used. used ≤ conflicts) }
+        ensures told { HearsTruth (S.problem source.now) conflicts
+            (W.was_told watcher.old) (W.was_told watcher.new) }
+    {
+        if !self.is_open {
+            return Ok(0);
+        }
+        for conflict in 0..conflicts {
+            let kernel = &self.search.prover.kernel;
+            if conflict % CONFLICTS_BETWEEN == 0
+                && (tell(watcher, source, kernel, simple, conflict)
+                    || is_met(kernel, simple, log))
+            {
+                return Ok(conflict);
+            }
+            let Some(clash) = next_clash(alloc, &mut self.search, watcher)? else {
+                return Ok(conflict);
+            };
+            self.conflicts = self.conflicts.saturating_add(1);
+            if !self.search.learn(alloc, clash, self.conflicts)? {
+                self.is_open = false;
+                return Ok(conflict + 1);
+            }
+            hand_over(&mut self.search.prover.lines, log, LINES_TOGETHER);
+        }
+        Ok(conflicts)
+    }
+
+    /// Continues from a known schedule and lower bound, with at most so many conflicts.
+    pub fn run<S: Solvable, W: Watcher, L: Log>(
+        &mut self,
+        alloc: Global,
+        source: &S,
+        schedule: &Schedule,
+        simple: u64,
+        conflicts: u64,
+        watcher: &mut W,
+        log: &mut L,
+    ) -> Result<Found, AllocError>
+        requires problem { IsSessionOf (S.problem source.now) self.old }
+        requires simple { IsLowerBound (S.problem source.now) simple }
+        ensures problem { IsSessionOf (S.problem source.now) self.new }
+        ensures lower { IfOk result (λ found. IsLowerBound (S.problem source.now) found.lower) }
+        ensures no_lower { IfOk result (λ found. simple ≤ found.lower) }
+        ensures conflicts { IfOk result (λ found. found.conflicts ≤ conflicts) }
+        ensures told { HearsTruth (S.problem source.now) conflicts
+            (W.was_told watcher.old) (W.was_told watcher.new) }
+    {
+        self.take(alloc, schedule)?;
+        if self.conflicts > 0 {
+            self.search.aim_above(simple);
+        }
+        let used = self.search_all(alloc, source, simple, conflicts, watcher, log)?;
+        let prover = &mut self.search.prover;
+        let lower = prover.kernel.lower_bound();
+        prover.lines.lower(lower)?;
+        hand_over(&mut prover.lines, log, 0);
+        let starts = match prover.kernel.best() {
+            Some(starts) => Vec::from_slice(alloc, starts)?,
+            None => Vec::new(alloc),
         };
-        if !search.learn(alloc, clash, conflict + 1)? {
-            return Ok(conflict + 1);
-        }
-        hand_over(&mut search.prover.lines, log, LINES_TOGETHER);
+        Ok(Found {
+            starts,
+            lower: lower_bound(source, &prover.kernel, simple),
+            conflicts: used,
+        })
     }
-    Ok(conflicts)
 }

@@ -14,7 +14,7 @@ use crate::restarts::{is_raising, patience};
 use crate::stop::{Cause, Clash, Stop};
 use crate::trail::{NONE, Trail};
 use crate::watches::literal_at;
-use plan_kernel::{Kernel, Lesson, Literal};
+use plan_kernel::{Kernel, LIMIT, Lesson, Literal};
 use std::alloc::{AllocError, Global};
 
 /// A search. What it holds beside the kernel decides how long it takes, and nothing else.
@@ -26,8 +26,10 @@ pub struct Search {
     pub clauses: Clauses,
     analysis: Analysis,
     activity: Activity,
-    // whether the next decision at level 0 is to end at the lower bound
+    // whether the next decision at level 0 is to end at the lower bound, and a bound that is known
+    // elsewhere
     is_raising: bool,
+    known: u32,
     // how often the search began again, and how many conflicts it may have before it does so next
     restarts: u32,
     left: u64,
@@ -108,6 +110,7 @@ impl Search {
             analysis,
             activity,
             is_raising: false,
+            known: 0,
             restarts: 0,
             left: 0,
         })
@@ -314,7 +317,8 @@ impl Search {
     // The decision to end at the lower bound.
     fn raising(&self) -> Option<Literal> {
         let end = self.model.end();
-        let literal = at_most(end, self.state.trail.earliest(end), 0);
+        let bound = self.state.trail.earliest(end).max(self.known);
+        let literal = at_most(end, bound, 0);
         if self.is_raising && !self.state.trail.is_true(literal) {
             Some(literal)
         } else {
@@ -399,6 +403,22 @@ impl Search {
             }
         }
         Ok(Advance::Open)
+    }
+
+    /// Aims at bounds above one that is known elsewhere.
+    pub fn aim_above(&mut self, bound: u64)
+        ensures { self.new.prover ≡ self.old.prover }
+    {
+        self.known = bound.min(LIMIT as u64) as u32;
+    }
+
+    /// Takes the starts of a schedule, if they are feasible and shorter than the best ones. Returns
+    /// whether there is something left to search for.
+    pub fn take(&mut self, starts: Vec<u32>) -> Result<bool, AllocError>
+        ensures { self.new.prover.kernel.known.input ≡ self.old.prover.kernel.known.input }
+    {
+        self.go_back(0)?;
+        Ok(!self.prover.lower(starts)? || self.take_facts()?)
     }
 
     /// Begins. Returns whether there is something to search for.

@@ -5,13 +5,15 @@ ghost use Rattle.plan_sgs.specs.Problem.{IsActive, IsShortest, makespan};
 ghost use Rattle.plan_shop.specs.Shop.{problem_of};
 ghost use Rattle.plan_solve.specs.Solutions.{IsActiveShopSchedule};
 ghost use Rattle.plan_solve.specs.Progress.{HearsTruth};
+ghost use Rattle.plan_solve.specs.Sessions.{IsSessionOf};
 ghost use Rattle.plan_solve.specs.Solutions as spec;
 
 use crate::fault::SolveFault;
 use crate::log::{Log, Unlogged};
+use crate::running::Session;
 use crate::schedules::shorter;
 use crate::solvable::Solvable;
-use crate::solving::{MOST_CONFLICTS, Solved, searched, searched_from};
+use crate::solving::{MOST_CONFLICTS, Solved, searched, searched_from, unsearched};
 use crate::watcher::{Unwatched, Watcher};
 use plan_active::active_shop_schedule;
 use plan_kernel::{Input, Order};
@@ -160,8 +162,8 @@ pub fn solve_shop_watched<W: Watcher>(
     solve_shop_logged(alloc, shop, conflicts, watcher, &mut Unlogged)
 }
 
-/// Does the same, and writes what it proves to a log. With a log it also searches if the bounds that
-/// need no search meet. No clause says what the log gets: a checker of logs checks it.
+/// Does the same, and writes what it proves to a log. With a log it also searches if the bounds
+/// that need no search meet. No clause says what the log gets: a checker of logs checks it.
 pub fn solve_shop_logged<W: Watcher, L: Log>(
     alloc: Global,
     shop: &Shop,
@@ -199,17 +201,37 @@ pub fn solve_shop_logged<W: Watcher, L: Log>(
     Ok(searched?)
 }
 
-/// Does the same as [`solve_shop_watched`], and starts from a schedule and a lower bound that are
-/// known instead of those of the priority rules.
+/// Returns the shortest schedule of the priority rules and a lower bound of all makespans that
+/// needs no search.
+pub fn rule_solution(alloc: Global, shop: &Shop) -> Result<Solved, AllocError>
+    ensures schedule { IfOk result (λ solved. IsActiveShopSchedule shop.now solved.schedule) }
+    ensures lower { IfOk result (λ solved.
+        spec.IsLowerBound (problem_of shop.now) solved.lower) }
+{
+    unsearched(alloc, shop)
+}
+
+/// Returns a search of a job shop that starts from a schedule and hasn't begun.
+pub fn shop_session(alloc: Global, shop: &Shop, known: &Solved) -> Result<Session, AllocError>
+    ensures { IfOk result (IsSessionOf (problem_of shop.now)) }
+{
+    Session::new(alloc, shop, &known.schedule.starts, false)
+}
+
+/// Continues a search of a job shop from a known schedule and lower bound, otherwise as
+/// [`solve_shop_watched`].
 pub fn solve_shop_from<W: Watcher>(
     alloc: Global,
     shop: &Shop,
     known: Solved,
+    session: &mut Session,
     conflicts: u64,
     watcher: &mut W,
 ) -> Result<Solved, SolveFault>
     requires schedule { IsActiveShopSchedule shop.now known.schedule }
     requires lower { spec.IsLowerBound (problem_of shop.now) known.lower }
+    requires session { IsSessionOf (problem_of shop.now) session.old }
+    ensures session { IsSessionOf (problem_of shop.now) session.new }
     ensures active { IfOk result (λ solved.
         IsActive (problem_of shop.now) solved.schedule.starts.items) }
     ensures makespan { IfOk result (λ solved.
@@ -239,7 +261,8 @@ pub fn solve_shop_from<W: Watcher>(
     if conflicts == 0 || conflicts > MOST_CONFLICTS {
         return Err(SolveFault::BadConflicts);
     }
-    let searched = searched_from(alloc, shop, known, conflicts, watcher, &mut Unlogged);
+    let log = &mut Unlogged;
+    let searched = searched_from(alloc, shop, known, session, conflicts, watcher, log);
     watcher.end();
     Ok(searched?)
 }

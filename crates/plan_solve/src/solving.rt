@@ -2,10 +2,11 @@
 
 ghost use Rattle.std.specs.Prelude.{◌≡◌, ◌≤◌, nat_eq, IfOk};
 ghost use Rattle.plan_solve.specs.Progress.{HearsTruth};
+ghost use Rattle.plan_solve.specs.Sessions.{IsSessionOf};
 ghost use Rattle.plan_solve.specs.Solutions as spec;
 
 use crate::log::Log;
-use crate::running::run;
+use crate::running::Session;
 use crate::schedules::shorter;
 use crate::solvable::Solvable;
 use crate::watcher::Watcher;
@@ -53,18 +54,21 @@ fn best_of<S: Solvable>(
     }
 }
 
-/// Returns the result of a search with at most so many conflicts that starts from a known schedule
-/// and lower bound.
+/// Returns the result of a search that is continued from a known schedule and lower bound, with at
+/// most so many conflicts.
 pub fn searched_from<S: Solvable, W: Watcher, L: Log>(
     alloc: Global,
     source: &S,
     known: Solved,
+    session: &mut Session,
     conflicts: u64,
     watcher: &mut W,
     log: &mut L,
 ) -> Result<Solved, AllocError>
     requires schedule { S.is_schedule source.now known.schedule }
     requires lower { spec.IsLowerBound (S.problem source.now) known.lower }
+    requires session { IsSessionOf (S.problem source.now) session.old }
+    ensures session { IsSessionOf (S.problem source.now) session.new }
     ensures no_longer { IfOk result (λ solved.
         solved.schedule.makespan ≤ known.schedule.makespan) }
     ensures no_lower { IfOk result (λ solved. known.lower ≤ solved.lower) }
@@ -75,26 +79,24 @@ pub fn searched_from<S: Solvable, W: Watcher, L: Log>(
         (W.was_told watcher.old) (W.was_told watcher.new) }
 {
     let (schedule, lower) = (known.schedule, known.lower);
-    if lower >= schedule.makespan && !log.is_wanted() {
-        return Ok(Solved {
-            schedule,
-            lower,
-            conflicts: 0,
-        });
-    }
-    let found = run(
-        alloc,
-        source,
-        &schedule.starts,
-        lower,
-        conflicts,
-        watcher,
-        log,
-    )?;
+    let found = session.run(alloc, source, &schedule, lower, conflicts, watcher, log)?;
     Ok(Solved {
         schedule: best_of(alloc, source, schedule, &found.starts)?,
         lower: found.lower,
         conflicts: found.conflicts,
+    })
+}
+
+/// Returns the schedule of the rules and a lower bound that takes no search.
+pub fn unsearched<S: Solvable>(alloc: Global, source: &S) -> Result<Solved, AllocError>
+    ensures schedule { IfOk result (λ solved. S.is_schedule source.now solved.schedule) }
+    ensures lower { IfOk result (λ solved. spec.IsLowerBound (S.problem source.now) solved.lower) }
+    ensures conflicts { IfOk result (λ solved. solved.conflicts ≡ 0) }
+{
+    Ok(Solved {
+        schedule: source.by_rules(alloc)?,
+        lower: source.simple_bound(alloc)?,
+        conflicts: 0,
     })
 }
 
@@ -113,10 +115,11 @@ pub fn searched<S: Solvable, W: Watcher, L: Log>(
     ensures told { HearsTruth (S.problem source.now) conflicts
         (W.was_told watcher.old) (W.was_told watcher.new) }
 {
-    let known = Solved {
-        schedule: source.by_rules(alloc)?,
-        lower: source.simple_bound(alloc)?,
-        conflicts: 0,
-    };
-    searched_from(alloc, source, known, conflicts, watcher, log)
+    let known = unsearched(alloc, source)?;
+    if known.lower >= known.schedule.makespan && !log.is_wanted() {
+        return Ok(known);
+    }
+    let starts = &known.schedule.starts;
+    let mut session = Session::new(alloc, source, starts, log.is_wanted())?;
+    searched_from(alloc, source, known, &mut session, conflicts, watcher, log)
 }

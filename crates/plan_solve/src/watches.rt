@@ -1,6 +1,5 @@
 //! Kept clauses by the literals of which one must hold as soon as all others are false.
 
-use crate::lists::{at, put};
 use crate::literals::negated;
 use crate::stop::{Cause, Stop};
 use crate::trail::Trail;
@@ -15,14 +14,26 @@ struct Watch {
     threshold: u32,
 }
 
-/// For each half the clauses that it may make false, and for each clause the places of the two
-/// literals that are watched (Moskewicz, Madigan, Zhao, Zhang and Malik, "Chaff", 2001).
+/// A literal of a clause, and its place.
+#[derive(Clone, Copy, Drop)]
+struct Watched {
+    place: u32,
+    literal: Literal,
+}
+
+/// For each half the clauses that it may make false, and for each clause the two literals that are
+/// watched (Moskewicz, Madigan, Zhao, Zhang and Malik, "Chaff", 2001).
 #[derive(Drop)]
 pub struct Watches {
     lists: Vec<Vec<Watch>>,
-    first: Vec<u32>,
-    second: Vec<u32>,
+    pairs: Vec<(Watched, Watched)>,
 }
+
+// The literal at place 0 of no clause, which always holds.
+const NONE: Watched = Watched {
+    place: 0,
+    literal: Literal { half: 0, value: 0 },
+};
 
 /// The literal at a place of a clause; one that always holds if there is none.
 pub fn literal_at(clause: &[Literal], place: u32) -> Literal {
@@ -30,6 +41,14 @@ pub fn literal_at(clause: &[Literal], place: u32) -> Literal {
         clause[place as usize]
     } else {
         Literal { half: 0, value: 0 }
+    }
+}
+
+// The literal at a place of a clause, with the place.
+fn at_place(clause: &[Literal], place: u32) -> Watched {
+    Watched {
+        place,
+        literal: literal_at(clause, place),
     }
 }
 
@@ -54,9 +73,24 @@ impl Watches {
         }
         Ok(Watches {
             lists,
-            first: Vec::new(alloc),
-            second: Vec::new(alloc),
+            pairs: Vec::new(alloc),
         })
+    }
+
+    // The two literals of a clause that are watched.
+    fn pair(&self, clause: u32) -> (Watched, Watched) {
+        if (clause as usize) < self.pairs.len() {
+            self.pairs[clause as usize]
+        } else {
+            (NONE, NONE)
+        }
+    }
+
+    // Changes the two literals of a clause that are watched.
+    fn put(&mut self, clause: u32, one: Watched, other: Watched) {
+        if (clause as usize) < self.pairs.len() {
+            self.pairs[clause as usize] = (one, other);
+        }
     }
 
     // Watches a literal of a clause.
@@ -78,15 +112,14 @@ impl Watches {
         first: u32,
         second: u32,
     ) -> Result<(), AllocError> {
-        for _ in self.first.len()..(clause as usize).saturating_add(1) {
-            self.first.push(0)?;
-            self.second.push(0)?;
+        for _ in self.pairs.len()..(clause as usize).saturating_add(1) {
+            self.pairs.push((NONE, NONE))?;
         }
-        put(&mut self.first, clause, first);
-        put(&mut self.second, clause, second);
         let literals = kernel.clause(clause);
-        self.watch(clause, literal_at(literals, first))?;
-        self.watch(clause, literal_at(literals, second))
+        let (one, other) = (at_place(literals, first), at_place(literals, second));
+        self.put(clause, one, other);
+        self.watch(clause, one.literal)?;
+        self.watch(clause, other.literal)
     }
 
     /// Watches nothing.
@@ -105,30 +138,26 @@ impl Watches {
         watch: Watch,
         half: u32,
     ) -> Result<bool, Stop> {
-        let clause = kernel.clause(watch.clause);
-        let (first, second) = (
-            at(&self.first, watch.clause),
-            at(&self.second, watch.clause),
-        );
+        let (one, other) = self.pair(watch.clause);
         let refuted = negated(Literal {
             half,
             value: watch.threshold,
         });
-        let one = literal_at(clause, first);
-        let is_first = one.half == refuted.half && one.value == refuted.value;
-        let left = if is_first { second } else { first };
-        let literal = literal_at(clause, left);
+        let is_first = one.literal.half == refuted.half && one.literal.value == refuted.value;
+        let left = if is_first { other } else { one };
+        let literal = left.literal;
         if trail.is_true(literal) {
             return Ok(false);
         }
-        if let Some(place) = place_of_open(clause, trail, first, second) {
-            let moved = if is_first {
-                &mut self.first
+        let clause = kernel.clause(watch.clause);
+        if let Some(place) = place_of_open(clause, trail, one.place, other.place) {
+            let moved = at_place(clause, place);
+            if is_first {
+                self.put(watch.clause, moved, other);
             } else {
-                &mut self.second
-            };
-            put(moved, watch.clause, place);
-            self.watch(watch.clause, literal_at(clause, place))?;
+                self.put(watch.clause, one, moved);
+            }
+            self.watch(watch.clause, moved.literal)?;
             return Ok(true);
         }
         trail.set(literal, Cause::Kept(watch.clause))?;
