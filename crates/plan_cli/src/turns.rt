@@ -1,6 +1,6 @@
 //! Searches of a job shop in turns: by conflicts (plan_solve) and by nodes (plan_prove).
 
-ghost use Rattle.std.specs.Prelude.{◌≡◌, ◌≤◌, IfOk};
+ghost use Rattle.std.specs.Prelude.{◌≡◌, ◌≤◌, ◌<◌, IfOk};
 ghost use Rattle.plan_shop.specs.Shop.{problem_of};
 ghost use Rattle.plan_prove.specs.Proofs.{IsNodeLimit, IsProofOf};
 ghost use Rattle.plan_solve.specs.Sessions.{IsSessionOf};
@@ -12,11 +12,15 @@ use plan_shop::Shop;
 use plan_solve::{Session, SolveFault, Solved, rule_solution, shop_session, solve_shop_from};
 use std::alloc::{AllocError, Global};
 
-/// The least number of conflicts of a turn.
-const TURN_CONFLICTS: u64 = 2_000;
+/// The least number of nodes of a turn. Fewer conflicts take as long.
+const TURN_NODES: u64 = 12_000;
 
-/// The number of nodes that take about as long as one conflict.
-const NODES_PER_CONFLICT: u64 = 6;
+/// The least number of nodes that take about as long as one conflict.
+const LEAST_NODES: u64 = 6;
+
+/// The square of the number of jobs, divided by the nodes that take about as long as one conflict.
+/// Measured on shops of 20 to 50 jobs.
+const SQUARE_PER_NODE: u64 = 60;
 
 // Returns the schedule and the lower bound of a search as a proof.
 fn proof_of(solved: Solved) -> Proof
@@ -60,8 +64,8 @@ fn by_conflicts<V: SolveWatcher>(
     }
 }
 
-// Continues a search from another proof, with at most so many nodes.
-fn by_nodes<V: ProofWatcher>(
+// Continues a search from another proof, with at most so many nodes, unless the search is over.
+fn by_nodes<V: ProofWatcher + SolveWatcher>(
     alloc: Global,
     shop: &Shop,
     mut known: Proof,
@@ -74,7 +78,7 @@ fn by_nodes<V: ProofWatcher>(
     ensures proof { IfOk result (IsProofOf shop.now) }
     ensures nodes { IfOk result (λ proof. proof.nodes ≤ nodes) }
 {
-    if nodes == 0 {
+    if nodes == 0 || is_over(&known, nodes, watcher) {
         known.nodes = 0;
         return Ok(known);
     }
@@ -85,25 +89,34 @@ fn by_nodes<V: ProofWatcher>(
     }
 }
 
+// Returns the number of nodes that take about as long as one conflict.
+fn nodes_per_conflict(shop: &Shop) -> u64
+    ensures { 0 < result }
+{
+    let jobs = shop.jobs() as u64;
+    LEAST_NODES.max(jobs.saturating_mul(jobs) / SQUARE_PER_NODE)
+}
+
 // Returns the number of nodes that take about as long as so many conflicts.
-fn nodes_for(conflicts: u64) -> u64
+fn nodes_for(conflicts: u64, ratio: u64) -> u64
     ensures { result ≤ 1000000000 }
 {
-    conflicts.saturating_mul(NODES_PER_CONFLICT).min(MOST_NODES)
+    conflicts.saturating_mul(ratio).min(MOST_NODES)
 }
 
 // Returns the number of nodes after which a turn ends. The last turn takes all that are left.
-fn nodes_of_turn(turn: u64, conflicts: u64) -> u64 {
+fn nodes_of_turn(turn: u64, ratio: u64, conflicts: u64) -> u64 {
     if conflicts == 0 {
         u64::MAX
     } else {
-        nodes_for(turn)
+        nodes_for(turn, ratio)
     }
 }
 
-// Whether the schedule is a shortest one, or the watcher ends the search.
-fn is_over<V: SolveWatcher>(proof: &Proof, watcher: &mut V) -> bool {
-    proof.lower >= proof.schedule.makespan || watcher.is_late()
+// Whether nothing is left of the limits, the schedule is a shortest one, or the watcher ends the
+// search.
+fn is_over<V: SolveWatcher>(proof: &Proof, left: u64, watcher: &mut V) -> bool {
+    left == 0 || proof.lower >= proof.schedule.makespan || watcher.is_late()
 }
 
 /// Searches a shop in turns, by conflicts and by nodes. Each search continues where it stopped,
@@ -122,21 +135,19 @@ pub(crate) fn search_in_turns<V: ProofWatcher + SolveWatcher>(
     let mut session = shop_session(alloc, shop, &known)?;
     let mut course = Course::new(alloc);
     let mut best = proof_of(known);
-    let (mut conflicts, mut nodes, mut turn) = (most, nodes_for(most), TURN_CONFLICTS);
+    let ratio = nodes_per_conflict(shop);
+    let (mut conflicts, mut nodes, mut turn) = (most, nodes_for(most, ratio), TURN_NODES / ratio);
     for _turn in 0..most {
-        if is_over(&best, watcher) || conflicts == 0 && nodes == 0 {
+        if is_over(&best, conflicts + nodes, watcher) {
             break;
         }
-        let part = turn.min(conflicts);
+        let part = turn.max(1).min(conflicts);
         best = by_conflicts(alloc, shop, best, &mut session, part, watcher)?;
         conflicts -= part;
-        if is_over(&best, watcher) {
-            break;
-        }
-        course.turn = nodes_of_turn(turn, conflicts);
+        course.turn = nodes_of_turn(turn, ratio, conflicts);
         best = by_nodes(alloc, shop, best, &mut course, nodes, watcher)?;
         nodes -= best.nodes;
-        turn = TURN_CONFLICTS.max(best.nodes / NODES_PER_CONFLICT);
+        turn = TURN_NODES.max(best.nodes) / ratio;
     }
     Ok(best)
 }
