@@ -14,7 +14,7 @@ use Rattle.plan_store.specs.TableTests.{world_others}
 use Rattle.plan_store.specs.PlanReview.{ReviewsPlans}
 use Rattle.plan_store.proofs.VersionLemmas.{judged, told, untold, looks_nowhere}
 use Rattle.plan_store.proofs.TableTestLemmas.{looks_again}
-use Rattle.plan_store.proofs.version.is_office.Goals as goal
+use Rattle.plan_store.proofs.version.office_plans.Goals as goal
 
 abbrev made : Digest → List CodeRow → List DeskRecord → List Plan → List BindRecord → List LagRecord → World
 made office codes desks plans binds lags = record {
@@ -54,10 +54,10 @@ returns-then-not-branch g c =
     judged c.args.layout old new c.requires.ready c.args.others.now c.requires.others c.in_ok-review_plans.field-0 (ReviewsPlans (old.now.trees 5) review) _
     (λ laid holds h. untold c.args.layout old laid c.args.others.now holds review (subst (ReviewsPlans (old.now.trees 5) review) c.if-not-branch.true h)) c.in_ok-review_plans.ensures.looks
 
-pub returns-in_err-is_world : goal.returns-in_err-is_world
-returns-in_err-is_world g c = looks_again c.args.layout (state g.S.Store c.args.conn.now)
+pub returns-in_err-finish : goal.returns-in_err-finish
+returns-in_err-finish g c = looks_again c.args.layout (state g.S.Store c.args.conn.now)
     (state g.S.Store c.review_plans.new.conn) c.review_plans.result _ _ _ c.review_plans.ensures.looks
-    (if_err _ _ c.from_residual-in_err-is_world.result c.from_residual-in_err-is_world.ensures.1)
+    (if_err _ _ c.from_residual-in_err-finish.result c.from_residual-in_err-finish.ensures.1)
 
 pub returns : goal.returns
 returns g c =
@@ -65,13 +65,13 @@ returns g c =
     let new = state g.S.Store c.review_plans.new.conn in
     let review = c.review_plans.new.review in
     let it = c.args.others.now in
-    let from : (plans : List Plan) → world_beside review.beside plans ≡ made it.office c.as_slice.result.now c.as_slice-2.result.now plans c.as_slice-3.result.now c.as_slice-4.result.now =
+    let from : (plans : List Plan) → world_beside review.review.beside plans ≡ made it.office c.as_slice.result.now c.as_slice-2.result.now plans c.as_slice-3.result.now c.as_slice-4.result.now =
     λ plans. ap (λ (b : Beside). world_beside b plans) (c.review_plans.ensures.same ∙ c.in_ok-review.ensures.beside) in
-    let whole : (plans : List Plan) → world_beside review.beside plans ≡ world_others it plans =
+    let whole : (plans : List Plan) → world_beside review.review.beside plans ≡ world_others it plans =
     λ plans. from plans ∙ lent it c.as_slice.result.now c.as_slice-2.result.now c.as_slice-3.result.now
     c.as_slice-4.result.now c.as_slice.ensures.value c.as_slice-2.ensures.value c.as_slice-3.ensures.value
     c.as_slice-4.ensures.value plans in
     judged c.args.layout old new c.requires.ready it c.requires.others c.in_ok-review_plans.field-0 (ReviewsPlans (old.now.trees 5) review) _
-    (λ laid holds h. told c.args.layout old laid it holds review whole c.in_ok-is_world.field-0
-    c.in_ok-is_world.ensures (subst (ReviewsPlans (old.now.trees 5) review) c.if-not-branch.false h))
+    (λ laid holds h. told c.args.layout old laid it holds review whole c.in_ok-finish.field-0
+    c.in_ok-finish.ensures (subst (ReviewsPlans (old.now.trees 5) review) c.if-not-branch.false h))
     c.in_ok-review_plans.ensures.looks
