@@ -1,5 +1,6 @@
 -- The plans of each desk that a book keeps, after each change of the tables.
-use Rattle.std.proofs.Common.{◌≡◌, ◌⊎◌, inl, inr, ℕ, Bool, true, false, not, ◌&&◌, ◌==◌, nat_lt, cond, List, [], ◌∷◌, ◌++◌, length, map, filter, Option, Some, None, Result, Ok, Err, IsTrue, IsSome, IsSomeAnd, refl, sym, ap, subst, ◌∙◌, arith, append-nil}
+use Rattle.std.proofs.Common.{Vec, Global, ◌≡◌, ◌⊎◌, inl, inr, ℕ, Bool, true, false, not, ◌&&◌, ◌==◌, nat_lt, cond, List, [], ◌∷◌, ◌++◌, length, map, filter, Option, Some, None, Result, Ok, Err, IsTrue, IsSome, IsSomeAnd, refl, sym, ap, subst, ◌∙◌, arith, append-nil}
+use Rattle.std.specs.Option.{option_map_or}
 use Rattle.std.proofs.lemmas.Bool.{cases_Bool, cond-true, cond-false, and_parts}
 use Rattle.std.proofs.lemmas.List.{length-map, map-append}
 use Rattle.std.proofs.lemmas.List.Elements.{filter-append}
@@ -20,6 +21,51 @@ use Rattle.plan_store.specs.declared.kept_plans.KeptPlans.{KeptPlans}
 use Rattle.plan_store.specs.Stores.{world_of}
 use Rattle.plan_store.specs.BookCalls.{Asks, Changes, IsNextNumber}
 use Rattle.plan_store.specs.KeptPlans.{entries_of, entry_before, keys_of, HoldsPlans, AddsEntry, KeepsPlans}
+
+-- ---- lists by desk
+
+abbrev pub items_in : Option (Vec PlanEntry Global) → List PlanEntry
+items_in found = option_map_or (λ list. list.items) found []
+
+module _ (before after : Text → Option (Vec PlanEntry Global)) (desk : Text) (list : Vec PlanEntry Global)
+    (sets : (other : Text) → after other ≡ cond (same_text desk other) (Some list) (before other)) where
+  -- one list is replaced
+  pub items_set : (other : Text) → items_in (after other) ≡ cond (same_text desk other) list.items (items_in (before other))
+  items_set other = by_test (cases_Bool (same_text desk other))
+    where
+      by_test : (same_text desk other ≡ true) ⊎ (same_text desk other ≡ false) → items_in (after other) ≡ cond (same_text desk other) list.items (items_in (before other))
+      by_test (inl same) =
+          ap items_in (sets other ∙ cond-true (same_text desk other) (Some list) (before other) same)
+          ∙ sym (cond-true (same_text desk other) list.items (items_in (before other)) same)
+      by_test (inr apart) =
+          ap items_in (sets other ∙ cond-false (same_text desk other) (Some list) (before other) apart)
+          ∙ sym (cond-false (same_text desk other) list.items (items_in (before other)) apart)
+
+  -- an empty list is made where there was none
+  pub items_made : list.items ≡ [] → before desk ≡ None → (other : Text) → items_in (after other) ≡ items_in (before other)
+  items_made empty none other = items_set other ∙ by_test (cases_Bool (same_text desk other))
+    where
+      by_test : (same_text desk other ≡ true) ⊎ (same_text desk other ≡ false) → cond (same_text desk other) list.items (items_in (before other)) ≡ items_in (before other)
+      by_test (inl same) =
+          cond-true (same_text desk other) list.items (items_in (before other)) same ∙ empty
+          ∙ ap items_in (sym none ∙ ap before (text_from_same desk other same))
+      by_test (inr apart) = cond-false (same_text desk other) list.items (items_in (before other)) apart
+
+-- the list of one desk is replaced by one that is made of it
+pub sets_by : (f : List PlanEntry → List PlanEntry) (old new : KeptPlans) (desk : Text) (list : List PlanEntry) → list ≡ f (entries_of old desk)
+    → ((other : Text) → entries_of new other ≡ cond (same_text desk other) list (entries_of old other))
+    → (other : Text) → entries_of new other ≡ cond (same_text desk other) (f (entries_of old other)) (entries_of old other)
+sets_by f old new desk list is sets other = sets other ∙ by_test (cases_Bool (same_text desk other))
+  where
+    by_test : (same_text desk other ≡ true) ⊎ (same_text desk other ≡ false)
+        → cond (same_text desk other) list (entries_of old other) ≡ cond (same_text desk other) (f (entries_of old other)) (entries_of old other)
+    by_test (inl same) =
+        cond-true (same_text desk other) list (entries_of old other) same
+        ∙ is ∙ ap (λ d. f (entries_of old d)) (text_from_same desk other same)
+        ∙ sym (cond-true (same_text desk other) (f (entries_of old other)) (entries_of old other) same)
+    by_test (inr apart) =
+        cond-false (same_text desk other) list (entries_of old other) apart
+        ∙ sym (cond-false (same_text desk other) (f (entries_of old other)) (entries_of old other) apart)
 
 -- ---- the keys of a desk's plans
 
@@ -183,3 +229,9 @@ holds_added old desk next kind name body before after entry number is adds clean
     let w = world_of old.now.trees in
     holds_push w.plans before after desk entry (new_plan desk (next_of (desk_in w desk)) kind name body) refl
     (is ∙ ap (λ n. (n, kind)) (sym (next_is w desk next (number clean live)))) holds adds
+
+-- a plan less
+pub holds_removed : (w : World) (desk : Text) (n : ℕ) (before after : KeptPlans)
+    → ((other : Text) → entries_of after other ≡ cond (same_text desk other) (filter (λ (e : PlanEntry). not (e.n == n)) (entries_of before other)) (entries_of before other))
+    → HoldsPlans w.plans before → HoldsPlans (apply desk (RemovePlan n) w).plans after
+holds_removed w desk n before after sets holds = holds_without w.plans before after desk n holds sets

@@ -20,7 +20,7 @@ use Rattle.plan_store.specs.Stores.{world_of}
 use Rattle.plan_store.specs.Layouts.{meta_at, world_in, IsOfficeAt}
 use Rattle.plan_store.specs.UntrustedRows.{HoldsPlan, TakesTable}
 use Rattle.plan_store.specs.PlanReview.{HasSeen, IsGoodPlan, ReviewsPlans}
-use Rattle.plan_store.specs.TableTests.{IsLaid, IsReadable, Looks, HoldsOthers, IsJudged, world_others}
+use Rattle.plan_store.specs.TableTests.{IsLaid, IsReadable, Looks, HoldsOthers, IsJudged, SaysOffice, world_others}
 use Rattle.plan_store.proofs.HoldsLemmas.{plans_hold}
 use Rattle.plan_store.proofs.TableTestLemmas.{looks_again}
 use Rattle.plan_store.proofs.EnduringLemmas.{endures_itself}
@@ -98,3 +98,11 @@ looks_nowhere layout s ready r Is answer = record {
   crash = λ clean trees may. may;
   endures = endures_itself s;
 }
+
+-- the version and the plans of an office, or none
+pub says_none : (layout : Layout) (db : Database) (kept : KeptPlans) → ((version : ℤ) → IsOfficeAt layout version db → ⊥) → SaysOffice layout db (None, kept)
+says_none layout db kept none = record { version = none; plans = λ some. cc }
+
+pub says_some : (layout : Layout) (db : Database) (version : ℤ) (kept : KeptPlans) → IsOfficeAt layout version db → HoldsPlans (world_of db.trees).plans kept
+    → SaysOffice layout db (Some version, kept)
+says_some layout db version kept office holds = record { version = office; plans = λ some. holds }

@@ -31,10 +31,10 @@ book_code {S} store =
 
 -- Its connection is ready, the kept number is that of the desk's next plan, and the kept plans are
 -- those in the tables.
-pub record IsServing (s : State) (kept : Option NextPlan) (plans : KeptPlans) : Type 0 where
+pub record IsServing (s : State) (kept : Option NextPlan) (listed : KeptPlans) : Type 0 where
   pub ready : IsReady s
   pub next : IfSome kept (λ next. IsNextNumber s (string_bytes next.desk) next.n)
-  pub plans : KeepsPlans s plans
+  pub plans : KeepsPlans s listed
 
 -- The calls can fail, and the tables are readable as long as the store is open.
 abbrev pub sql_shelf : {S : Type 0} → Ghosts S → Shelf (Counted S)

@@ -172,9 +172,13 @@ fn add_next<'x, S: Alter>(
     let n = sql_number(next)?;
     plans.make_list(desk)?;
     let list = plans.list_with(desk, PlanEntry { n: next, kind })?;
-    add_numbered(conn, desk, n, kind, name, body)?;
-    plans.set_list(desk, list);
-    Ok(())
+    match add_numbered(conn, desk, n, kind, name, body) {
+        Ok(()) => {
+            plans.set_list(desk, list);
+            Ok(())
+        }
+        Err(fault) => Err(fault),
+    }
 }
 
 // Reads the desk's next number and adds a plan with it.
@@ -265,9 +269,13 @@ pub fn remove_plan_in<S: Alter>(
     let number = sql_number(n)?;
     plans.make_list(desk)?;
     let list = plans.list_without(desk, n)?;
-    remove_numbered(conn, desk, number)?;
-    plans.set_list(desk, list);
-    Ok(())
+    match remove_numbered(conn, desk, number) {
+        Ok(()) => {
+            plans.set_list(desk, list);
+            Ok(())
+        }
+        Err(fault) => Err(fault),
+    }
 }
 
 /// Sets the calendar of a plan.

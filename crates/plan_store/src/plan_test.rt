@@ -54,10 +54,10 @@ impl<'a> PlanTest<'a> {
     /// Returns the kept plans, if the plans that were read and the other rows keep the rules of
     /// rows.
     pub fn finish(self) -> Result<Option<KeptPlans>, AllocError>
-        ensures { (plans : List Plan) → HasSeen plans self → IfOk result
+        ensures { (plans : List Plan) → HasSeen plans self.entry → IfOk result
             (λ found. MatchOption found
-            (IsWorld (world_beside self.review.beside plans) → ⊥)
-            (λ kept. IsWorld (world_beside self.review.beside plans) × HoldsPlans plans kept)) }
+            (IsWorld (world_beside self.entry.review.beside plans) → ⊥)
+            (λ kept. IsWorld (world_beside self.entry.review.beside plans) × HoldsPlans plans kept)) }
     {
         let PlanTest { review, kept } = self;
         if review.is_world()? {

@@ -137,7 +137,7 @@ fn check_open<S: Alter>(conn: &mut Connection<S>) -> Result<(), BookFault>
     requires ready { Serves S.Store conn.old }
     ensures { ReadsTables S.Store conn.old conn.new result (λ _ _. Unit {0}) }
 {
-    let _statement = prepare(conn, OFFICE)?;
+    prepare(conn, OFFICE)?;
     Ok(())
 }
 

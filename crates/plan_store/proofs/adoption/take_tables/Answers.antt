@@ -13,3 +13,28 @@ returns-in_default-clause-takes g c =
     let s = state g.S.Store c.args.conn.now in
     refuses s (Err NotOurs) NotOurs refl c.requires.outside (λ clean. (c.requires.in_order clean).is_open)
     (λ clean. no_layout s.now (λ layout e. c.in_default.ensures layout (c.schema.ensures.value ∙ e)))
+
+pub returns-in-Ok-in-Ok-clause-takes : goal.returns-in-Ok-in-Ok-clause-takes
+returns-in-Ok-in-Ok-clause-takes g c =
+    let old = state g.S.Store c.args.conn.now in
+    let mid = state g.S.Store c.read_version.new.conn in
+    let new = state g.S.Store c.take_version.new.conn in
+    let looks = c.in-Ok.ensures in
+    takes_made old mid new looks.honesty (λ clean. (looks.same clean (looks.answer clean).0).1) looks.crash c.in-Ok-in-Ok.ensures.takes c.in-Ok.kept
+
+pub returns-in-Ok-in-Err-clause-takes : goal.returns-in-Ok-in-Err-clause-takes
+returns-in-Ok-in-Err-clause-takes g c =
+    let old = state g.S.Store c.args.conn.now in
+    let mid = state g.S.Store c.read_version.new.conn in
+    let new = state g.S.Store c.take_version.new.conn in
+    let looks = c.in-Ok.ensures in
+    takes_refused old mid new looks.honesty (λ clean. (looks.same clean (looks.answer clean).0).1) looks.crash c.in-Ok-in-Err.fault c.in-Ok-in-Err.ensures.takes
+
+pub returns-in-Ok-in-Ok-clause-plans : goal.returns-in-Ok-in-Ok-clause-plans
+returns-in-Ok-in-Ok-clause-plans g c =
+    let mid = state g.S.Store c.read_version.new.conn in
+    let new = state g.S.Store c.take_version.new.conn in
+    let looks = c.in-Ok.ensures in
+    kept_taken mid new c.in-Ok.kept c.in-Ok-in-Ok.ensures.takes (λ clean.
+    let it = looks.answer clean in
+    subst (λ (db : Database). HoldsPlans (world_of db.trees).plans c.in-Ok.kept) (sym (looks.same clean it.0).1) (it.1.plans c.in-Ok-in-Ok.ensures.said))
