@@ -1,0 +1,70 @@
+//! The calendar files of projects and job shops.
+
+ghost use Rattle.std.specs.Prelude.{◌≡◌, ◌≤◌, true, length, map, slice_index, EachIndex};
+ghost use Rattle.std.specs.Prelude.{IfOk, IsErrOf, string_bytes};
+ghost use Rattle.plan_net.specs.Network.{count_of};
+ghost use Rattle.plan_shop.specs.Shop.{count_steps};
+ghost use Rattle.plan_gantt.specs.Limits.{latest_start};
+ghost use Rattle.plan_table.specs.Names.{name_of};
+ghost use Rattle.plan_sheet.specs.Ics.{are_short};
+ghost use Rattle.plan_sheet.specs.Plans as spec;
+
+use crate::bars::{activity_bars, step_bars};
+use crate::feed::bars_ics;
+use plan_calendar::Calendar;
+use plan_gantt::DaysFault;
+use plan_net::Network;
+use plan_shop::Shop;
+use plan_table::NameLine;
+use std::alloc::Global;
+
+/// Returns a calendar file (RFC 5545) with an event of whole days for each activity that takes
+/// time. Index `k` of `starts` is activity `k + 1`; a time unit is a working day. The identifier of
+/// an event has the digest, the number of the activity, and `@plan`; the instant of the file is its
+/// first working day. No line has more than 75 bytes.
+///
+/// Fails with [`DaysFault::BeyondCalendar`] if the day of an instant before the greatest end, or
+/// the day after that, would be after 9999-12-31.
+pub fn project_ics(
+    alloc: Global,
+    digest: &str,
+    names: &[NameLine<'_>],
+    network: &Network,
+    starts: &[u64],
+    calendar: &Calendar,
+) -> Result<String, DaysFault>
+    requires starts { length starts.now ≡ count_of network.now }
+    requires limit { EachIndex starts.now (λ k. slice_index starts.now k ≤ latest_start) }
+    ensures text { IfOk result (λ text. spec.IsProjectIcs digest.now (map name_of names.now)
+        network.now starts.now calendar.now (string_bytes text)) }
+    ensures short { IfOk result (λ text. are_short 0 (string_bytes text) ≡ true) }
+    ensures beyond { IsErrOf result DaysFault.BeyondCalendar →
+        spec.IsProjectBeyond network.now starts.now calendar.now }
+{
+    let bars = activity_bars(alloc, network, starts)?;
+    bars_ics(alloc, digest, names, &bars, calendar)
+}
+
+/// Returns a calendar file (RFC 5545) with an event of whole days for each step that takes time, as
+/// [`project_ics`] does for activities. Index `x` of `starts` is flat step `x`. The identifier of
+/// an event has the numbers of the job and of the step in it, both from 1. The names are those of
+/// orders, by the numbers of their jobs.
+pub fn shop_ics(
+    alloc: Global,
+    digest: &str,
+    orders: &[NameLine<'_>],
+    shop: &Shop,
+    starts: &[u64],
+    calendar: &Calendar,
+) -> Result<String, DaysFault>
+    requires starts { length starts.now ≡ count_steps shop.now }
+    requires limit { EachIndex starts.now (λ k. slice_index starts.now k ≤ latest_start) }
+    ensures text { IfOk result (λ text. spec.IsShopIcs digest.now (map name_of orders.now)
+        shop.now starts.now calendar.now (string_bytes text)) }
+    ensures short { IfOk result (λ text. are_short 0 (string_bytes text) ≡ true) }
+    ensures beyond { IsErrOf result DaysFault.BeyondCalendar →
+        spec.IsShopBeyond shop.now starts.now calendar.now }
+{
+    let bars = step_bars(alloc, shop, starts)?;
+    bars_ics(alloc, digest, orders, &bars, calendar)
+}
