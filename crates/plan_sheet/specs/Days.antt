@@ -1,7 +1,8 @@
 -- The days of a plan (docs/definitions.md, "Sheets"). Instant t is the working day with t working
 -- days before it.
-use Rattle.std.specs.Prelude.{◌≡◌, ℕ, ◌<◌, ◌==◌, if◌then◌else◌, List, [], Option, Some, None, pos, ◌+ℤ◌, ◌<ℤ◌, Contains, slice_get}
+use Rattle.std.specs.Prelude.{◌≡◌, ℕ, ◌<◌, ◌==◌, if◌then◌else◌, nat_lt, List, [], length, Option, Some, None, pos, ◌+ℤ◌, ◌<ℤ◌, Contains, slice_get}
 use Rattle.std.specs.List.{AllZip, flat_map, range_with_len}
+use Rattle.std.specs.Fmt.{decimal}
 use Rattle.std.specs.Char.{encode_utf8}
 use Rattle.std.specs.Str.{chars}
 use Rattle.jiff_core.specs.Date.{epoch_day}
@@ -37,6 +38,10 @@ shown_day (Some day) = date_text day
 -- the day at an index
 abbrev pub day_text : List Date → ℕ → List ℕ
 day_text days t = shown_day (slice_get days t)
+
+-- the label of a mark: the day at its place, or the place itself if there are no days
+abbrev pub tick_label : List Date → ℕ → List ℕ
+tick_label days at = if nat_lt (length days) 1 then decimal at else day_text days at
 
 -- a character of a date, if it isn't a hyphen
 abbrev pub digit_of : ℕ → List ℕ

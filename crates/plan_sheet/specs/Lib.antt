@@ -1,8 +1,12 @@
 pub mod Escape
 pub mod Names
+pub mod Pieces
+pub mod Place
 pub mod Bars
+pub mod Axis
 pub mod Days
 pub mod Titles
+pub mod Chart
 pub mod Ics
 pub mod Feed
 pub mod Plans

@@ -1,11 +1,27 @@
--- The calendar files of projects and job shops (docs/definitions.md, "Sheets").
-use Rattle.std.specs.Prelude.{ℕ, List}
+-- The charts and calendar files of projects and job shops (docs/definitions.md, "Sheets").
+use Rattle.std.specs.Prelude.{ℕ, List, []}
 use Rattle.plan_calendar.specs.WorkingDay.{Workdays}
-use Rattle.plan_net.specs.Network.{Net}
+use Rattle.plan_net.specs.Network.{Net, count_of}
 use Rattle.plan_shop.specs.Shop.{JobShop}
 use Rattle.plan_table.specs.Names.{Name}
 use Rattle.plan_sheet.specs.Bars.{activity_bars, step_bars, greatest_end}
+use Rattle.plan_sheet.specs.Chart.{svg_chart}
+use Rattle.plan_sheet.specs.declared.bars.Bar.{Bar}
 use Rattle.plan_sheet.specs.Feed.{IsIcsText, HasEventBeyond}
+
+-- the chart of bars: the lines with `count` numbers from `first` on, below an axis to the greatest
+-- end
+abbrev pub bars_svg : List ℕ → List Name → List Name → List Bar → ℕ → ℕ → List ℕ
+bars_svg title rows names bars first count =
+    svg_chart title (record { span = greatest_end bars; days = []; rows = rows; names = names; bars = bars }) first count
+
+-- the chart of a project: a line for each activity, with its bar
+abbrev pub project_svg : List ℕ → List Name → Net → List ℕ → List ℕ
+project_svg title names net starts = bars_svg title names names (activity_bars net starts) 1 (count_of net)
+
+-- the chart of a job shop: a line for each machine, with the bars of its steps
+abbrev pub shop_svg : List ℕ → List Name → List Name → JobShop → List ℕ → List ℕ
+shop_svg title machines orders s starts = bars_svg title machines orders (step_bars s starts) 0 s.machines
 
 -- a text is the calendar file of a project: an event for each activity that takes time
 abbrev pub IsProjectIcs : List ℕ → List Name → Net → List ℕ → Workdays → List ℕ → Type 0

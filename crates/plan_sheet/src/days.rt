@@ -48,14 +48,24 @@ pub(crate) fn working_days(
     Ok(days)
 }
 
-// Returns the day at an index as `YYYY-MM-DD`, or an empty text if there is none.
-fn day_text(alloc: Global, days: &[Date], t: u32) -> Result<String, AllocError>
+/// Returns the day at an index as `YYYY-MM-DD`, or an empty text if there is none.
+pub(crate) fn day_text(alloc: Global, days: &[Date], t: u32) -> Result<String, AllocError>
     ensures { IfOk result (λ text. string_bytes text ≡ spec.day_text days.now t) }
 {
     match days.get(t as usize) {
         Some(day) => day.to_string(alloc),
         None => Ok(String::new(alloc)),
     }
+}
+
+/// Returns the label of a mark: the day at its place, or the place itself if there are no days.
+pub(crate) fn tick_label(alloc: Global, days: &[Date], at: u32) -> Result<String, AllocError>
+    ensures { IfOk result (λ text. string_bytes text ≡ spec.tick_label days.now at) }
+{
+    if days.len() < 1 {
+        return format!(in alloc; "{at}");
+    }
+    day_text(alloc, days, at)
 }
 
 // Appends a character of a date, if it isn't a hyphen.

@@ -7,8 +7,12 @@ ghost use Rattle.plan_sheet.specs.Names as spec;
 use plan_table::{NameLine, first_name};
 use std::alloc::{AllocError, Global};
 
-// Returns the first name of number `n`, or an empty text if it has none.
-fn name_text(alloc: Global, names: &[NameLine<'_>], n: u32) -> Result<String, AllocError>
+/// Returns the first name of number `n`, or an empty text if it has none.
+pub(crate) fn name_text(
+    alloc: Global,
+    names: &[NameLine<'_>],
+    n: u32,
+) -> Result<String, AllocError>
     ensures { IfOk result (λ text. string_bytes text ≡ spec.name_text (map name_of names.now) n) }
 {
     match first_name(names, u64::from(n)) {

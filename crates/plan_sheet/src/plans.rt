@@ -1,22 +1,104 @@
-//! The calendar files of projects and job shops.
+//! The charts and calendar files of projects and job shops.
 
-ghost use Rattle.std.specs.Prelude.{◌≡◌, ◌≤◌, true, length, map, slice_index, EachIndex};
+ghost use Rattle.std.specs.Prelude.{◌≡◌, ◌≤◌, [], true, length, map, slice_index, EachIndex};
 ghost use Rattle.std.specs.Prelude.{IfOk, IsErrOf, string_bytes};
 ghost use Rattle.plan_net.specs.Network.{count_of};
 ghost use Rattle.plan_shop.specs.Shop.{count_steps};
 ghost use Rattle.plan_gantt.specs.Limits.{latest_start};
 ghost use Rattle.plan_table.specs.Names.{name_of};
+ghost use Rattle.plan_sheet.specs.Chart.{chart_of, svg_chart, without_names};
+ghost use Rattle.plan_sheet.specs.Escape.{markup_of};
 ghost use Rattle.plan_sheet.specs.Ics.{are_short};
 ghost use Rattle.plan_sheet.specs.Plans as spec;
 
-use crate::bars::{activity_bars, step_bars};
+use crate::bars::{activity_bars, last_end, step_bars};
+use crate::chart::{Chart, svg_chart};
 use crate::feed::bars_ics;
 use plan_calendar::Calendar;
 use plan_gantt::DaysFault;
 use plan_net::Network;
 use plan_shop::Shop;
 use plan_table::NameLine;
-use std::alloc::Global;
+use std::alloc::{AllocError, Global};
+
+// Returns a chart as an SVG file; its markup doesn't depend on the title or on names.
+fn safe_svg(
+    alloc: Global,
+    title: &str,
+    chart: &Chart<'_>,
+    first: u32,
+    count: u32,
+) -> Result<String, AllocError>
+    requires first { first ≤ 1 }
+    requires count { count ≤ 1000000 }
+    ensures text { IfOk result (λ text.
+        string_bytes text ≡ svg_chart title.now (chart_of chart.now) first count) }
+    ensures safe { IfOk result (λ text. markup_of (string_bytes text)
+        ≡ markup_of (svg_chart [] (without_names (chart_of chart.now)) first count)) }
+{
+    let text = svg_chart(alloc, title, chart, first, count)?;
+    Ok(text)
+}
+
+/// Returns the Gantt chart of a project's schedule as an SVG file, with a title: a line for each
+/// activity. Index `k` of `starts` is activity `k + 1`; times are whole time units. The only error
+/// is out of memory.
+pub fn project_svg(
+    alloc: Global,
+    title: &str,
+    names: &[NameLine<'_>],
+    network: &Network,
+    starts: &[u64],
+) -> Result<String, AllocError>
+    requires starts { length starts.now ≡ count_of network.now }
+    requires limit { EachIndex starts.now (λ k. slice_index starts.now k ≤ latest_start) }
+    ensures text { IfOk result (λ text. string_bytes text
+        ≡ spec.project_svg title.now (map name_of names.now) network.now starts.now) }
+    // Its markup is the same whatever the title and the names are.
+    ensures safe { IfOk result (λ text. markup_of (string_bytes text)
+        ≡ markup_of (spec.project_svg [] [] network.now starts.now)) }
+{
+    let bars = activity_bars(alloc, network, starts)?;
+    let chart = Chart {
+        span: last_end(&bars),
+        days: &[],
+        rows: &*names,
+        names: &*names,
+        bars: &bars,
+    };
+    safe_svg(alloc, title, &chart, 1, network.len() as u32)
+}
+
+/// Returns the Gantt chart of a job shop's schedule as an SVG file, with a title: a line for each
+/// machine, from 0 on. Index `x` of `starts` is flat step `x`; times are whole time units. The
+/// names are those of machines, from 0, and of orders, by the numbers of their jobs from 1. The only
+/// error is out of memory.
+pub fn shop_svg(
+    alloc: Global,
+    title: &str,
+    machines: &[NameLine<'_>],
+    orders: &[NameLine<'_>],
+    shop: &Shop,
+    starts: &[u64],
+) -> Result<String, AllocError>
+    requires starts { length starts.now ≡ count_steps shop.now }
+    requires limit { EachIndex starts.now (λ k. slice_index starts.now k ≤ latest_start) }
+    ensures text { IfOk result (λ text. string_bytes text ≡ spec.shop_svg
+        title.now (map name_of machines.now) (map name_of orders.now) shop.now starts.now) }
+    // Its markup is the same whatever the title and the names are.
+    ensures safe { IfOk result (λ text. markup_of (string_bytes text)
+        ≡ markup_of (spec.shop_svg [] [] [] shop.now starts.now)) }
+{
+    let bars = step_bars(alloc, shop, starts)?;
+    let chart = Chart {
+        span: last_end(&bars),
+        days: &[],
+        rows: machines,
+        names: orders,
+        bars: &bars,
+    };
+    safe_svg(alloc, title, &chart, 0, shop.machines())
+}
 
 /// Returns a calendar file (RFC 5545) with an event of whole days for each activity that takes
 /// time. Index `k` of `starts` is activity `k + 1`; a time unit is a working day. The identifier of
