@@ -40,6 +40,7 @@ pub mod Starts
 pub mod VerdictText
 pub mod CheckRun
 pub mod SlackRun
+pub mod CompareRun
 pub mod FormattedText
 pub mod TableFaultText
 pub mod ImportRun

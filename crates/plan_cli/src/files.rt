@@ -6,10 +6,10 @@ ghost use Rattle.plan_io.specs.Devices.{most_calls};
 ghost use Rattle.plan_psplib.specs.Plain.{longest_text};
 ghost use Rattle.plan_errors.specs.Output.{HasSinkFailed};
 ghost use Rattle.plan_cli.specs.Tasks.{DoesTask, AreRead, bytes_behind};
-ghost use Rattle.plan_cli.specs.ListedTasks.{DoesListed};
+ghost use Rattle.plan_cli.specs.ListedTasks.{DoesCompared, DoesListed};
 
 use crate::inputs::{Inputs, SystemInputs};
-use crate::listed_tasks::{ListedTask, with_starts};
+use crate::listed_tasks::{ComparedTask, ListedTask, with_first, with_starts};
 use crate::runs::run_task;
 use crate::tasks::{Rows, Task};
 use crate::watchers::{Log, ProofWatcher, SolveWatcher, Unlogged, Unwatched};
@@ -98,6 +98,43 @@ pub fn listed_on_named<I: Inputs, W: Sink>(
     )
 }
 
+/// Runs a task on the file of a project or a job shop and two files of starts, A and B. One of the
+/// three names may be `-` for standard input. The starts of A are read first, then those of B. A
+/// file that can't be opened or read is [`CliFault::Input`].
+pub fn compared_on_named<I: Inputs, W: Sink>(
+    alloc: Global,
+    inputs: &I,
+    task: ComparedTask<'_>,
+    rows: Rows,
+    path: &str,
+    a_path: &str,
+    b_path: &str,
+    writer: &mut W,
+) -> Result<(), CliFault>
+    // The text of the task is written for the starts in the two files and the project in the other.
+    ensures does { DoesCompared task.entry rows
+        (bytes_behind I.Inputs inputs.now a_path.now)
+        (bytes_behind I.Inputs inputs.now b_path.now)
+        (bytes_behind I.Inputs inputs.now path.now)
+        (W.taken writer.old) (W.taken writer.new) result }
+    ensures writes { W.calls writer.new ≤ W.calls writer.old + most_calls }
+    // With any other error than that of the output, nothing is written.
+    ensures quiet { IfErr result (λ e. (e ≡ CliFault.Output) ⊎ (writer.new ≡ writer.old)) }
+    ensures fine { OnOk result (W.faults writer.new ≡ W.faults writer.old) }
+    ensures output { IsErrOf result CliFault.Output → HasSinkFailed W.Sink writer.old writer.new }
+{
+    let first = read_named(alloc, inputs, a_path)?;
+    listed_on_named(
+        alloc,
+        inputs,
+        with_first(task, &first),
+        rows,
+        path,
+        b_path,
+        writer,
+    )
+}
+
 /// Calls [`run_on_named`] with the system's files and standard input.
 pub fn run_on_file<R: Files + Input + AllocGlobal, W: Sink, V: ProofWatcher + SolveWatcher, L: Log>(
     rt: &R,
@@ -153,6 +190,37 @@ pub fn listed_on_files<R: Files + Input + AllocGlobal, W: Sink>(
         rows,
         path,
         starts_path,
+        writer,
+    )
+}
+
+/// Calls [`compared_on_named`] with the system's files and standard input.
+pub fn compared_on_files<R: Files + Input + AllocGlobal, W: Sink>(
+    rt: &R,
+    task: ComparedTask<'_>,
+    rows: Rows,
+    path: &str,
+    a_path: &str,
+    b_path: &str,
+    writer: &mut W,
+) -> Result<(), CliFault>
+    // The text of the task is written for the starts and the project that were read.
+    ensures does { DoesCompared task.entry rows None None None
+        (W.taken writer.old) (W.taken writer.new) result }
+    ensures writes { W.calls writer.new ≤ W.calls writer.old + most_calls }
+    // With any other error than that of the output, nothing is written.
+    ensures quiet { IfErr result (λ e. (e ≡ CliFault.Output) ⊎ (writer.new ≡ writer.old)) }
+    ensures fine { OnOk result (W.faults writer.new ≡ W.faults writer.old) }
+    ensures output { IsErrOf result CliFault.Output → HasSinkFailed W.Sink writer.old writer.new }
+{
+    compared_on_named(
+        rt.alloc(),
+        &SystemInputs::new(rt),
+        task,
+        rows,
+        path,
+        a_path,
+        b_path,
         writer,
     )
 }

@@ -3,6 +3,7 @@
 
 mod capacities;
 mod charts;
+mod comparisons;
 mod days;
 mod files;
 mod formatted;
@@ -30,10 +31,13 @@ mod verdicts;
 mod watchers;
 
 pub use capacities::Capacity;
+pub use comparisons::Pair;
 pub use days::Dates;
-pub use files::{listed_on_files, listed_on_named, run_on_file, run_on_named};
+pub use files::{
+    compared_on_files, compared_on_named, listed_on_files, listed_on_named, run_on_file, run_on_named,
+};
 pub use inputs::Inputs;
-pub use listed_tasks::ListedTask;
+pub use listed_tasks::{ComparedTask, ListedTask};
 pub use origins::Origin;
 pub use plan_errors::{CliFault, explain_run, hint};
 pub use runs::{best_project_run, best_run, cpm_run, run_task, schedule_run, shop_run};

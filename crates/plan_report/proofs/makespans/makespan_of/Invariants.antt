@@ -3,7 +3,7 @@ use Rattle.std.proofs.Common.{◌≡◌, ◌+◌, ◌≤◌, get_or}
 use Rattle.plan_sgs.specs.Placement.{greatest_end}
 use Rattle.plan_sgs.specs.Problem.{greatest_below, duration}
 use Rattle.plan_sgs.specs.Instances.{problem_of}
-use Rattle.plan_report.proofs.slack.makespan_of.Given as goal
+use Rattle.plan_report.proofs.makespans.makespan_of.Given as goal
 
 abbrev pub invariant-loop-i : goal.invariant-loop-i
 invariant-loop-i l = record {

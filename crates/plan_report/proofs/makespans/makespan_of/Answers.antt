@@ -1,13 +1,10 @@
-use Rattle.std.proofs.Common.{ℕ, suc, max, ◌≡◌, ◌+◌, ◌<◌, get_or, length, refl, sym, ◌∙◌, ap, arith, rules}
+use Rattle.std.proofs.Common.{ℕ, ◌≡◌, ◌+◌, ◌<◌, get_or, length, refl, sym, ◌∙◌, ap, arith, rules}
 use Rattle.plan_net.specs.Network.{Net, count_of, duration_of}
 use Rattle.plan_sgs.specs.Problem.{greatest_below, count, duration}
 use Rattle.plan_sgs.specs.Instances.{problem_of}
 use Rattle.plan_sgs.proofs.InstanceLemmas.{count-problem, duration-problem}
-use Rattle.plan_report.proofs.slack.makespan_of.Goals as goal
-
--- the greatest of one number more
-greatest_more : (n : ℕ) (f : ℕ → ℕ) → greatest_below (n + 1) f ≡ max (greatest_below n f) (f n)
-greatest_more n f = let next : n + 1 ≡ suc n = omega arith in ap (λ (k : ℕ). greatest_below k f) next
+use Rattle.plan_report.proofs.MakespanLemmas.{greatest_more}
+use Rattle.plan_report.proofs.makespans.makespan_of.Goals as goal
 
 pub loop-i-preserved : goal.loop-i-preserved
 loop-i-preserved c =

@@ -3,7 +3,7 @@ use Rattle.std.proofs.Common.{◌≡◌, ◌+◌, ◌≤◌, get_or}
 use Rattle.plan_sgs.specs.Problem.{greatest_below, duration}
 use Rattle.plan_shop.specs.Shop.{problem_of}
 use Rattle.plan_gantt.specs.Limits.{latest_end}
-use Rattle.plan_cli.proofs.shops.makespan_of.Given as goal
+use Rattle.plan_report.proofs.makespans.shop_makespan_of.Given as goal
 
 abbrev pub invariant-loop-x : goal.invariant-loop-x
 invariant-loop-x l = record {

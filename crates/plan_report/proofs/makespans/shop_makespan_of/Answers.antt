@@ -1,14 +1,11 @@
-use Rattle.std.proofs.Common.{ℕ, suc, max, ◌≡◌, ◌+◌, ◌*◌, ◌<◌, get_or, length, sym, ◌∙◌, ap, arith, rules}
+use Rattle.std.proofs.Common.{ℕ, ◌≡◌, ◌+◌, ◌*◌, ◌<◌, get_or, length, sym, ◌∙◌, ap, arith, rules}
 use Rattle.std.proofs.lemmas.Option.{get_or_from_slice_get}
 use Rattle.plan_orlib.specs.declared.steps.Step.{Step}
 use Rattle.plan_sgs.specs.Problem.{greatest_below, count, duration}
 use Rattle.plan_shop.specs.Shop.{idle, problem_of, time_of}
 use Rattle.plan_shop.proofs.ShopBasics.{count_is, duration_is}
-use Rattle.plan_cli.proofs.shops.makespan_of.Goals as goal
-
--- the greatest of one number more
-greatest_more : (n : ℕ) (f : ℕ → ℕ) → greatest_below (n + 1) f ≡ max (greatest_below n f) (f n)
-greatest_more n f = let next : n + 1 ≡ suc n = omega arith in ap (λ (k : ℕ). greatest_below k f) next
+use Rattle.plan_report.proofs.MakespanLemmas.{greatest_more}
+use Rattle.plan_report.proofs.makespans.shop_makespan_of.Goals as goal
 
 pub loop-x-preserved : goal.loop-x-preserved
 loop-x-preserved c =
