@@ -10,10 +10,11 @@ use clap::Error;
 use clap::error::ErrorKind;
 use plan_cli::{
     CliFault, ListedTask, Log, ProofWatcher, Rows, SolveWatcher, Task, Unlogged, Unwatched,
-    explain_run, hint, listed_on_files, run_on_file, template_run,
+    compared_on_files, explain_run, explain_run_in, hint, listed_on_files, run_on_file,
+    template_run,
 };
 use plan_formats::{Format, error_json};
-use plan_io::{MemSink, StdSink, write_whole};
+use plan_io::{MemSink, Sink, StdSink, write_whole};
 use plan_orders::{
     FileOrder, OfficeOrder, Order, capacities_of, command, help, order_of, overrides_of,
 };
@@ -36,6 +37,7 @@ enum Misuse {
     NoText,
     NoCommand,
     OneInput,
+    OneOfThree,
     BadCapacity(String),
 }
 
@@ -110,6 +112,14 @@ fn do_check(
     })
 }
 
+// Writes the explanation of an error line.
+fn explain<W: Sink>(alloc: Global, line: &str, rows: Rows, writer: &mut W) -> Result<(), CliFault> {
+    match rows {
+        Rows::In(format) => explain_run_in(alloc, line, format, writer),
+        Rows::Plain | Rows::Named => explain_run(alloc, line, writer),
+    }
+}
+
 // Runs an order on files, and writes to standard output. Returns the status.
 fn do_file_order(rt: &HostRuntime, order: FileOrder<'_>, rows: Rows) -> Result<u8, CliFault> {
     let mut writer = StdSink::new(io::writer(rt));
@@ -144,10 +154,13 @@ fn do_file_order(rt: &HostRuntime, order: FileOrder<'_>, rows: Rows) -> Result<u
             starts,
             ..
         } => return do_check(rt, task, rows, file, starts),
+        FileOrder::Compared { task, file, a, b } => {
+            compared_on_files(rt, task, rows, file, a, b, &mut writer)?;
+        }
         FileOrder::New(template) => template_run(template, &mut writer)?,
         FileOrder::Explain(words) => {
             let line = words.join(rt.alloc(), " ")?;
-            explain_run(rt.alloc(), line.as_str(), &mut writer)?;
+            explain(rt.alloc(), line.as_str(), rows, &mut writer)?;
         }
     }
     Ok(0)
@@ -229,6 +242,11 @@ fn print_office_error(rt: &HostRuntime, order: &OfficeOrder<'_>, fault: ServeFau
     1
 }
 
+// Whether two of three names are standard input.
+fn shares_input(file: &str, a: &str, b: &str) -> bool {
+    (file == "-" && (a == "-" || b == "-")) || (a == "-" && b == "-")
+}
+
 // Runs an order, and returns the status.
 fn do_order(rt: &HostRuntime, order: Order<'_>) -> Result<u8, Misuse> {
     match order {
@@ -240,6 +258,9 @@ fn do_order(rt: &HostRuntime, order: Order<'_>) -> Result<u8, Misuse> {
             },
             _,
         ) => Err(Misuse::OneInput),
+        Order::File(FileOrder::Compared { file, a, b, .. }, _) if shares_input(file, a, b) => {
+            Err(Misuse::OneOfThree)
+        }
         Order::File(order, rows) => Ok(match do_file_order(rt, order, rows) {
             Ok(status) => status,
             Err(fault) if rows == Rows::In(Format::Json) => print_json_error(rt, fault.line()),
@@ -323,6 +344,10 @@ fn report(rt: &HostRuntime, misuse: &Misuse) -> u8 {
         Misuse::NoCommand => print_misuse(rt, "no command"),
         Misuse::BadCapacity(text) => print_bad_capacity(rt, text),
         Misuse::OneInput => print_misuse(rt, "FILE and STARTS can't both be standard input"),
+        Misuse::OneOfThree => print_misuse(
+            rt,
+            "only one of FILE, STARTS_A and STARTS_B can be standard input",
+        ),
     }
 }
 

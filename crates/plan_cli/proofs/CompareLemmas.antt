@@ -50,9 +50,14 @@ bad_pair first second i net e fit same t =
 pub compared : (first second a b text : List ℕ) (i : Planned) (net : Net) → NeedsFit (problem_of i)
     → net ≡ i.project.network → SaysStarts (activity_sheet net) first a → SaysStarts (activity_sheet net) second b
     → IsComparison i a b text → IsCompared first second i text
-compared first second a b text i net fit same said_a said_b shown =
-    (fit, (a, subst (λ (n : Net). SaysStarts (activity_sheet n) first a) same said_a,
-    (b, subst (λ (n : Net). SaysStarts (activity_sheet n) second b) same said_b, shown)))
+compared first second a b text i net fit same said_a said_b shown = (
+  fit,
+  (
+    a,
+    subst (λ (n : Net). SaysStarts (activity_sheet n) first a) same said_a,
+    (b, subst (λ (n : Net). SaysStarts (activity_sheet n) second b) same said_b, shown),
+  ),
+)
 
 -- if no need is above its capacity, the starts are refused
 pub not_compared : {A : Type 0} (first second : List ℕ) (i made : Planned) (r : Result A CliFault) → made ≡ i

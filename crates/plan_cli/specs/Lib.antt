@@ -42,6 +42,7 @@ pub mod CheckRun
 pub mod SlackRun
 pub mod CompareRun
 pub mod FormattedText
+pub mod ExplainedText
 pub mod TableFaultText
 pub mod ImportRun
 pub mod RowNames

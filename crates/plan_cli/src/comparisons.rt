@@ -73,12 +73,7 @@ fn starts_of(
 }
 
 // Reads the starts of the schedule with this name of a job shop.
-fn shop_starts_of(
-    alloc: Global,
-    shop: &Shop,
-    text: &[u8],
-    name: &str,
-) -> Result<Vec<u64>, CliFault>
+fn shop_starts_of(alloc: Global, shop: &Shop, text: &[u8], name: &str) -> Result<Vec<u64>, CliFault>
     ensures said { IfOk result (λ starts.
         SaysStarts (step_sheet shop.now) text.now starts.items) }
     ensures whole { IfOk result (λ starts. length starts.items ≡ count_steps shop.now) }

@@ -28,8 +28,8 @@ fn shape_of(task: Task<'_>) -> Option<Shape>
     }
 }
 
-// Returns a table in a format. If there are names, it has a column with them.
-fn shaped(
+/// Returns a table in a format. If there are names, it has a column with them.
+pub(crate) fn shaped(
     alloc: Global,
     shape: Shape,
     format: Format,

@@ -5,6 +5,7 @@ mod capacities;
 mod charts;
 mod comparisons;
 mod days;
+mod explanations;
 mod files;
 mod formatted;
 mod imports;
@@ -33,8 +34,10 @@ mod watchers;
 pub use capacities::Capacity;
 pub use comparisons::Pair;
 pub use days::Dates;
+pub use explanations::explain_run_in;
 pub use files::{
-    compared_on_files, compared_on_named, listed_on_files, listed_on_named, run_on_file, run_on_named,
+    compared_on_files, compared_on_named, listed_on_files, listed_on_named, run_on_file,
+    run_on_named,
 };
 pub use inputs::Inputs;
 pub use listed_tasks::{ComparedTask, ListedTask};

@@ -49,12 +49,8 @@ pub enum ListedTask<'a> {
 /// the [`Task`] with this name.
 #[derive(Clone, Copy, Debug, Drop)]
 pub enum ComparedTask<'a> {
-    Compare {
-        capacities: &'a [Capacity<'a>],
-    },
-    ShopCompare {
-        instance: &'a str,
-    },
+    Compare { capacities: &'a [Capacity<'a>] },
+    ShopCompare { instance: &'a str },
 }
 
 /// Returns the task with the starts of schedule A in a text.

@@ -180,6 +180,19 @@ const GIVEN_STARTS: Argument = Argument {
     help: "the start times: numbers, a printed schedule or its CSV; - for standard input",
 };
 
+// The files of starts of a command that compares two schedules.
+const STARTS_A: Argument = Argument {
+    name: "STARTS_A",
+    form: Form::Text,
+    help: "the start times of schedule A, as for plan check; - for standard input",
+};
+
+const STARTS_B: Argument = Argument {
+    name: "STARTS_B",
+    form: Form::Text,
+    help: "the start times of schedule B",
+};
+
 const STARTS: Argument = Argument {
     name: "starts",
     form: Form::Starts,
@@ -266,7 +279,7 @@ const LIST_COMMANDS: [Entry; 2] = [
     },
 ];
 
-const PROJECT_COMMANDS: [Entry; 5] = [
+const PROJECT_COMMANDS: [Entry; 6] = [
     Entry {
         name: "cpm",
         about: "Prints the critical-path dates of a project",
@@ -312,6 +325,23 @@ const PROJECT_COMMANDS: [Entry; 5] = [
             plan slack examples/six.sm examples/starts.txt\n  \
             plan schedule lft examples/house.sm | plan slack --names examples/house.sm -",
         arguments: &[FILE, GIVEN_STARTS, CAPACITY, NAMES],
+    },
+    Entry {
+        name: "compare",
+        about: "Compares the start times of two schedules",
+        examples: "Examples:\n  \
+            plan compare examples/six.sm examples/starts.txt examples/late.txt\n  \
+            plan shop spt examples/shops.txt ft06 > spt.txt\n  \
+            plan shop mwkr examples/shops.txt ft06 | \
+            plan compare examples/shops.txt spt.txt - ft06",
+        arguments: &[
+            FILE,
+            STARTS_A,
+            STARTS_B,
+            INSTANCE_IF_SHOP,
+            CAPACITY_IF_PROJECT,
+            NAMES,
+        ],
     },
 ];
 
@@ -493,11 +523,14 @@ const HELP_COMMANDS: [Entry; 1] = [Entry {
     name: "explain",
     about: "Prints the meaning of an error and what to do",
     examples: "Examples:\n  plan explain F7\n  plan explain E10 F9 line 31",
-    arguments: &[Argument {
-        name: "CODE",
-        form: Form::Texts,
-        help: "the code of an error, in capitals or not, or the whole error line",
-    }],
+    arguments: &[
+        Argument {
+            name: "CODE",
+            form: Form::Texts,
+            help: "the code of an error, in capitals or not, or the whole error line",
+        },
+        FORMAT,
+    ],
 }];
 
 // Each table of commands has a function of its own, so that no proof contains all tables.

@@ -1,7 +1,7 @@
 //! The orders that the arguments of the command line spell.
 
 use clap::ArgMatches;
-use plan_cli::{Capacity, Dates, ListedTask, Origin, Rows, Task, Template};
+use plan_cli::{Capacity, ComparedTask, Dates, ListedTask, Origin, Rows, Task, Template};
 use plan_formats::Format;
 use plan_solve::MOST_CONFLICTS;
 use plan_table::Override;
@@ -39,6 +39,14 @@ pub enum FileOrder<'a> {
         starts: &'a str,
         is_status: bool,
     },
+    /// A task on the project or job shop in one file and the starts of two schedules, A and B, each
+    /// in a file.
+    Compared {
+        task: ComparedTask<'a>,
+        file: &'a str,
+        a: &'a str,
+        b: &'a str,
+    },
     /// A table to start from.
     New(Template),
     /// The meaning of an error line, which is given as one argument or as several.
@@ -62,8 +70,18 @@ impl<'a> FileOrder<'a> {
             FileOrder::Listed { starts, .. } if line.ends_with(" of the starts") => {
                 Some(shown_name(starts))
             }
-            FileOrder::Listed { file, .. } if line != "I1 file" => Some(shown_name(file)),
-            FileOrder::Listed { .. } | FileOrder::New(_) | FileOrder::Explain(_) => None,
+            FileOrder::Compared { a, .. } if line.ends_with(" of the starts A") => {
+                Some(shown_name(a))
+            }
+            FileOrder::Compared { b, .. } if line.ends_with(" of the starts B") => {
+                Some(shown_name(b))
+            }
+            FileOrder::Listed { file, .. } | FileOrder::Compared { file, .. }
+                if line != "I1 file" => { Some(shown_name(file)) }
+            FileOrder::Listed { .. }
+            | FileOrder::Compared { .. }
+            | FileOrder::New(_)
+            | FileOrder::Explain(_) => None,
         }
     }
 }
@@ -219,13 +237,16 @@ fn proof_order<'a>(arguments: &'a ArgMatches<'_>) -> Option<FileOrder<'a>> {
     Some(FileOrder::Watched(task, path))
 }
 
-// Returns the capacity that a text such as `R2=4` gives. The name must have no control characters,
-// because an error line can contain it.
+// Whether a name isn't empty and has no control characters: an error line can contain it.
+fn is_plain(name: &str) -> bool {
+    !name.is_empty() && !name.bytes().any(|byte| byte.is_ascii_control())
+}
+
+// Returns the capacity that a text such as `R2=4` gives.
 fn capacity_of(text: &str) -> Option<Capacity<'_>> {
     let (resource, digits) = text.split_once('=')?;
     let amount: u64 = digits.parse().ok()?;
-    let is_plain = !resource.is_empty() && !resource.bytes().any(|byte| byte.is_ascii_control());
-    if is_plain && amount <= GREATEST_CAPACITY {
+    if is_plain(resource) && amount <= GREATEST_CAPACITY {
         Some(Capacity { resource, amount })
     } else {
         None
@@ -235,9 +256,10 @@ fn capacity_of(text: &str) -> Option<Capacity<'_>> {
 // Returns the arguments of a command that has the option `capacity` for the resources of a file.
 fn planning<'a, 'b>(matches: &'a ArgMatches<'b>) -> Option<&'a ArgMatches<'b>> {
     match matches.subcommand()? {
-        ("schedule" | "best-project" | "solve" | "chart" | "days" | "slack", arguments) => {
-            Some(arguments)
-        }
+        (
+            "schedule" | "best-project" | "solve" | "chart" | "days" | "slack" | "compare",
+            arguments,
+        ) => Some(arguments),
         _ => None,
     }
 }
@@ -322,6 +344,7 @@ fn has_names(name: &str) -> bool {
             | "chart"
             | "days"
             | "slack"
+            | "compare"
     )
 }
 
@@ -339,6 +362,7 @@ fn has_formats(name: &str) -> bool {
             | "days"
             | "check"
             | "names"
+            | "explain"
     )
 }
 
@@ -361,13 +385,11 @@ fn rows_of(name: &str, arguments: &ArgMatches<'_>) -> Rows {
     }
 }
 
-// Returns the capacity that a text such as `crew=6` gives. The name has no control characters,
-// because an error line can contain it.
+// Returns the capacity that a text such as `crew=6` gives.
 fn override_of(text: &str) -> Option<Override<'_>> {
     let (resource, digits) = text.rsplit_once('=')?;
     let amount: u32 = digits.parse().ok()?;
-    let is_plain = !resource.is_empty() && !resource.bytes().any(|byte| byte.is_ascii_control());
-    if is_plain && amount <= GREATEST_IN_LIST {
+    if is_plain(resource) && amount <= GREATEST_IN_LIST {
         Some(Override {
             resource: resource.as_bytes(),
             amount,
@@ -461,6 +483,22 @@ fn check_order<'a>(arguments: &'a ArgMatches<'_>) -> Option<FileOrder<'a>> {
     })
 }
 
+// Returns the order of `compare`.
+fn compare_order<'a>(
+    arguments: &'a ArgMatches<'_>,
+    capacities: &'a [Capacity<'a>],
+) -> Option<FileOrder<'a>> {
+    Some(FileOrder::Compared {
+        task: match arguments.get_str("INSTANCE") {
+            Some(instance) => ComparedTask::ShopCompare { instance },
+            None => ComparedTask::Compare { capacities },
+        },
+        file: arguments.get_str("FILE")?,
+        a: arguments.get_str("STARTS_A")?,
+        b: arguments.get_str("STARTS_B")?,
+    })
+}
+
 // Returns the order of `chart` or `days` if it has a list of starts.
 fn listed_order<'a>(
     name: &str,
@@ -498,6 +536,7 @@ fn file_order<'a>(
         "prove" => proof_order(arguments),
         "solve" => solve_order(arguments, capacities),
         "check" => check_order(arguments),
+        "compare" => compare_order(arguments, capacities),
         "slack" => Some(FileOrder::Listed {
             task: ListedTask::Slack { capacities },
             file: arguments.get_str("FILE")?,
