@@ -331,9 +331,8 @@ const PROJECT_COMMANDS: [Entry; 6] = [
         about: "Compares the start times of two schedules",
         examples: "Examples:\n  \
             plan compare examples/six.sm examples/starts.txt examples/late.txt\n  \
-            plan shop spt examples/shops.txt ft06 > spt.txt\n  \
-            plan shop mwkr examples/shops.txt ft06 | \
-            plan compare examples/shops.txt spt.txt - ft06",
+            plan schedule mts examples/six.sm | \
+            plan compare examples/six.sm examples/starts.txt -",
         arguments: &[
             FILE,
             STARTS_A,
