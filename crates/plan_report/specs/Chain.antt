@@ -1,5 +1,6 @@
 -- A chain of activities without slack through a schedule (docs/definitions.md, "Reports").
-use Rattle.std.specs.Prelude.{◌≡◌, ℕ, ◌+◌, ◌-◌, ◌≤◌, ◌<◌, ◌⊎◌, List, length, get_or, Contains, Bool, true, false, Option, Some, None}
+use Rattle.std.specs.Prelude.{◌≡◌, ℕ, ◌+◌, ◌-◌, ◌≤◌, ◌<◌, ◌⊎◌, List, length, get_or, Contains}
+use Rattle.std.specs.Prelude.{Bool, true, false, Option, Some, None}
 use Rattle.plan_net.specs.Placed.{open_count}
 use Rattle.plan_sgs.specs.Problem.{Problem, Link, count, duration, need, makespan}
 

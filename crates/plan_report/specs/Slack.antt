@@ -1,7 +1,8 @@
 -- The slack of activities in a schedule (docs/definitions.md, "Reports").
 use Rattle.std.specs.Prelude.{◌≡◌, ◌≢◌, ℕ, ◌+◌, ◌≤◌, ◌<◌, List, length, get_or, set, All}
 use Rattle.plan_net.specs.Network.{IsGreatest}
-use Rattle.plan_sgs.specs.Problem.{Problem, count, duration, all_placed, makespan, KeepsCapacities, IsFeasible}
+use Rattle.plan_sgs.specs.Problem.{Problem, count, duration, all_placed, makespan}
+use Rattle.plan_sgs.specs.Problem.{KeepsCapacities, IsFeasible}
 use Rattle.plan_sgs.specs.Verdicts.{IsFirstVerdict}
 use Rattle.plan_report.specs.declared.slack.SlackFault.{SlackFault}
 use Rattle.plan_report.specs.declared.slack.SlackFault.TheVariants.{NoMemory, NotFeasible, Late}

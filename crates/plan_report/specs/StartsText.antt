@@ -1,6 +1,7 @@
 -- Texts of starts in three forms: bare numbers, a printed table or its CSV (docs/definitions.md,
 -- "Reports").
-use Rattle.std.specs.Prelude.{◌≡◌, ℕ, ◌==◌, ◌||◌, Bool, true, false, if◌then◌else◌, List, [], ◌∷◌, Result, Ok, map, drop, filter, length, codes}
+use Rattle.std.specs.Prelude.{◌≡◌, ℕ, ◌==◌, ◌||◌, Bool, true, false, if◌then◌else◌, List, []}
+use Rattle.std.specs.Prelude.{◌∷◌, Result, Ok, map, drop, filter, length, codes}
 use Rattle.std.specs.Prelude.{bytes_eq, nat_eq}
 use Rattle.std.specs.List.{range_with_len, slice_split, starts_with}
 use Rattle.plan_net.specs.Network.{Net, count_of, duration_of}
