@@ -521,7 +521,10 @@ const SERVER_COMMANDS: [Entry; 4] = [
 const HELP_COMMANDS: [Entry; 1] = [Entry {
     name: "explain",
     about: "Prints the meaning of an error and what to do",
-    examples: "Examples:\n  plan explain F7\n  plan explain E10 F9 line 31",
+    examples: "Examples:\n  \
+        plan explain F7\n  \
+        plan explain E10 F9 line 31\n  \
+        plan explain --format json F7",
     arguments: &[
         Argument {
             name: "CODE",
