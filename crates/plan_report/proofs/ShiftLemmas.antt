@@ -1,17 +1,10 @@
 -- The lines of a comparison.
-use Rattle.std.proofs.Common.{◌≡◌, ℕ, List, ◌++◌, Some, get_or, slice_index, sym, subst, ◌∙◌, ap, append_assoc}
-use Rattle.std.specs.Prelude.{codes}
+use Rattle.std.proofs.Common.{◌≡◌, ℕ, List, ◌++◌, Some, get_or, slice_index, sym, subst}
 use Rattle.std.specs.List.{slice_get}
 use Rattle.std.proofs.lemmas.Option.{get_or_from_slice_get}
 use Rattle.plan_orlib.specs.declared.steps.Step.{Step}
 use Rattle.plan_shop.specs.Shop.{JobShop, idle}
 use Rattle.plan_report.specs.ShopComparison.{moved_line, shop_shift_line}
-
--- a line that is written in four parts
-pub four_written : (old one two three new a b c d : List ℕ) → one ≡ old ++ a → two ≡ one ++ b → three ≡ two ++ c → new ≡ three ++ d
-    → new ≡ old ++ (a ++ b ++ c ++ d)
-four_written old one two three new a b c d first second third fourth =
-    fourth ∙ ap (λ (z : List ℕ). z ++ d) (third ∙ ap (λ (z : List ℕ). z ++ c) (second ∙ ap (λ (z : List ℕ). z ++ b) first)) ∙ simp (append_assoc)
 
 -- the line of a step that is read from the shop
 pub shift_line-read : (s : JobShop) (a b : List ℕ) (x machines before after : ℕ) (w : Step) (old new : List ℕ)

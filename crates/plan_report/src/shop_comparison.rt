@@ -1,9 +1,10 @@
 //! The comparison of two schedules of a job shop.
 
-ghost use Rattle.std.specs.Prelude.{◌≡◌, ◌++◌, ◌<◌, All, length, IfOk, OnOk, string_bytes};
+ghost use Rattle.std.specs.Prelude.{◌≡◌, ◌++◌, ◌<◌, All, length, IfOk, OnOk, string_bytes, codes};
 ghost use Rattle.plan_profile.specs.Usage.{IsInTime};
 ghost use Rattle.plan_shop.specs.Shop.{count_steps};
-ghost use Rattle.plan_gantt.specs.Column.{lines_from};
+ghost use Rattle.plan_gantt.specs.Column.{column, lines_from, number_column, number_columns};
+ghost use Rattle.plan_report.specs.Comparison.{shift_text};
 ghost use Rattle.plan_report.specs.ShopComparison as spec;
 
 use crate::columns::{push_first, push_numbers};
@@ -20,6 +21,26 @@ fn step_count(shop: &Shop) -> u32
     ensures { result ≡ count_steps shop.now }
 {
     shop.jobs() * shop.machines()
+}
+
+// Appends a line: a number aligned right in 4 characters, the others in 8, and the shift from start
+// `before` to start `after`.
+fn push_cells(
+    alloc: Global,
+    text: &mut String,
+    first: u32,
+    numbers: &[u64],
+    before: u64,
+    after: u64,
+) -> Result<(), AllocError>
+    ensures { OnOk result (string_bytes text.new ≡ string_bytes text.old
+        ++ (number_column 4 first ++ number_columns numbers.now
+        ++ column 8 (shift_text before after) ++ codes "\n")) }
+{
+    push_first(text, first)?;
+    push_numbers(text, numbers)?;
+    push_shift(alloc, text, before, after)?;
+    text.push_str("\n")
 }
 
 // Appends the line of step `x`.
@@ -41,16 +62,13 @@ fn push_line(
     let machines = shop.machines();
     let before = a[x as usize];
     let after = b[x as usize];
-    push_first(text, x / machines + 1)?;
     let numbers = [
         (x % machines + 1) as u64,
         step.machine as u64,
         before,
         after,
     ];
-    push_numbers(text, &numbers)?;
-    push_shift(alloc, text, before, after)?;
-    text.push_str("\n")
+    push_cells(alloc, text, x / machines + 1, &numbers, before, after)
 }
 
 // Appends the heading and the lines of all steps.
