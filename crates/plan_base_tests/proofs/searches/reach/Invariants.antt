@@ -1,6 +1,6 @@
 use Rattle.std.proofs.Common.{◌≡◌, ◌<◌, take}
-use Rattle.plan_tests.specs.TableTree.{reached}
-use Rattle.plan_tests.proofs.searches.reach.Given as goal
+use Rattle.plan_base_tests.specs.TableTree.{reached}
+use Rattle.plan_base_tests.proofs.searches.reach.Given as goal
 
 -- the place of the letters so far, and the greatest floor of their prefixes
 abbrev pub invariant-loop-letter : goal.invariant-loop-letter

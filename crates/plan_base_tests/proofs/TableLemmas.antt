@@ -6,7 +6,7 @@ use Rattle.std.proofs.lemmas.List.Elements.{filter_passes, filter_more, All-cont
 use Rattle.std.proofs.lemmas.List.Sums.{fold-append}
 use Rattle.plan_exact.specs.Words.{Continues}
 use Rattle.plan_exact.specs.Laws.{LettersRise, WordsAreFinite, BoundHolds, KeepsLaws}
-use Rattle.plan_tests.specs.TableTree.{Reached, next_place, after_letter, reached, may_follow, table_tree}
+use Rattle.plan_base_tests.specs.TableTree.{Reached, next_place, after_letter, reached, may_follow, table_tree}
 use Rattle.plan_exact.proofs.OrderLemmas.{InOrder, by_places}
 
 -- a filter preserves facts on each element, and the order

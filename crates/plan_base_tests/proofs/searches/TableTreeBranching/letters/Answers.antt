@@ -1,8 +1,8 @@
 use Rattle.std.proofs.Common.{◌≡◌, ℕ, true, false, Bool, List, [], ◌∷◌, get_or, sym, ap, ◌∙◌}
-use Rattle.plan_tests.specs.TableTree.{may_follow}
-use Rattle.plan_tests.proofs.TableLemmas.{letter_taken, letter_left}
-use Rattle.plan_tests.proofs.searches.TableTreeBranching.letters.Goals.{then-has+in_ok-push, else-has}
-use Rattle.plan_tests.proofs.searches.TableTreeBranching.letters.Goals as goal
+use Rattle.plan_base_tests.specs.TableTree.{may_follow}
+use Rattle.plan_base_tests.proofs.TableLemmas.{letter_taken, letter_left}
+use Rattle.plan_base_tests.proofs.searches.TableTreeBranching.letters.Goals.{then-has+in_ok-push, else-has}
+use Rattle.plan_base_tests.proofs.searches.TableTreeBranching.letters.Goals as goal
 
 pub loop-letter-preserved : goal.loop-letter-preserved
 loop-letter-preserved c =

@@ -1,7 +1,7 @@
 //! Searches of trees that tables describe, compared with a program that lists all words.
 
 ghost use Rattle.std.specs.Prelude.{◌≡◌, ◌<◌, []};
-ghost use Rattle.plan_tests.specs.TableTree.{may_follow, reached, table_tree};
+ghost use Rattle.plan_base_tests.specs.TableTree.{may_follow, reached, table_tree};
 ghost use Rattle.plan_exact.specs.Laws.{KeepsLaws};
 
 use plan_exact::{Branching, Kind, Pushes, search};
