@@ -1,11 +1,10 @@
-//! A request for each route, while one allocation may fail (`tests/refusals/run` lets each fail in
-//! turn). The request is answered, or refused for lack of memory; then nothing has changed, and the
-//! same request is answered as with ample memory.
+//! A request for each route, over a book in memory and over SQL in memory, while one allocation may
+//! fail (`tests/refusals/run` lets each fail in turn). The request is answered, or refused for lack
+//! of memory; then nothing has changed, and the same request is answered as with ample memory.
 
-use crate::office::{NORTH_KEY, OFFICE_KEY, SIX, office, sent};
-use plan_desk::{Body, Book, Office, Reply, Request};
-use plan_http::{Asked, Listening, Routes, read_request};
-use plan_io::MemSource;
+use crate::office::{NORTH_KEY, OFFICE_KEY, SIX, body_of, office, read, sent, sql_office};
+use plan_desk::{Book, Office, Request};
+use plan_http::Routes;
 use std::alloc::{AllocError, Global};
 use std::process::Abort;
 use std::test::Fail;
@@ -203,24 +202,6 @@ const EXCHANGES: [Exchange; 18] = [
     ),
 ];
 
-// Returns the request of a connection, or none if memory runs out.
-fn read(rt: &impl Abort, alloc: Global, routes: &Routes, conn: &str) -> Option<Request> {
-    let mut client = Listening::new(MemSource::new(conn.as_bytes()));
-    match read_request(alloc, routes, &mut client) {
-        Asked::Request(request) => Some(request),
-        Asked::NoMemory => None,
-        _ => panic!(rt; "no request: {conn}"),
-    }
-}
-
-// Returns the body of a reply.
-fn body_of(reply: &Reply) -> &str {
-    match &reply.body {
-        Body::Fixed(text) => text,
-        Body::Owned(text) => text.as_str(),
-    }
-}
-
 // Expects the answer to a request, at its second try if memory runs out at the first.
 fn settle<B: Book>(
     rt: &impl Abort,
@@ -286,17 +267,28 @@ fn expect_all<B: Book>(rt: &impl Abort, alloc: Global, office: &mut Office<B>) -
     Ok(())
 }
 
+// Expects all answers of an office, if there was memory for it.
+fn expect_office<B: Book + Drop>(
+    rt: &impl Abort,
+    alloc: Global,
+    office: Option<Office<B>>,
+) -> Result<(), Fail> {
+    match office {
+        Some(mut office) => expect_all(rt, alloc, &mut office),
+        None => panic!(rt; "no memory"),
+    }
+}
+
 #[test]
 fn each_route(rt: HostRuntime) -> Result<(), Fail> {
     let alloc = rt.alloc();
-    let first = office(alloc);
-    let made = if first.is_some() {
-        first
-    } else {
-        office(alloc)
-    };
-    match made {
-        Some(mut office) => expect_all(&rt, alloc, &mut office),
-        None => panic!(rt; "no memory"),
-    }
+    let made = office(alloc).or_else(|| office(alloc));
+    expect_office(&rt, alloc, made)
+}
+
+#[test]
+fn each_route_over_sql(rt: HostRuntime) -> Result<(), Fail> {
+    let alloc = rt.alloc();
+    let made = sql_office(alloc).or_else(|| sql_office(alloc));
+    expect_office(&rt, alloc, made)
 }
