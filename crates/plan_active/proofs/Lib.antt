@@ -1,2 +1,3 @@
 pub mod LeftLemmas
 pub mod GuideLemmas
+mod BoundLemmas

@@ -1,6 +1,9 @@
-//! Active schedules of job shops in which no step starts later than in a feasible list of starts.
+//! What the searches for shortest schedules of job shops share: active schedules in which no step
+//! starts later than in a feasible list of starts, and a lower bound that needs no search.
 #![tactic(auto)]
 
+mod bounds;
 mod shops;
 
+pub use bounds::shop_bound;
 pub use shops::active_shop_schedule;

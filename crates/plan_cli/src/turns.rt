@@ -12,15 +12,15 @@ use plan_shop::Shop;
 use plan_solve::{Session, SolveFault, Solved, rule_solution, shop_session, solve_shop_from};
 use std::alloc::{AllocError, Global};
 
-/// The least number of nodes of a turn. Fewer conflicts take as long.
+/// The least number of nodes of a turn.
 const TURN_NODES: u64 = 12_000;
 
-/// The least number of nodes that take about as long as one conflict.
-const LEAST_NODES: u64 = 6;
+/// The least number of nodes for each conflict of a turn. They take about half as long.
+const LEAST_NODES: u64 = 3;
 
-/// The square of the number of jobs, divided by the nodes that take about as long as one conflict.
-/// Measured on shops of 20 to 50 jobs.
-const SQUARE_PER_NODE: u64 = 60;
+/// The square of the number of jobs, divided by the number of nodes for each conflict. They take
+/// about half as long, as measured on shops of 20 to 50 jobs.
+const SQUARE_PER_NODE: u64 = 120;
 
 // Returns the schedule and the lower bound of a search as a proof.
 fn proof_of(solved: Solved) -> Proof
@@ -89,7 +89,7 @@ fn by_nodes<V: ProofWatcher + SolveWatcher>(
     }
 }
 
-// Returns the number of nodes that take about as long as one conflict.
+// Returns the number of nodes for each conflict.
 fn nodes_per_conflict(shop: &Shop) -> u64
     ensures { 0 < result }
 {
@@ -97,7 +97,7 @@ fn nodes_per_conflict(shop: &Shop) -> u64
     LEAST_NODES.max(jobs.saturating_mul(jobs) / SQUARE_PER_NODE)
 }
 
-// Returns the number of nodes that take about as long as so many conflicts.
+// Returns the number of nodes for so many conflicts.
 fn nodes_for(conflicts: u64, ratio: u64) -> u64
     ensures { result ≤ 1000000000 }
 {

@@ -10,6 +10,7 @@ use crate::course::Course;
 use crate::fault::ProveFault;
 use crate::search::Search;
 use crate::watcher::{Unwatched, Watcher};
+use plan_active::shop_bound;
 use plan_exact::{ExactFault, GREATEST_BUDGET, solve_shop};
 use plan_sgs::Schedule;
 use plan_shop::{Shop, ShopRule, giffler};
@@ -206,7 +207,8 @@ pub fn prove_from<W: Watcher>(
     Ok(found?)
 }
 
-// Returns the proof of a search of at most `nodes` nodes that starts from the priority rules.
+// Returns the proof of a search of at most `nodes` nodes that starts from the priority rules. Its
+// lower bound is at least the one that needs no search.
 fn proof_by_rules<W: Watcher>(
     alloc: Global,
     shop: &Shop,
@@ -217,8 +219,11 @@ fn proof_by_rules<W: Watcher>(
     ensures nodes { IfOk result (λ proof. proof.nodes ≤ nodes) }
     ensures told { HearsTruth shop.now nodes (W.was_told watcher.old) (W.was_told watcher.new) }
 {
+    let simple = shop_bound(alloc, shop)?;
     let first = first_proof(alloc, shop)?;
-    proof_of(alloc, shop, first, nodes, &mut Course::new(alloc), watcher)
+    let mut proof = proof_of(alloc, shop, first, nodes, &mut Course::new(alloc), watcher)?;
+    proof.lower = proof.lower.max(simple);
+    Ok(proof)
 }
 
 // Returns the proof of a search of at most `nodes` nodes that starts from a proof and continues a

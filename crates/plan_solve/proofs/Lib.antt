@@ -1,3 +1,2 @@
 mod BoundLemmas
 mod ProgressLemmas
-mod ShopBoundLemmas

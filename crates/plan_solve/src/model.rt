@@ -39,6 +39,9 @@ pub struct Model {
     pub is_unary: Vec<bool>,
     /// For each activity the unary resources that it needs.
     pub unary_of: Vec<Vec<u32>>,
+    /// The activities whose use of a resource is counted by instants: those that need one that isn't
+    /// unary.
+    pub is_counted: Vec<bool>,
 }
 
 // The least of two numbers that fit 32 bits.
@@ -96,6 +99,7 @@ impl Model {
             users: empty_rows(alloc, kinds)?,
             is_unary: vec![in alloc; true; kinds]?,
             unary_of: empty_rows(alloc, count)?,
+            is_counted: vec![in alloc; false; count]?,
         };
         model.list_links()?;
         model.link_ends()?;
@@ -155,6 +159,10 @@ impl Model {
         if (resource as usize) < self.is_unary.len() && self.is_unary[resource as usize] {
             for &activity in row(&self.users, resource) {
                 push_to(&mut self.unary_of, activity, resource)?;
+            }
+        } else {
+            for &activity in row(&self.users, resource) {
+                mark(&mut self.is_counted, activity, true);
             }
         }
         Ok(())

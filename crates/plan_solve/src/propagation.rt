@@ -1,6 +1,6 @@
 //! What follows from bounds that have risen.
 
-use crate::lists::{Waiting, row};
+use crate::lists::{Waiting, is_marked, row};
 use crate::literals::{at_least, at_most, negated};
 use crate::model::Model;
 use crate::parts::Parts;
@@ -46,37 +46,83 @@ fn push_predecessors(model: &Model, trail: &mut Trail, activity: u32) -> Result<
     Ok(())
 }
 
-// One activity before another: what follows if that is so, and whether it can be.
-fn propagate_side(
-    model: &Model,
-    trail: &mut Trail,
+/// One activity before another: the literal that says so, and why what follows from it does.
+#[derive(Clone, Copy, Drop)]
+struct Side {
     first: u32,
     second: u32,
     literal: Literal,
     cause: Cause,
-) -> Result<(), Stop> {
-    let duration = model.duration(first);
-    let end = trail.earliest(first).saturating_add(duration);
-    if end > trail.latest(second) && !trail.is_false(literal) {
-        trail.set(negated(literal), cause)?;
+}
+
+// One of the two sides of an order. A side that can't be is refuted because its first activity
+// starts no earlier than it does now.
+fn side_of(model: &Model, trail: &Trail, place: u32, is_second_first: bool) -> Side {
+    let order = model.order(place);
+    let quantity = model.quantity(place);
+    let (first, second) = (order.first, order.second);
+    if is_second_first {
+        Side {
+            first: second,
+            second: first,
+            literal: at_most(quantity, 0, 0),
+            cause: Cause::After(place, trail.earliest(second)),
+        }
+    } else {
+        Side {
+            first,
+            second,
+            literal: at_least(quantity, 1),
+            cause: Cause::Before(place, trail.earliest(first)),
+        }
     }
-    if trail.is_true(literal) {
-        trail.set(at_least(second, end), cause)?;
-        let latest = trail.latest(second);
-        trail.set(at_most(first, latest, duration), cause)?;
+}
+
+// What follows for a side from the earliest start of its first activity.
+fn push_second(model: &Model, trail: &mut Trail, side: Side) -> Result<(), Stop> {
+    let end = trail
+        .earliest(side.first)
+        .saturating_add(model.duration(side.first));
+    if trail.is_true(side.literal) {
+        return trail.set(at_least(side.second, end), side.cause);
+    }
+    if end > trail.latest(side.second) && !trail.is_false(side.literal) {
+        trail.set(negated(side.literal), side.cause)?;
     }
     Ok(())
 }
 
-// An order, both ways.
-fn propagate_order(model: &Model, trail: &mut Trail, place: u32) -> Result<(), Stop> {
-    let order = model.order(place);
-    let quantity = model.quantity(place);
-    let (first, second) = (order.first, order.second);
-    let before = Cause::Before(place, trail.earliest(first));
-    propagate_side(model, trail, first, second, at_least(quantity, 1), before)?;
-    let after = Cause::After(place, trail.earliest(second));
-    propagate_side(model, trail, second, first, at_most(quantity, 0, 0), after)
+// What follows for a side from the latest start of its second activity.
+fn push_first(model: &Model, trail: &mut Trail, side: Side) -> Result<(), Stop> {
+    let (latest, duration) = (trail.latest(side.second), model.duration(side.first));
+    if trail.is_true(side.literal) {
+        return trail.set(at_most(side.first, latest, duration), side.cause);
+    }
+    let end = trail.earliest(side.first).saturating_add(duration);
+    if end > latest && !trail.is_false(side.literal) {
+        trail.set(negated(side.literal), side.cause)?;
+    }
+    Ok(())
+}
+
+// What follows from an order that holds one way.
+fn propagate_order(model: &Model, trail: &mut Trail, half: u32, place: u32) -> Result<(), Stop> {
+    let side = side_of(model, trail, place, half % 2 != 0);
+    push_second(model, trail, side)?;
+    push_first(model, trail, side)
+}
+
+// What follows for an order of an activity that starts later, or sooner.
+fn propagate_bound(model: &Model, trail: &mut Trail, half: u32, place: u32) -> Result<(), Stop> {
+    let activity = half / 2;
+    let is_second = model.order(place).second == activity;
+    if half % 2 == 0 {
+        let side = side_of(model, trail, place, is_second);
+        push_second(model, trail, side)
+    } else {
+        let side = side_of(model, trail, place, !is_second);
+        push_first(model, trail, side)
+    }
 }
 
 impl State {
@@ -106,7 +152,9 @@ impl State {
 
     /// Looks at an activity again.
     pub fn note(&mut self, model: &Model, activity: u32) -> Result<(), AllocError> {
-        self.stale.add(activity)?;
+        if is_marked(&model.is_counted, activity) {
+            self.stale.add(activity)?;
+        }
         for &resource in row(&model.unary_of, activity) {
             self.busy.add(resource)?;
         }
@@ -123,7 +171,7 @@ impl State {
         }
         self.note(model, activity)?;
         for &order in row(&model.orders_of, activity) {
-            propagate_order(model, &mut self.trail, order)?;
+            propagate_bound(model, &mut self.trail, entry.half, order)?;
         }
         Ok(())
     }
@@ -145,7 +193,8 @@ impl State {
         } else if quantity == model.end() {
             push_predecessors(model, &mut self.trail, quantity)
         } else {
-            propagate_order(model, &mut self.trail, model.order_of(quantity))
+            let order = model.order_of(quantity);
+            propagate_order(model, &mut self.trail, entry.half, order)
         }
     }
 
@@ -180,7 +229,7 @@ impl State {
             let Some(resource) = self.busy.pop() else {
                 break;
             };
-            self.windows.check_unary(model, &self.trail, resource)?;
+            self.windows.check_unary(&self.trail, resource)?;
         }
         Ok(())
     }
@@ -225,7 +274,9 @@ impl State {
             let Some(half) = self.trail.undo(level) else {
                 break;
             };
-            self.loose.add(half / 2)?;
+            if is_marked(&model.is_counted, half / 2) {
+                self.loose.add(half / 2)?;
+            }
         }
         self.trail.close(level);
         for _ in 0..model.count {

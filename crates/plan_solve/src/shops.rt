@@ -15,10 +15,10 @@ use crate::schedules::shorter;
 use crate::solvable::Solvable;
 use crate::solving::{MOST_CONFLICTS, Solved, searched, searched_from, unsearched};
 use crate::watcher::{Unwatched, Watcher};
-use plan_active::active_shop_schedule;
+use plan_active::{active_shop_schedule, shop_bound};
 use plan_kernel::{Input, Order};
 use plan_sgs::Schedule;
-use plan_shop::{Shop, ShopRule, ShopTree, giffler};
+use plan_shop::{Shop, ShopRule, giffler};
 use std::alloc::{AllocError, Global};
 
 // Adds an order of a step and each step of a greater number on its machine, in other jobs.
@@ -45,16 +45,6 @@ fn orders_of(alloc: Global, shop: &Shop) -> Result<Vec<Order>, AllocError> {
         add_orders(shop, first, &mut orders)?;
     }
     Ok(orders)
-}
-
-// The greatest of the lengths of the jobs and the one-machine bounds with heads and tails.
-fn shop_bound(alloc: Global, shop: &Shop) -> Result<u64, AllocError>
-    ensures { IfOk result (spec.IsLowerBound (problem_of shop.now)) }
-{
-    // the call brings the invariant of the shop, which the proof needs
-    let _jobs = shop.jobs();
-    let tree = ShopTree::new(alloc, shop)?;
-    Ok(tree.bound())
 }
 
 // The schedule of a rule.

@@ -52,16 +52,44 @@ fn at_place(clause: &[Literal], place: u32) -> Watched {
     }
 }
 
-// The place of a literal that isn't false, other than two.
-fn place_of_open(clause: &[Literal], trail: &Trail, one: u32, other: u32) -> Option<u32> {
-    let mut place: u32 = 0;
-    for &literal in clause {
-        if place != one && place != other && !trail.is_false(literal) {
+// The place of a literal that isn't false, other than two, from a place to another.
+fn open_between(
+    clause: &[Literal],
+    trail: &Trail,
+    watched: (u32, u32),
+    from: u32,
+    until: u32,
+) -> Option<u32> {
+    let mut place = from;
+    for &literal in part(clause, from, until) {
+        if place != watched.0 && place != watched.1 && !trail.is_false(literal) {
             return Some(place);
         }
         place = place.wrapping_add(1);
     }
     None
+}
+
+// The literals of a clause from a place to another.
+fn part(clause: &[Literal], from: u32, until: u32) -> &[Literal] {
+    let (from, until) = (from as usize, (until as usize).min(clause.len()));
+    if from <= until {
+        &clause[from..until]
+    } else {
+        &[]
+    }
+}
+
+// The place of a literal that isn't false, other than two. The search goes round from the place of
+// the one that has become false (Gent, "Optimal implementation of watched literals and more general
+// techniques", 2013).
+fn place_of_open(clause: &[Literal], trail: &Trail, refuted: u32, other: u32) -> Option<u32> {
+    let watched = (refuted, other);
+    let behind = open_between(clause, trail, watched, refuted.saturating_add(1), u32::MAX);
+    if behind.is_some() {
+        return behind;
+    }
+    open_between(clause, trail, watched, 0, refuted)
 }
 
 impl Watches {
@@ -144,13 +172,13 @@ impl Watches {
             value: watch.threshold,
         });
         let is_first = one.literal.half == refuted.half && one.literal.value == refuted.value;
-        let left = if is_first { other } else { one };
+        let (left, gone) = if is_first { (other, one) } else { (one, other) };
         let literal = left.literal;
         if trail.is_true(literal) {
             return Ok(false);
         }
         let clause = kernel.clause(watch.clause);
-        if let Some(place) = place_of_open(clause, trail, one.place, other.place) {
+        if let Some(place) = place_of_open(clause, trail, gone.place, left.place) {
             let moved = at_place(clause, place);
             if is_first {
                 self.put(watch.clause, moved, other);

@@ -8,7 +8,7 @@ use Rattle.plan_shop.specs.Trees.{Standing, standing, placed}
 use Rattle.plan_shop.specs.Laws.{placed_in, ShopBoundHolds, WordsReach, Reaches}
 use Rattle.plan_shop.proofs.ShopBound.{shop_bound_holds}
 use Rattle.plan_shop.proofs.WordsReach.{words_reach}
-use Rattle.plan_solve.specs.Solutions.{IsLowerBound}
+use Rattle.plan_active.specs.Bounds.{IsLowerBound}
 
 shop_bound_of_none : (s : JobShop) → IsShop s → IsLowerBound (problem_of s) (bound_of s (placed_in s []))
 unfolding ShopBoundHolds WordsReach
