@@ -21,6 +21,7 @@ A trial file lists files, commands and their outputs, to the byte:
     $ plan schedule lft six.sm            a command; `< pair.txt` at its end is standard input
     $ PLAN_HINTS=1 plan cpm six.sm        a command with a variable of the environment
     | the lines of standard output        status 0 and nothing on standard error
+    ~ the same                            lines that end with CR LF
     ! the line on standard error          status 1 and nothing on standard output; the hint is a
                                           second line
     ? the lines on standard error         status 2 and nothing on standard output
@@ -60,10 +61,11 @@ class Block:
         self.printed, self.told, self.misused = [], [], []
 
     def add(self, line):
-        """Takes a line that begins with a bar or a mark."""
+        """Takes a line that begins with a bar, a tilde or a mark."""
         if line[1:2] not in ("", " "):
             raise Wrong(f"below `{self.line}` there is no blank in {line}")
-        {"|": self.printed, "!": self.told, "?": self.misused}[line[0]].append(line[2:])
+        lines = {"!": self.told, "?": self.misused}.get(line[0], self.printed)
+        lines.append(line[2:] + ("\r" if line[0] == "~" else ""))
 
     def refuse_lines(self):
         """That there are no lines below the block, which doesn't take any."""
@@ -93,7 +95,7 @@ def blocks_of(path):
     blocks = []
     lines = content_of(path).decode().split("\n")
     for number, line in enumerate(lines, 1):
-        if line[:1] in ("|", "!", "?"):
+        if line[:1] in ("|", "~", "!", "?"):
             blocks[-1].add(line)
         elif line and not line.startswith("#"):
             blocks.append(Block(number, line))

@@ -65,8 +65,8 @@ class Making:
 
     def go_on(self, database, is_done):
         """The program continues with the files that are left: it makes a missing office."""
-        again = plan("check-office", database)[0] if is_done else self.run(database)[0]
-        same("the status of plan check-office or plan init again", again, 0)
+        again = plan("settle", database)[0] if is_done else self.run(database)[0]
+        same("the status of plan settle or plan init again", again, 0)
 
 
 class Asking:
@@ -104,7 +104,7 @@ class Asking:
 
     def go_on(self, database, is_done):
         """The program goes on with what is left: it opens the office."""
-        same("the status of plan check-office", plan("check-office", database)[0], 0)
+        same("the status of plan settle", plan("settle", database)[0], 0)
 
 
 def tables_in(database):

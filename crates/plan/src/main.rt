@@ -9,18 +9,21 @@ use self::progress::ProgressLine;
 use clap::Error;
 use clap::error::ErrorKind;
 use plan_cli::{
-    CliFault, ListedTask, Log, ProofWatcher, Rows, SolveWatcher, Task, Unlogged, Unwatched,
-    dated_listed_on_files, dated_on_files, explain_run, hint, listed_on_files, run_on_file,
-    template_run,
+    CliFault, Log, NamedText, ProofWatcher, Rows, SolveWatcher, Task, Unlogged, Unwatched,
+    explain_run, explain_run_in, hint, run_on_file, run_on_files, template_run,
+};
+use plan_copies::{
+    CopyFault, backup_on_files, check_on_file, has_log, remove_stray_log, restore_on_files,
+    scratch_fault, scratch_folder, settle_on_file,
 };
 use plan_formats::{Format, error_json};
-use plan_io::{MemSink, StdSink, write_whole};
+use plan_io::{MemSink, Sink, StdSink, write_whole};
 use plan_orders::{
-    FileOrder, OfficeOrder, Order, capacities_of, command, help, order_of, overrides_of,
+    FileOrder, Lists, OfficeOrder, Order, capacities_of, command, help, order_of, overrides_of,
+    texts_of,
 };
-use plan_serve::{
-    ServeFault, Service, Target, check_office_on_file, init_on_file, replay_on_files, serve_on_port,
-};
+use plan_print::print_on_files;
+use plan_serve::{ServeFault, Service, Target, init_on_file, replay_on_files, serve_on_port};
 use std::alloc::{AllocError, Global};
 use std::env;
 use std::io::{self, IsTerminal, Write};
@@ -36,7 +39,8 @@ enum Misuse {
     Usage(Error),
     NoText,
     NoCommand,
-    OneInput(&'static str),
+    /// Two arguments with these names are standard input.
+    OneInput(&'static str, &'static str),
     BadCapacity(String),
 }
 
@@ -46,17 +50,53 @@ impl From<AllocError> for Misuse {
     }
 }
 
+// Checks an office by a copy in this folder, and prints its summary. A hint tells of tables of the
+// first version.
+fn do_check_office(
+    rt: &HostRuntime,
+    database: &str,
+    folder: Option<&str>,
+) -> Result<(), CopyFault> {
+    let mut writer = StdSink::new(io::writer(rt));
+    let folder = scratch_folder(rt, folder)?;
+    let folder = folder.as_str();
+    let is_first = match check_on_file(rt, database, folder, &mut writer) {
+        Ok(is_first) => is_first,
+        Err(fault) => return Err(scratch_fault(rt.alloc(), fault, database, folder)),
+    };
+    if is_first && asked_hints(rt).unwrap_or(true) {
+        let _ = eprintln!(rt; "hint: {database} has version 1; `plan serve` converts it");
+    }
+    Ok(())
+}
+
+// Serves an office. At the end it prints the number of connections on a terminal or with the log.
+fn do_serve(rt: &HostRuntime, service: &Service<'_>) -> Result<(), CopyFault> {
+    serve_on_port(rt, service).map_err(CopyFault::Office)?;
+    if service.is_logged || rt.stderr().is_terminal() {
+        let count = service.count;
+        let _ = eprintln!(rt; "{count} connections served");
+    }
+    Ok(())
+}
+
 // Runs an order on an office.
-fn do_office_order(rt: &HostRuntime, order: OfficeOrder<'_>) -> Result<(), ServeFault> {
+fn do_office_order(rt: &HostRuntime, order: OfficeOrder<'_>) -> Result<(), CopyFault> {
+    let mut writer = StdSink::new(io::writer(rt));
     match order {
-        OfficeOrder::Init { database } => init_on_file(rt, database),
-        OfficeOrder::Check { database } => {
-            let mut writer = StdSink::new(io::writer(rt));
-            check_office_on_file(rt, database, &mut writer)
+        OfficeOrder::Init { database } => init_on_file(rt, database).map_err(CopyFault::Office),
+        OfficeOrder::Check { database, folder } => do_check_office(rt, database, folder),
+        OfficeOrder::Settle { database } => settle_on_file(rt, database, &mut writer),
+        OfficeOrder::Backup {
+            database,
+            copy,
+            keep,
+        } => backup_on_files(rt, database, copy, keep, &mut writer),
+        OfficeOrder::Restore { database, copy } => {
+            restore_on_files(rt, copy, database, &mut writer)
         }
         OfficeOrder::Replay { database, requests } => {
-            let mut writer = StdSink::new(io::writer(rt));
-            replay_on_files(rt, database, requests, &mut writer)
+            replay_on_files(rt, database, requests, &mut writer).map_err(CopyFault::Office)
         }
         OfficeOrder::Serve {
             database,
@@ -72,9 +112,44 @@ fn do_office_order(rt: &HostRuntime, order: OfficeOrder<'_>) -> Result<(), Serve
                 patience,
                 is_logged,
             };
-            serve_on_port(rt, &service)
+            do_serve(rt, &service)
         }
     }
+}
+
+// Returns whether a fault is a refusal of the files of an office.
+fn is_refusal(fault: &CopyFault) -> bool {
+    match fault {
+        CopyFault::Office(fault) => fault.line().starts_with('K') || fault.line() == "E91 store",
+        CopyFault::Line(_) => true,
+    }
+}
+
+// Returns the office that an order opens, if it opens one.
+fn opened_by<'a>(order: &OfficeOrder<'a>) -> Option<&'a str> {
+    match *order {
+        OfficeOrder::Init { database }
+        | OfficeOrder::Settle { database }
+        | OfficeOrder::Replay { database, .. }
+        | OfficeOrder::Serve { database, .. } => Some(database),
+        OfficeOrder::Check { .. } | OfficeOrder::Backup { .. } | OfficeOrder::Restore { .. } =>
+            None,
+    }
+}
+
+// Runs an order on an office. If the order refuses the files, no new log stays beside them.
+fn do_cleanly(rt: &HostRuntime, order: OfficeOrder<'_>) -> Result<(), CopyFault> {
+    let Some(database) = opened_by(&order) else {
+        return do_office_order(rt, order);
+    };
+    let had_log = has_log(rt, database);
+    let done = do_office_order(rt, order);
+    if let Err(fault) = &done {
+        if !had_log && is_refusal(fault) {
+            remove_stray_log(rt, database);
+        }
+    }
+    done
 }
 
 // Runs a task on a file, and writes to standard output.
@@ -93,13 +168,13 @@ fn do_task<V: ProofWatcher + SolveWatcher, L: Log>(
 // Writes a verdict to standard output. Returns the status: 0 if it is `active`, else 3.
 fn do_check(
     rt: &HostRuntime,
-    task: ListedTask<'_>,
+    task: Task<'_>,
     rows: Rows,
+    texts: &[NamedText<'_>],
     path: &str,
-    starts: &str,
 ) -> Result<u8, CliFault> {
     let mut text = MemSink::new(Vec::new(rt.alloc()));
-    listed_on_files(rt, task, rows, path, starts, &mut text)?;
+    run_on_files(rt, task, rows, texts, path, &mut text)?;
     let text = text.into_bytes();
     let mut writer = StdSink::new(io::writer(rt));
     write_whole(&mut writer, &text).map_err(|_| CliFault::Output)?;
@@ -109,6 +184,14 @@ fn do_check(
     } else {
         NOT_ACTIVE
     })
+}
+
+// Writes the explanation of an error line.
+fn explain<W: Sink>(alloc: Global, line: &str, rows: Rows, writer: &mut W) -> Result<(), CliFault> {
+    match rows {
+        Rows::In(format) => explain_run_in(alloc, line, format, writer),
+        Rows::Plain | Rows::Named => explain_run(alloc, line, writer),
+    }
 }
 
 // Runs an order on files, and writes to standard output. Returns the status.
@@ -133,50 +216,41 @@ fn do_file_order(rt: &HostRuntime, order: FileOrder<'_>, rows: Rows) -> Result<u
             do_task(rt, task, rows, &mut line, &mut log, file)?;
             log.end()?;
         }
-        FileOrder::Dated {
+        FileOrder::Texts {
             task,
             file,
-            holidays,
-        } => dated_on_files(rt, task, rows, file, holidays, &mut writer)?,
-        FileOrder::Listed {
-            task,
-            file,
-            starts,
-            holidays: Some(holidays),
-            ..
-        } => dated_listed_on_files(rt, task, rows, file, starts, holidays, &mut writer)?,
-        FileOrder::Listed {
-            task,
-            file,
-            starts,
+            texts,
             is_status: false,
-            ..
-        } => listed_on_files(rt, task, rows, file, starts, &mut writer)?,
-        FileOrder::Listed {
+        } => run_on_files(rt, task, rows, texts, file, &mut writer)?,
+        FileOrder::Texts {
             task,
             file,
-            starts,
+            texts,
             ..
-        } => return do_check(rt, task, rows, file, starts),
+        } => return do_check(rt, task, rows, texts, file),
+        FileOrder::Print(print) => print_on_files(rt, print, &mut writer)?,
         FileOrder::New(template) => template_run(template, &mut writer)?,
         FileOrder::Explain(words) => {
             let line = words.join(rt.alloc(), " ")?;
-            explain_run(rt.alloc(), line.as_str(), &mut writer)?;
+            explain(rt.alloc(), line.as_str(), rows, &mut writer)?;
         }
     }
     Ok(0)
 }
 
+// Returns whether PLAN_HINTS asks for hints: 1 does, 0 asks for none.
+fn asked_hints(rt: &HostRuntime) -> Option<bool> {
+    let asked = env::var(rt, "PLAN_HINTS").ok()?;
+    match asked.as_str() {
+        "1" => Some(true),
+        "0" => Some(false),
+        _ => None,
+    }
+}
+
 // Whether hints are printed: PLAN_HINTS decides if it is 1 or 0, else they are for a terminal only.
 fn has_hints(rt: &HostRuntime) -> bool {
-    if let Ok(asked) = env::var(rt, "PLAN_HINTS") {
-        match asked.as_str() {
-            "1" => return true,
-            "0" => return false,
-            _ => {}
-        }
-    }
-    rt.stderr().is_terminal()
+    asked_hints(rt).unwrap_or_else(|| rt.stderr().is_terminal())
 }
 
 // Prints a hint, if there is one.
@@ -208,9 +282,11 @@ fn target_of<'a>(order: &OfficeOrder<'a>) -> Target<'a> {
     let (database, is_new, port) = match *order {
         OfficeOrder::Init { database } => (database, true, 0),
         OfficeOrder::Serve { database, port, .. } => (database, false, port),
-        OfficeOrder::Check { database } | OfficeOrder::Replay { database, .. } => {
-            (database, false, 0)
-        }
+        OfficeOrder::Check { database, .. }
+        | OfficeOrder::Settle { database }
+        | OfficeOrder::Backup { database, .. }
+        | OfficeOrder::Restore { database, .. }
+        | OfficeOrder::Replay { database, .. } => (database, false, 0),
     };
     Target {
         database,
@@ -226,15 +302,25 @@ fn office_hint(
     order: &OfficeOrder<'_>,
     fault: ServeFault,
 ) -> Result<Option<String>, AllocError> {
+    if let (OfficeOrder::Check { database, .. }, ServeFault::Denied) = (order, fault) {
+        return Ok(Some(format!(in alloc; "hint: this user can't read {database}")?));
+    }
     if let Some(text) = target_of(order).hint(alloc, fault)? {
         return Ok(Some(text));
     }
     hint(alloc, order.file_of(fault.line()), fault.line())
 }
 
-// Prints the error of an order on an office and, if hints are printed, its hint. Returns the status
-// 1.
-fn print_office_error(rt: &HostRuntime, order: &OfficeOrder<'_>, fault: ServeFault) -> u8 {
+// Prints the error of an order on an office and, if hints are printed, its hint. A line that names
+// its cause has no hint. Returns the status 1.
+fn print_office_error(rt: &HostRuntime, order: &OfficeOrder<'_>, fault: &CopyFault) -> u8 {
+    let fault = match fault {
+        CopyFault::Office(fault) => *fault,
+        CopyFault::Line(line) => {
+            let _ = eprintln!(rt; "{line}");
+            return 1;
+        }
+    };
     let line = fault.line();
     let _ = eprintln!(rt; "{line}");
     if has_hints(rt) {
@@ -243,39 +329,12 @@ fn print_office_error(rt: &HostRuntime, order: &OfficeOrder<'_>, fault: ServeFau
     1
 }
 
-// Returns the reason why an order can't have its files if two of them are standard input.
-fn one_input(order: &FileOrder<'_>) -> Option<&'static str> {
-    match *order {
-        FileOrder::Listed {
-            file: "-",
-            starts: "-",
-            ..
-        } => Some("FILE and STARTS can't both be standard input"),
-        FileOrder::Listed {
-            starts: "-",
-            holidays: Some("-"),
-            ..
-        } => Some("STARTS and HOLIDAYS can't both be standard input"),
-        FileOrder::Listed {
-            file: "-",
-            holidays: Some("-"),
-            ..
-        }
-        | FileOrder::Dated {
-            file: "-",
-            holidays: "-",
-            ..
-        } => Some("FILE and HOLIDAYS can't both be standard input"),
-        _ => None,
-    }
-}
-
 // Runs an order, and returns the status.
 fn do_order(rt: &HostRuntime, order: Order<'_>) -> Result<u8, Misuse> {
     match order {
         Order::File(order, rows) => {
-            if let Some(what) = one_input(&order) {
-                return Err(Misuse::OneInput(what));
+            if let Some((first, second)) = order.shared_input() {
+                return Err(Misuse::OneInput(first, second));
             }
             Ok(match do_file_order(rt, order, rows) {
                 Ok(status) => status,
@@ -283,9 +342,9 @@ fn do_order(rt: &HostRuntime, order: Order<'_>) -> Result<u8, Misuse> {
                 Err(fault) => print_error(rt, order.file_of(fault.line()), fault.line()),
             })
         }
-        Order::Office(order) => Ok(match do_office_order(rt, order) {
+        Order::Office(order) => Ok(match do_cleanly(rt, order) {
             Ok(()) => 0,
-            Err(fault) => print_office_error(rt, &order, fault),
+            Err(fault) => print_office_error(rt, &order, &fault),
         }),
     }
 }
@@ -311,11 +370,22 @@ fn run(rt: &HostRuntime) -> Result<u8, Misuse> {
     let args = env::args(rt).map_err(|error| args_misuse(&error))?;
     let arguments: Vec<String> = args.collect(alloc)?;
     let help = help(alloc)?;
-    let parsed = command(alloc, help.as_str())?.try_get_matches_from(arguments.as_slice());
+    let first = match arguments.get(1) {
+        Some(word) => Some(word.as_str()),
+        None => None,
+    };
+    let parser = command(alloc, help.as_str(), first)?;
+    let parsed = parser.try_get_matches_from(arguments.as_slice());
     let matches = parsed.map_err(Misuse::Usage)?;
     let capacities = capacities_of(alloc, &matches)?.map_err(|text| bad_capacity(alloc, text))?;
-    let given = overrides_of(alloc, &matches)?.map_err(|text| bad_capacity(alloc, text))?;
-    let Some(order) = order_of(&matches, &capacities, &given) else {
+    let overrides = overrides_of(alloc, &matches)?.map_err(|text| bad_capacity(alloc, text))?;
+    let texts = texts_of(alloc, &matches)?;
+    let lists = Lists {
+        capacities: &capacities,
+        overrides: &overrides,
+        texts: &texts,
+    };
+    let Some(order) = order_of(&matches, lists) else {
         return Err(Misuse::NoCommand);
     };
     do_order(rt, order)
@@ -343,6 +413,15 @@ fn print_misuse<R: Eprint>(rt: &R, what: &str) -> u8 {
     2
 }
 
+// Prints the error of two arguments that are standard input, and returns the status of usage.
+fn print_one_input<R: Eprint>(rt: &R, first: &str, second: &str) -> u8 {
+    let _ = eprintln!(rt;
+        "error: {first} and {second} can't both be standard input\n\n\
+        For more information, try '--help'."
+    );
+    2
+}
+
 // Prints the error of a text that gives no capacity, and returns the status of usage.
 fn print_bad_capacity(rt: &HostRuntime, text: &str) -> u8 {
     let _ = eprintln!(rt;
@@ -360,7 +439,7 @@ fn report(rt: &HostRuntime, misuse: &Misuse) -> u8 {
         Misuse::NoText => print_misuse(rt, "a word of the command line isn't UTF-8"),
         Misuse::NoCommand => print_misuse(rt, "no command"),
         Misuse::BadCapacity(text) => print_bad_capacity(rt, text),
-        Misuse::OneInput(what) => print_misuse(rt, what),
+        Misuse::OneInput(first, second) => print_one_input(rt, first, second),
     }
 }
 

@@ -1,5 +1,6 @@
 -- Reading the file with a name reads the bytes that the name stands for.
-use Rattle.std.proofs.Common.{◌≡◌, ◌⊎◌, inl, inr, true, false, ℕ, ◌+◌, List, Option, Some, None, Result, Ok, Err, take, sym, subst, Vec}
+use Rattle.std.proofs.Common.{◌≡◌, ◌⊎◌, inl, inr, true, false, ℕ, ◌+◌, List, [], ◌∷◌, Option, Some, None, Result, Ok, Err, take, sym, subst, Vec}
+use denote.Ref.{Bor}
 use Rattle.std.specs.Prelude.{IfSome, IfOk, bytes_eq, codes}
 use Rattle.std.specs.Global.{Global}
 use Rattle.plan_psplib.specs.Plain.{longest_text}
@@ -9,6 +10,8 @@ use Rattle.plan_cli.specs.declared.tasks.Task.{Task}
 use Rattle.plan_cli.specs.declared.tasks.Rows.{Rows}
 use Rattle.plan_cli.specs.Run.{ReadsFront}
 use Rattle.plan_cli.specs.Tasks.{IsLineOf, ShowsTask, DoesTask, AreRead, bytes_named}
+use Rattle.plan_cli.specs.NamedTexts.{DoesTexts, DoesWith, with_text}
+use Rattle.plan_cli.specs.declared.named_texts.NamedText.{NamedText}
 use Rattle.plan_cli.proofs.RunLemmas.{judged_bytes}
 
 -- `-` stands for standard input
@@ -54,3 +57,28 @@ pub task_unopened : (task : Task) (rows : Rows) (known taken : Option (List ℕ)
     → (e ≡ cli.Memory) ⊎ (e ≡ cli.Input) → DoesTask task rows known taken taken (Err e)
 task_unopened task rows known taken e (inl is) = subst (λ (f : CliFault). DoesTask task rows known taken taken (Err f)) (sym is) (None, tt)
 task_unopened task rows known taken e (inr is) = subst (λ (f : CliFault). DoesTask task rows known taken taken (Err f)) (sym is) (None, tt)
+
+-- a task that wrote for the bytes of a file wrote for bytes that aren't known
+unknown_task : (task : Task) (rows : Rows) (file taken after : Option (List ℕ)) (r : Result (Unit {0}) CliFault)
+    → DoesTask task rows file taken after r → DoesTask task rows None taken after r
+unknown_task task rows file taken after r (rest, judged) = (None, judged_bytes (ShowsTask rows task) (IsLineOf task) file rest taken after r judged)
+
+-- the same for a text
+unknown_with : (bytes : Option (List ℕ)) (r : Result (Unit {0}) CliFault) (D E : Bor (List ℕ) → Type 0)
+    → ((text : Bor (List ℕ)) → D text → E text) → DoesWith bytes r D → DoesWith None r E
+unknown_with bytes (Ok x) D E f (text, short, read, does) = (text, short, tt, f text does)
+unknown_with bytes (Err cli.Memory) D E f does = tt
+unknown_with bytes (Err cli.Input) D E f does = tt
+unknown_with bytes (Err cli.Output) D E f (text, short, read, does) = (text, short, tt, f text does)
+unknown_with bytes (Err (cli.Refused line)) D E f (text, short, read, does) = (text, short, tt, f text does)
+
+-- the same for a file and texts
+pub unknown_texts : (behind : List ℕ → Option (List ℕ)) (task : Task) (rows : Rows) (texts : List NamedText)
+    (file taken after : Option (List ℕ)) (r : Result (Unit {0}) CliFault)
+    → DoesTexts behind task rows texts file taken after r → DoesTexts (λ name. None) task rows texts None taken after r
+unknown_texts behind task rows [] file taken after r does = unknown_task task rows file taken after r does
+unknown_texts behind task rows (named ∷ rest) file taken after r does =
+    unknown_with (behind named.name.now) r
+    (λ text. DoesTexts behind (with_text task named.role text) rows rest file taken after r)
+    (λ text. DoesTexts (λ name. None) (with_text task named.role text) rows rest None taken after r)
+    (λ text d. unknown_texts behind (with_text task named.role text) rows rest file taken after r d) does

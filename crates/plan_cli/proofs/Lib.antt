@@ -2,6 +2,7 @@ pub mod CapacityLemmas
 pub mod RunLemmas
 pub mod PlanLemmas
 pub mod SlackLemmas
+pub mod CompareLemmas
 pub mod OriginLemmas
 pub mod ScheduledLemmas
 pub mod StartLemmas

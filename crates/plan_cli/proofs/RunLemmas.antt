@@ -27,6 +27,7 @@ use Rattle.plan_cli.specs.Scheduled.{TellsNotMade, TellsShopNotMade}
 use Rattle.plan_cli.specs.ChartRun.{IsChartFrom, IsShopChartFrom}
 use Rattle.plan_cli.specs.DaysRun.{IsDaysFrom, IsShopDaysFrom, TellsNoDaysFrom, TellsNoShopDaysFrom}
 use Rattle.plan_cli.specs.SlackRun.{IsSlackOf, TellsNoSlack}
+use Rattle.plan_cli.specs.CompareRun.{IsCompared, TellsNotCompared, IsShopCompared, TellsShopNotCompared}
 use Rattle.plan_cli.specs.NamesRun.{AreNamesOf, TellsNotPlain}
 use Rattle.plan_cli.specs.CheckRun.{IsVerdictOf, TellsWhyNoVerdict, TellsShopVerdict, TellsNoShopStarts}
 use Rattle.plan_cli.specs.ShopRun.{IsShopTableOf, TellsWhyNoShop}
@@ -445,6 +446,8 @@ task_front task.Names = names_front
 task_front (task.Check starts) = verdict_front starts.now
 task_front (task.ShopCheck starts instance) = of_shop_front instance.now (TellsShopVerdict starts.now)
 task_front (task.Slack starts given) = of_project_front given.now (IsSlackOf starts.now)
+task_front (task.Compare starts given) = of_project_front given.now (IsCompared starts.a.now starts.b.now)
+task_front (task.ShopCompare starts instance) = of_shop_front instance.now (IsShopCompared starts.a.now starts.b.now)
 task_front (task.Shop rule instance) = shop_front rule.now instance.now
 task_front (task.Best budget instance) = best_front budget.now instance.now
 task_front (task.Prove nodes instance) = proof_front nodes.now instance.now
@@ -465,6 +468,8 @@ task_line_front task.Names = not_plain_front
 task_line_front (task.Check starts) = no_verdict_front starts.now
 task_line_front (task.ShopCheck starts instance) = refuses_shop_front instance.now (TellsNoShopStarts starts.now)
 task_line_front (task.Slack starts given) = refuses_file_front given.now (TellsNoSlack starts.now)
+task_line_front (task.Compare starts given) = refuses_file_front given.now (TellsNotCompared starts.a.now starts.b.now)
+task_line_front (task.ShopCompare starts instance) = refuses_shop_front instance.now (TellsShopNotCompared starts.a.now starts.b.now)
 task_line_front (task.Shop rule instance) = no_shop_front rule.now instance.now
 task_line_front (task.Best budget instance) = no_best_front budget.now instance.now
 task_line_front (task.Prove nodes instance) = no_proof_front nodes.now instance.now
@@ -494,6 +499,8 @@ file_short task.Names file text (readable, is) = plain_short file readable
 file_short (task.Check starts) file text (p, says, rest) = project_short file p says
 file_short (task.ShopCheck starts instance) file text (doc, says, rest) = shop_short instance.now file doc says
 file_short (task.Slack starts given) file text (p, says, rest) = project_short file p says
+file_short (task.Compare starts given) file text (p, says, rest) = project_short file p says
+file_short (task.ShopCompare starts instance) file text (doc, says, rest) = shop_short instance.now file doc says
 file_short (task.Shop rule instance) file text (doc, says, rest) = shop_short instance.now file doc says
 file_short (task.Best budget instance) file text (doc, says, rest) = shop_short instance.now file doc says
 file_short (task.Prove nodes instance) file text (doc, says, rest) = shop_short instance.now file doc says

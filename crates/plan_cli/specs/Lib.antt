@@ -4,8 +4,7 @@ pub mod Plans
 pub mod ScheduleRun
 pub mod ShopRun
 pub mod Tasks
-pub mod ListedTasks
-pub mod DatedTasks
+pub mod NamedTexts
 pub use Rattle.plan_net.specs.Network
 pub use Rattle.plan_cpm.specs.Dates
 pub use Rattle.plan_io.specs.Devices
@@ -42,7 +41,9 @@ pub mod Starts
 pub mod VerdictText
 pub mod CheckRun
 pub mod SlackRun
+pub mod CompareRun
 pub mod FormattedText
+pub mod ExplainedText
 pub mod TableFaultText
 pub mod ImportRun
 pub mod RowNames

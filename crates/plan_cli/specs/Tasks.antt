@@ -11,6 +11,8 @@ use Rattle.plan_cli.specs.Scheduled.{TellsNotMade, TellsShopNotMade}
 use Rattle.plan_cli.specs.ChartRun.{IsChartFrom, IsShopChartFrom}
 use Rattle.plan_cli.specs.DaysRun.{IsDaysFrom, IsShopDaysFrom, TellsNoDaysFrom, TellsNoShopDaysFrom}
 use Rattle.plan_cli.specs.SlackRun.{IsSlackOf, TellsNoSlack}
+use Rattle.plan_cli.specs.CompareRun.{IsCompared, TellsNotCompared}
+use Rattle.plan_cli.specs.CompareRun.{IsShopCompared, TellsShopNotCompared}
 use Rattle.plan_cli.specs.FormattedText.{formatted}
 use Rattle.plan_formats.specs.declared.format.Format.{Format}
 use Rattle.plan_cli.specs.NamesRun.{AreNamesOf, TellsNotPlain}
@@ -46,6 +48,10 @@ IsTextOf task.Names = AreNamesOf
 IsTextOf (task.Check starts) = IsVerdictOf starts.now
 IsTextOf (task.ShopCheck starts instance) = IsShopVerdictOf starts.now instance.now
 IsTextOf (task.Slack starts given) = IsOfProject given.now (IsSlackOf starts.now)
+IsTextOf (task.Compare starts given) =
+    IsOfProject given.now (IsCompared starts.a.now starts.b.now)
+IsTextOf (task.ShopCompare starts instance) =
+    IsOfShop instance.now (IsShopCompared starts.a.now starts.b.now)
 IsTextOf (task.Shop rule instance) = IsShopTableOf rule.now instance.now
 IsTextOf (task.Best budget instance) = IsBestTableOf budget.now instance.now
 IsTextOf (task.Prove nodes instance) = IsProofTableOf nodes.now instance.now
@@ -68,6 +74,10 @@ IsLineOf task.Names = TellsNotPlain
 IsLineOf (task.Check starts) = TellsWhyNoVerdict starts.now
 IsLineOf (task.ShopCheck starts instance) = TellsWhyNoShopVerdict starts.now instance.now
 IsLineOf (task.Slack starts given) = RefusesFile given.now (TellsNoSlack starts.now)
+IsLineOf (task.Compare starts given) =
+    RefusesFile given.now (TellsNotCompared starts.a.now starts.b.now)
+IsLineOf (task.ShopCompare starts instance) =
+    RefusesShop instance.now (TellsShopNotCompared starts.a.now starts.b.now)
 IsLineOf (task.Shop rule instance) = TellsWhyNoShop rule.now instance.now
 IsLineOf (task.Best budget instance) = TellsWhyNoBest budget.now instance.now
 IsLineOf (task.Prove nodes instance) = TellsWhyNoProof nodes.now instance.now
@@ -86,10 +96,12 @@ names_for (task.Schedule rule given) file = names_behind activity_key file
 names_for (task.Chart from given) file = names_behind activity_key file
 names_for (task.Days from dates given) file = names_behind activity_key file
 names_for (task.Slack starts given) file = names_behind activity_key file
+names_for (task.Compare starts given) file = names_behind activity_key file
 names_for (task.BestProject budget given) file = names_behind activity_key file
 names_for (task.Solve conflicts capacities) file = names_behind activity_key file
 names_for (task.Shop rule instance) file = instance_names order_key instance.now file
 names_for (task.ShopChart from instance) file = instance_names machine_key instance.now file
+names_for (task.ShopCompare starts instance) file = instance_names order_key instance.now file
 names_for (task.ShopDays from dates instance) file = instance_names order_key instance.now file
 names_for (task.Best budget instance) file = instance_names order_key instance.now file
 names_for (task.Prove nodes instance) file = instance_names order_key instance.now file

@@ -43,7 +43,7 @@ fn with_holidays(alloc: Global, calendar: Calendar, text: &[u8]) -> Result<Calen
 
 /// Returns the calendar of these texts. The first error is that of the date, of the marks, or of
 /// the holidays.
-pub(crate) fn calendar_of(alloc: Global, dates: Dates<'_>) -> Result<Calendar, CliFault>
+pub fn calendar_of(alloc: Global, dates: Dates<'_>) -> Result<Calendar, CliFault>
     ensures made { IfOk result (spec.IsDated dates.entry) }
     ensures refused { IfErr result (Refuses (spec.TellsNoCalendar dates.entry)) }
 {

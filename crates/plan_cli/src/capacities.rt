@@ -55,7 +55,7 @@ fn unknown(alloc: Global, name: &str) -> CliFault
 }
 
 /// Replaces capacities of a list by the given ones, in their order.
-pub(crate) fn replaced(
+pub fn replaced(
     alloc: Global,
     given: &[Capacity<'_>],
     capacities: &[u64],

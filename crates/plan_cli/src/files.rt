@@ -6,12 +6,10 @@ ghost use Rattle.plan_io.specs.Devices.{most_calls};
 ghost use Rattle.plan_psplib.specs.Plain.{longest_text};
 ghost use Rattle.plan_errors.specs.Output.{HasSinkFailed};
 ghost use Rattle.plan_cli.specs.Tasks.{DoesTask, AreRead, bytes_behind};
-ghost use Rattle.plan_cli.specs.ListedTasks.{DoesListed};
-ghost use Rattle.plan_cli.specs.DatedTasks.{DoesDated, DoesDatedListed};
+ghost use Rattle.plan_cli.specs.NamedTexts.{DoesTexts};
 
-use crate::dated_tasks::{listed_with_holidays, with_holidays};
 use crate::inputs::{Inputs, SystemInputs};
-use crate::listed_tasks::{ListedTask, with_starts};
+use crate::named_texts::{NamedText, with_text};
 use crate::runs::run_task;
 use crate::tasks::{Rows, Task};
 use crate::watchers::{Log, ProofWatcher, SolveWatcher, Unlogged, Unwatched};
@@ -50,9 +48,9 @@ pub fn run_on_named<I: Inputs, W: Sink, V: ProofWatcher + SolveWatcher, L: Log>(
     run_task(alloc, task, rows, watcher, log, &mut reader, writer)
 }
 
-// Reads the file with this name, or standard input if the name is `-`: at most one byte more than
-// the longest text has.
-fn read_named<I: Inputs>(alloc: Global, inputs: &I, name: &str) -> Result<Vec<u8>, CliFault>
+/// Reads the file with this name, or standard input if the name is `-`: at most one byte more than
+/// the longest text has. A file that can't be opened or read is [`CliFault::Input`].
+pub fn read_named<I: Inputs>(alloc: Global, inputs: &I, name: &str) -> Result<Vec<u8>, CliFault>
     ensures short { IfOk result (λ bytes. length bytes.items ≤ longest_text + 1) }
     ensures bytes { IfOk result (λ read.
         AreRead read.items (bytes_behind I.Inputs inputs.now name.now)) }
@@ -64,57 +62,20 @@ fn read_named<I: Inputs>(alloc: Global, inputs: &I, name: &str) -> Result<Vec<u8
     read_file(alloc, &mut inputs.open(name)?)
 }
 
-/// Runs a task on the file of a project or a job shop and a file of starts. One name may be `-` for
-/// standard input. The file of the starts is read first. A file that can't be opened or read is
-/// [`CliFault::Input`].
-pub fn listed_on_named<I: Inputs, W: Sink>(
-    alloc: Global,
-    inputs: &I,
-    task: ListedTask<'_>,
-    rows: Rows,
-    path: &str,
-    starts_path: &str,
-    writer: &mut W,
-) -> Result<(), CliFault>
-    // The text of the task is written for the starts in the one file and the project in the other.
-    ensures does { DoesListed task.entry rows
-        (bytes_behind I.Inputs inputs.now starts_path.now)
-        (bytes_behind I.Inputs inputs.now path.now)
-        (W.taken writer.old) (W.taken writer.new) result }
-    ensures writes { W.calls writer.new ≤ W.calls writer.old + most_calls }
-    // With any other error than that of the output, nothing is written.
-    ensures quiet { IfErr result (λ e. (e ≡ CliFault.Output) ⊎ (writer.new ≡ writer.old)) }
-    ensures fine { OnOk result (W.faults writer.new ≡ W.faults writer.old) }
-    ensures output { IsErrOf result CliFault.Output → HasSinkFailed W.Sink writer.old writer.new }
-{
-    let starts = read_named(alloc, inputs, starts_path)?;
-    run_on_named(
-        alloc,
-        inputs,
-        with_starts(task, &starts),
-        rows,
-        &mut Unwatched,
-        &mut Unlogged,
-        path,
-        writer,
-    )
-}
-
-/// Runs a task on a file with the holidays in another file, one of which may be `-` for standard
-/// input. The file of the holidays is read first. A file that can't be opened or read is
-/// [`CliFault::Input`].
-pub fn dated_on_named<I: Inputs, W: Sink>(
+/// Runs a task on a file and on the files of texts with a role in the task. One of all names may
+/// be `-` for standard input. The texts are read first, in their order. Each replaces the text with
+/// its role in the task. A file that can't be opened or read is [`CliFault::Input`].
+pub fn run_on_texts<I: Inputs, W: Sink>(
     alloc: Global,
     inputs: &I,
     task: Task<'_>,
     rows: Rows,
+    texts: &[NamedText<'_>],
     path: &str,
-    holidays_path: &str,
     writer: &mut W,
 ) -> Result<(), CliFault>
-    // The text of the task is written for the holidays in the one file and the bytes of the other.
-    ensures does { DoesDated task.entry rows
-        (bytes_behind I.Inputs inputs.now holidays_path.now)
+    // The text of the task is written for the bytes of all files.
+    ensures does { DoesTexts (bytes_behind I.Inputs inputs.now) task.entry rows texts.now
         (bytes_behind I.Inputs inputs.now path.now)
         (W.taken writer.old) (W.taken writer.new) result }
     ensures writes { W.calls writer.new ≤ W.calls writer.old + most_calls }
@@ -123,54 +84,21 @@ pub fn dated_on_named<I: Inputs, W: Sink>(
     ensures fine { OnOk result (W.faults writer.new ≡ W.faults writer.old) }
     ensures output { IsErrOf result CliFault.Output → HasSinkFailed W.Sink writer.old writer.new }
 {
-    let holidays = read_named(alloc, inputs, holidays_path)?;
-    run_on_named(
-        alloc,
-        inputs,
-        with_holidays(task, &holidays),
-        rows,
-        &mut Unwatched,
-        &mut Unlogged,
-        path,
-        writer,
-    )
-}
-
-/// Runs a task on a file and a file of starts with the holidays in a third file, one of which may
-/// be `-` for standard input. The file of the holidays is read first, then that of the starts. A
-/// file that can't be opened or read is [`CliFault::Input`].
-pub fn dated_listed_on_named<I: Inputs, W: Sink>(
-    alloc: Global,
-    inputs: &I,
-    task: ListedTask<'_>,
-    rows: Rows,
-    path: &str,
-    starts_path: &str,
-    holidays_path: &str,
-    writer: &mut W,
-) -> Result<(), CliFault>
-    // The text of the task is written for the holidays, the starts and the bytes in the files.
-    ensures does { DoesDatedListed task.entry rows
-        (bytes_behind I.Inputs inputs.now holidays_path.now)
-        (bytes_behind I.Inputs inputs.now starts_path.now)
-        (bytes_behind I.Inputs inputs.now path.now)
-        (W.taken writer.old) (W.taken writer.new) result }
-    ensures writes { W.calls writer.new ≤ W.calls writer.old + most_calls }
-    // With any other error than that of the output, nothing is written.
-    ensures quiet { IfErr result (λ e. (e ≡ CliFault.Output) ⊎ (writer.new ≡ writer.old)) }
-    ensures fine { OnOk result (W.faults writer.new ≡ W.faults writer.old) }
-    ensures output { IsErrOf result CliFault.Output → HasSinkFailed W.Sink writer.old writer.new }
-{
-    let holidays = read_named(alloc, inputs, holidays_path)?;
-    listed_on_named(
-        alloc,
-        inputs,
-        listed_with_holidays(task, &holidays),
-        rows,
-        path,
-        starts_path,
-        writer,
-    )
+    let [first, rest @ ..] = texts else {
+        return run_on_named(
+            alloc,
+            inputs,
+            task,
+            rows,
+            &mut Unwatched,
+            &mut Unlogged,
+            path,
+            writer,
+        );
+    };
+    let text = read_named(alloc, inputs, first.name)?;
+    let task = with_text(task, first.role, &text);
+    run_on_texts(alloc, inputs, task, rows, rest, path, writer)
 }
 
 /// Calls [`run_on_named`] with the system's files and standard input.
@@ -203,46 +131,17 @@ pub fn run_on_file<R: Files + Input + AllocGlobal, W: Sink, V: ProofWatcher + So
     )
 }
 
-/// Calls [`listed_on_named`] with the system's files and standard input.
-pub fn listed_on_files<R: Files + Input + AllocGlobal, W: Sink>(
-    rt: &R,
-    task: ListedTask<'_>,
-    rows: Rows,
-    path: &str,
-    starts_path: &str,
-    writer: &mut W,
-) -> Result<(), CliFault>
-    // The text of the task is written for the starts and the project that were read.
-    ensures does { DoesListed task.entry rows None None
-        (W.taken writer.old) (W.taken writer.new) result }
-    ensures writes { W.calls writer.new ≤ W.calls writer.old + most_calls }
-    // With any other error than that of the output, nothing is written.
-    ensures quiet { IfErr result (λ e. (e ≡ CliFault.Output) ⊎ (writer.new ≡ writer.old)) }
-    ensures fine { OnOk result (W.faults writer.new ≡ W.faults writer.old) }
-    ensures output { IsErrOf result CliFault.Output → HasSinkFailed W.Sink writer.old writer.new }
-{
-    listed_on_named(
-        rt.alloc(),
-        &SystemInputs::new(rt),
-        task,
-        rows,
-        path,
-        starts_path,
-        writer,
-    )
-}
-
-/// Calls [`dated_on_named`] with the system's files and standard input.
-pub fn dated_on_files<R: Files + Input + AllocGlobal, W: Sink>(
+/// Calls [`run_on_texts`] with the system's files and standard input.
+pub fn run_on_files<R: Files + Input + AllocGlobal, W: Sink>(
     rt: &R,
     task: Task<'_>,
     rows: Rows,
+    texts: &[NamedText<'_>],
     path: &str,
-    holidays_path: &str,
     writer: &mut W,
 ) -> Result<(), CliFault>
-    // The text of the task is written for the holidays and the bytes that were read.
-    ensures does { DoesDated task.entry rows None None
+    // The text of the task is written for the bytes that were read.
+    ensures does { DoesTexts (λ name. None) task.entry rows texts.now None
         (W.taken writer.old) (W.taken writer.new) result }
     ensures writes { W.calls writer.new ≤ W.calls writer.old + most_calls }
     // With any other error than that of the output, nothing is written.
@@ -250,44 +149,13 @@ pub fn dated_on_files<R: Files + Input + AllocGlobal, W: Sink>(
     ensures fine { OnOk result (W.faults writer.new ≡ W.faults writer.old) }
     ensures output { IsErrOf result CliFault.Output → HasSinkFailed W.Sink writer.old writer.new }
 {
-    dated_on_named(
+    run_on_texts(
         rt.alloc(),
         &SystemInputs::new(rt),
         task,
         rows,
+        texts,
         path,
-        holidays_path,
-        writer,
-    )
-}
-
-/// Calls [`dated_listed_on_named`] with the system's files and standard input.
-pub fn dated_listed_on_files<R: Files + Input + AllocGlobal, W: Sink>(
-    rt: &R,
-    task: ListedTask<'_>,
-    rows: Rows,
-    path: &str,
-    starts_path: &str,
-    holidays_path: &str,
-    writer: &mut W,
-) -> Result<(), CliFault>
-    // The text of the task is written for the holidays, the starts and the bytes that were read.
-    ensures does { DoesDatedListed task.entry rows None None None
-        (W.taken writer.old) (W.taken writer.new) result }
-    ensures writes { W.calls writer.new ≤ W.calls writer.old + most_calls }
-    // With any other error than that of the output, nothing is written.
-    ensures quiet { IfErr result (λ e. (e ≡ CliFault.Output) ⊎ (writer.new ≡ writer.old)) }
-    ensures fine { OnOk result (W.faults writer.new ≡ W.faults writer.old) }
-    ensures output { IsErrOf result CliFault.Output → HasSinkFailed W.Sink writer.old writer.new }
-{
-    dated_listed_on_named(
-        rt.alloc(),
-        &SystemInputs::new(rt),
-        task,
-        rows,
-        path,
-        starts_path,
-        holidays_path,
         writer,
     )
 }

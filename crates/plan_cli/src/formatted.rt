@@ -24,12 +24,13 @@ fn shape_of(task: Task<'_>) -> Option<Shape>
         Task::Days { .. } | Task::ShopDays { .. } => Some(Shape::Days),
         Task::Names => Some(Shape::Names),
         Task::Check { .. } | Task::ShopCheck { .. } => Some(Shape::Verdict),
+        Task::Compare { .. } | Task::ShopCompare { .. } => Some(Shape::Comparison),
         _ => None,
     }
 }
 
-// Returns a table in a format. If there are names, it has a column with them.
-fn shaped(
+/// Returns a table in a format. If there are names, it has a column with them.
+pub(crate) fn shaped(
     alloc: Global,
     shape: Shape,
     format: Format,

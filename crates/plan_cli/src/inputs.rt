@@ -35,7 +35,7 @@ pub trait Inputs {
 
 /// The files and the standard input of the system. Their bytes are unknown to contracts.
 #[derive(Drop)]
-pub(crate) struct SystemInputs<'a, R> {
+pub struct SystemInputs<'a, R> {
     rt: &'a R,
 }
 
@@ -52,7 +52,8 @@ fn open_fault(error: &io::Error) -> CliFault
 }
 
 impl<'a, R> SystemInputs<'a, R> {
-    pub(crate) fn new(rt: &'a R) -> SystemInputs<'a, R> {
+    /// Returns the inputs of this runtime.
+    pub fn new(rt: &'a R) -> SystemInputs<'a, R> {
         SystemInputs { rt }
     }
 }

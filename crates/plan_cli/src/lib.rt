@@ -4,13 +4,14 @@
 mod calendars;
 mod capacities;
 mod charts;
-mod dated_tasks;
+mod comparisons;
 mod days;
+mod explanations;
 mod files;
 mod formatted;
 mod imports;
 mod inputs;
-mod listed_tasks;
+mod named_texts;
 mod names;
 mod origins;
 mod projects;
@@ -31,17 +32,19 @@ mod turns;
 mod verdicts;
 mod watchers;
 
-pub use calendars::Dates;
-pub use capacities::Capacity;
-pub use files::{
-    dated_listed_on_files, dated_listed_on_named, dated_on_files, dated_on_named, listed_on_files,
-    listed_on_named, run_on_file, run_on_named,
-};
-pub use inputs::Inputs;
-pub use listed_tasks::ListedTask;
+pub use calendars::{Dates, calendar_of};
+pub use capacities::{Capacity, replaced};
+pub use comparisons::Pair;
+pub use explanations::explain_run_in;
+pub use files::{read_named, run_on_file, run_on_files, run_on_named, run_on_texts};
+pub use inputs::{Inputs, SystemInputs};
+pub use named_texts::{NamedText, Role};
 pub use origins::Origin;
 pub use plan_errors::{CliFault, explain_run, hint};
+pub use projects::{instance_with, read_project, schedule_from};
+pub use refusals::days_refusal;
 pub use runs::{best_project_run, best_run, cpm_run, run_task, schedule_run, shop_run};
+pub use shops::{read_instance, shop_schedule_from};
 pub use tasks::{Rows, Task};
 pub use templates::{Template, template_run};
 pub use watchers::{Log, ProofWatcher, SolveWatcher, Unlogged, Unwatched};

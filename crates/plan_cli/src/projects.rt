@@ -21,7 +21,7 @@ use plan_sgs::{Instance, Rule, Schedule, serial};
 use std::alloc::Global;
 
 /// Reads the project in a file.
-pub(crate) fn read_project(alloc: Global, file: &[u8]) -> Result<ProjectDoc, CliFault>
+pub fn read_project(alloc: Global, file: &[u8]) -> Result<ProjectDoc, CliFault>
     ensures said { IfOk result (SaysProject file.now) }
     ensures refused { IfErr result (Refuses (TellsFirstFailing file.now)) }
 {
@@ -29,7 +29,7 @@ pub(crate) fn read_project(alloc: Global, file: &[u8]) -> Result<ProjectDoc, Cli
 }
 
 /// Returns the instance of a project with these capacities.
-pub(crate) fn instance_with<'a>(
+pub fn instance_with<'a>(
     alloc: Global,
     project: &'a ProjectDoc,
     capacities: &'a [u64],
@@ -107,7 +107,7 @@ fn schedule_listed(
 }
 
 /// Returns the schedule of a project with these capacities.
-pub(crate) fn schedule_from(
+pub fn schedule_from(
     alloc: Global,
     origin: Origin<'_>,
     project: &ProjectDoc,

@@ -76,7 +76,7 @@ pub(crate) fn holiday_refusal(alloc: Global, fault: HolidayFault) -> CliFault
 }
 
 /// Returns the error of a table of working days.
-pub(crate) fn days_refusal(alloc: Global, fault: DaysFault) -> CliFault
+pub fn days_refusal(alloc: Global, fault: DaysFault) -> CliFault
     ensures { Refuses (TellsDaysFault fault) result }
 {
     match fault {

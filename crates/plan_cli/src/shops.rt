@@ -1,10 +1,6 @@
 //! Job shops that are read from files, and their schedules by a priority rule.
 
-ghost use Rattle.std.specs.Prelude.{◌≡◌, ◌≤◌, All, IfOk, IfErr, length};
-ghost use Rattle.plan_profile.specs.Usage.{IsInTime};
-ghost use Rattle.plan_sgs.specs.Problem.{makespan};
-ghost use Rattle.plan_shop.specs.Shop.{count_steps, problem_of};
-ghost use Rattle.plan_gantt.specs.Limits.{latest_end};
+ghost use Rattle.std.specs.Prelude.{◌≡◌, IfOk, IfErr};
 ghost use Rattle.plan_orlib.specs.Says.{Says};
 ghost use Rattle.plan_shop.specs.Docs.{shop_of};
 ghost use Rattle.plan_gantt.specs.FirstFaults.{TellsFirstShopFault};
@@ -20,12 +16,13 @@ use crate::starts::read_shop_starts;
 use crate::verdicts::check_shop_feasible;
 use plan_errors::CliFault;
 use plan_orlib::{ShopDoc, read_shop};
+use plan_report::shop_makespan_of;
 use plan_sgs::Schedule;
 use plan_shop::{Shop, ShopFault, ShopRule, giffler};
 use std::alloc::Global;
 
 /// Reads the job shop of an instance in a file.
-pub(crate) fn read_instance(alloc: Global, instance: &str, file: &[u8]) -> Result<ShopDoc, CliFault>
+pub fn read_instance(alloc: Global, instance: &str, file: &[u8]) -> Result<ShopDoc, CliFault>
     ensures said { IfOk result (Says instance.now file.now) }
     ensures refused { IfErr result (Refuses (TellsFirstShopFault instance.now file.now)) }
 {
@@ -72,20 +69,6 @@ pub(crate) fn shop_schedule_by(
     Ok((shop, schedule))
 }
 
-// Returns the makespan of starts of a job shop.
-fn makespan_of(shop: &Shop, starts: &[u64]) -> u64
-    requires whole { length starts.now ≡ count_steps shop.now }
-    requires limit { All IsInTime starts.now }
-    ensures value { result ≡ makespan (problem_of shop.now) starts.now }
-    ensures ends { result ≤ latest_end }
-{
-    let mut latest = 0u64;
-    for x in 0..shop.jobs() * shop.machines() {
-        latest = latest.max(starts[x as usize] + shop.step(x).time);
-    }
-    latest
-}
-
 // Returns the schedule of a job shop with the starts in a text.
 fn listed_schedule(alloc: Global, listed: &[u8], shop: &Shop) -> Result<Schedule, CliFault>
     ensures listed { IfOk result (λ schedule.
@@ -95,7 +78,7 @@ fn listed_schedule(alloc: Global, listed: &[u8], shop: &Shop) -> Result<Schedule
 {
     let starts = read_shop_starts(alloc, shop, listed)?;
     check_shop_feasible(alloc, shop, &starts)?;
-    let makespan = makespan_of(shop, &starts);
+    let makespan = shop_makespan_of(shop, &starts);
     Ok(Schedule { starts, makespan })
 }
 
@@ -118,7 +101,7 @@ fn shop_schedule_listed(
 }
 
 /// Returns the job shop of a file with all machines open, and its schedule.
-pub(crate) fn shop_schedule_from(
+pub fn shop_schedule_from(
     alloc: Global,
     origin: Origin<'_>,
     doc: &ShopDoc,

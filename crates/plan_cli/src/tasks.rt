@@ -8,6 +8,7 @@ ghost use Rattle.plan_cli.specs.Tasks.{IsFormattedText, IsTextOf, IsLineOf, Show
 use crate::calendars::Dates;
 use crate::capacities::Capacity;
 use crate::charts::{chart_text, shop_chart_text};
+use crate::comparisons::{Pair, comparison_text, shop_comparison_text};
 use crate::days::{days_text, shop_days_text};
 use crate::formatted::formatted;
 use crate::imports::{import_text, shop_import_text};
@@ -94,6 +95,19 @@ pub enum Task<'a> {
     Slack {
         starts: &'a [u8],
         capacities: &'a [Capacity<'a>],
+    },
+    /// The comparison of two schedules A and B: a line for each activity with both starts and the
+    /// shift from A to B, and for each schedule its makespan and the verdict of [`Task::Check`].
+    /// Errors: those of [`Task::Check`] for A, then for B; the line ends with `of the starts A` or
+    /// `of the starts B`.
+    Compare {
+        starts: Pair<'a>,
+        capacities: &'a [Capacity<'a>],
+    },
+    /// The same for a job shop: a line for each step.
+    ShopCompare {
+        starts: Pair<'a>,
+        instance: &'a str,
     },
     /// The schedule table of a job shop by a rule: `spt`, `mwkr` or `fcfs` (Giffler and Thompson
     /// 1960). Error: `S3`.
@@ -208,6 +222,12 @@ fn text_of<V: ProofWatcher + SolveWatcher, L: Log>(
         Task::Slack { starts, capacities } => Ok(slacks_text(
             alloc, starts, capacities, file,
         )?.into_bytes()),
+        Task::Compare { starts, capacities } => Ok(comparison_text(
+            alloc, starts, capacities, file,
+        )?.into_bytes()),
+        Task::ShopCompare { starts, instance } => Ok(shop_comparison_text(
+            alloc, starts, instance, file,
+        )?.into_bytes()),
         Task::Best { budget, instance } => Ok(shop_best_text(
             alloc, budget, instance, file,
         )?.into_bytes()),
@@ -234,10 +254,12 @@ fn names_for<'a>(
         | Task::Chart { .. }
         | Task::Days { .. }
         | Task::Slack { .. }
+        | Task::Compare { .. }
         | Task::BestProject { .. }
         | Task::Solve { .. } => activity_names(alloc, file),
         Task::Shop { instance, .. }
         | Task::ShopDays { instance, .. }
+        | Task::ShopCompare { instance, .. }
         | Task::Best { instance, .. }
         | Task::Prove { instance, .. }
         | Task::SolveShop { instance, .. } => order_names(alloc, file, instance.as_bytes()),

@@ -65,8 +65,9 @@ fn no_code(alloc: Global) -> CliFault
     refusal_by("C1 unknown code".to_string(alloc))
 }
 
-// Returns the text that explains an error line.
-fn explanation_text(alloc: Global, line: &str) -> Result<String, CliFault>
+/// Returns the text that explains an error line: the entry of the code that starts it, in capitals
+/// or not, and the entry of the error that it carries. Any other text is refused with `C1`.
+pub fn explanation_text(alloc: Global, line: &str) -> Result<String, CliFault>
     ensures text { IfOk result (λ text. Explains line.now (string_bytes text)) }
     ensures refused { IfErr result (Refuses (TellsNoCode line.now)) }
 {

@@ -9,6 +9,6 @@ mod fault;
 mod hints;
 
 pub use bytes::{read_file, write_text};
-pub use explanation::explain_run;
+pub use explanation::{explain_run, explanation_text};
 pub use fault::{CliFault, refusal_by};
 pub use hints::hint;

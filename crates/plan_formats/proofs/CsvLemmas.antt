@@ -59,6 +59,7 @@ have_fields shape.Dates columns texts = have_table shape.Dates columns texts
 have_fields shape.Schedule columns texts = have_table shape.Schedule columns texts
 have_fields shape.Solution columns texts = have_table shape.Solution columns texts
 have_fields shape.Days columns texts = have_table shape.Days columns texts
+have_fields shape.Comparison columns texts = have_table shape.Comparison columns texts
 have_fields shape.Names columns texts = have_lines texts
 have_fields shape.Verdict columns texts = have_lines texts
 have_fields shape.Explanation columns texts = have_entries (slice_split is_empty_line texts)

@@ -1,5 +1,5 @@
 -- The values of tables and of error lines have no float and are nested a few levels deep.
-use Rattle.std.proofs.Common.{ℕ, suc, ◌≡◌, ◌≤◌, Bool, true, false, if◌then◌else◌, List, [], ◌∷◌, Option, Some, None, Ordering, Less, Equal, Greater, map, fold, codes, length, drop, refl, sym, ap, ◌∙◌}
+use Rattle.std.proofs.Common.{ℕ, zero, suc, ◌≡◌, ◌≤◌, Bool, true, false, if◌then◌else◌, List, [], ◌∷◌, Option, Some, None, Ordering, Less, Equal, Greater, map, fold, codes, length, drop, refl, sym, ap, ◌∙◌}
 use Rattle.std.proofs.Common.{subst, true≢false, eqb, Result, IfOk, arith}
 use Rattle.std.proofs.lemmas.List.{drop_all}
 use Rattle.std.specs.Cmp.Lexicographic.{slice_cmp}
@@ -11,7 +11,7 @@ use Rattle.serde_json.specs.Written.{has_float, members_have_float, items_have_f
 use Rattle.serde_json.specs.View.{items_of, items_view}
 use Rattle.serde_json.specs.declared.value.Value.{Value}
 use Rattle.plan_psplib.specs.Lines.{words}
-use Rattle.plan_formats.specs.Cells.{Cell, number, text, flag, empty, value_of}
+use Rattle.plan_formats.specs.Cells.{Cell, number, below, text, flag, empty, value_of}
 use Rattle.plan_formats.specs.Tables.{Member, Table, cells_of}
 use Rattle.plan_formats.specs.JsonText.{IsLineOf}
 use Rattle.plan_formats.specs.declared.cell.Cell as declared
@@ -64,6 +64,8 @@ put_fits n k d (member l e ms) fit rest =
 
 cell_fits : (n : ℕ) (cell : Cell) → Fits n (value_of cell)
 cell_fits n (number k) = (refl, omega arith)
+cell_fits n (below zero) = (refl, omega arith)
+cell_fits n (below (suc k)) = (refl, omega arith)
 cell_fits n (text t) = (refl, omega arith)
 cell_fits n (flag b) = (refl, omega arith)
 cell_fits n empty = (refl, omega arith)

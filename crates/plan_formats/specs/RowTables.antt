@@ -1,13 +1,13 @@
 -- Tables of rows (docs/definitions.md, "Formats").
-use Rattle.std.specs.Prelude.{ℕ, ◌&&◌, Bool, not, if◌then◌else◌, List, [], ◌∷◌, ◌++◌, map, filter}
-use Rattle.std.specs.Prelude.{bytes_eq, codes}
-use Rattle.std.specs.List.{list_any}
+use Rattle.std.specs.Prelude.{ℕ, ◌==◌, ◌&&◌, Bool, not, if◌then◌else◌, List, [], ◌∷◌, ◌++◌}
+use Rattle.std.specs.Prelude.{map, filter, bytes_eq, codes}
+use Rattle.std.specs.List.{list_any, slice_split}
 use Rattle.plan_psplib.specs.Lines.{words}
-use Rattle.plan_formats.specs.Cells.{Cell, flag, empty, cell_of_word}
+use Rattle.plan_formats.specs.Cells.{Cell, text, flag, empty, cell_of_word}
 use Rattle.plan_formats.specs.Tables.{Member, Table, or_one}
 use Rattle.plan_formats.specs.NameColumns.{NameColumn, with_names}
 use Rattle.plan_formats.specs.Shapes.{has_marks}
-use Rattle.plan_formats.specs.Parts.{bounds_line, head_line, row_lines, total_line}
+use Rattle.plan_formats.specs.Parts.{bounds_line, head_line, row_lines, summary_line, total_line}
 use Rattle.plan_formats.specs.declared.shape.Shape.{Shape}
 
 -- the word `*` in a table whose rows may have a mark
@@ -74,10 +74,40 @@ total [] = []
 total (_ ∷ []) = []
 total (name ∷ value ∷ _) = word_member name value
 
+-- the makespan in the words of the front of a summary: a name, `makespan`, and the number
+abbrev pub makespan_member : List ℕ → List (List ℕ) → List Member
+makespan_member title (_ ∷ _ ∷ value ∷ _) = word_member title value
+makespan_member title _ = []
+
+-- the text behind the blank at its front
+abbrev pub behind_blank : List ℕ → List ℕ
+behind_blank [] = []
+behind_blank (_ ∷ rest) = rest
+
+abbrev pub text_member : List ℕ → List ℕ → List Member
+text_member name value = record { name = name; cell = text value } ∷ []
+
+-- the makespan and the verdict in the parts of a summary
+abbrev pub summary_members : List ℕ → List ℕ → List (List ℕ) → List Member
+summary_members makespan verdict (front ∷ behind ∷ _) =
+    makespan_member makespan (words front) ++ text_member verdict (behind_blank behind)
+summary_members makespan verdict _ = []
+
+-- the summary of a schedule: its parts stand on both sides of the colon, whose code is 58
+abbrev pub summary : List ℕ → List ℕ → List ℕ → List Member
+summary makespan verdict line =
+    summary_members makespan verdict (slice_split (λ byte. byte == 58) line)
+
+-- the summaries of the schedules A and B
+abbrev pub summaries : Shape → List (List ℕ) → List Member
+summaries shape texts =
+    summary (codes "makespan_A") (codes "verdict_A") (summary_line shape texts 2)
+    ++ summary (codes "makespan_B") (codes "verdict_B") (summary_line shape texts 1)
+
 -- the named values of a table
 abbrev pub members : Shape → List (List ℕ) → List Member
-members shape texts =
-    bounds (words (bounds_line shape texts)) ++ total (words (total_line shape texts))
+members shape texts = bounds (words (bounds_line shape texts))
+    ++ total (words (total_line shape texts)) ++ summaries shape texts
 
 -- the table that lines print
 abbrev pub row_table : Shape → List NameColumn → List (List ℕ) → Table

@@ -10,6 +10,7 @@ has_bounds shape.Schedule = false
 has_bounds shape.Solution = true
 has_bounds shape.Days = false
 has_bounds shape.Names = false
+has_bounds shape.Comparison = false
 has_bounds shape.Verdict = false
 has_bounds shape.Explanation = false
 
@@ -20,6 +21,7 @@ has_marks shape.Schedule = false
 has_marks shape.Solution = false
 has_marks shape.Days = false
 has_marks shape.Names = false
+has_marks shape.Comparison = false
 has_marks shape.Verdict = false
 has_marks shape.Explanation = false
 
@@ -30,5 +32,17 @@ has_total shape.Schedule = true
 has_total shape.Solution = true
 has_total shape.Days = false
 has_total shape.Names = false
+has_total shape.Comparison = false
 has_total shape.Verdict = false
 has_total shape.Explanation = false
+
+-- the last two lines have the makespans and the verdicts of two schedules
+abbrev pub has_summaries : Shape → Bool
+has_summaries shape.Dates = false
+has_summaries shape.Schedule = false
+has_summaries shape.Solution = false
+has_summaries shape.Days = false
+has_summaries shape.Names = false
+has_summaries shape.Comparison = true
+has_summaries shape.Verdict = false
+has_summaries shape.Explanation = false

@@ -14,6 +14,7 @@ table_of_lines shape.Dates columns texts = row_table shape.Dates columns texts
 table_of_lines shape.Schedule columns texts = row_table shape.Schedule columns texts
 table_of_lines shape.Solution columns texts = row_table shape.Solution columns texts
 table_of_lines shape.Days columns texts = row_table shape.Days columns texts
+table_of_lines shape.Comparison columns texts = row_table shape.Comparison columns texts
 table_of_lines shape.Names columns texts = line_table (codes "name") texts
 table_of_lines shape.Verdict columns texts = line_table (codes "verdict") texts
 table_of_lines shape.Explanation columns texts = entry_table texts

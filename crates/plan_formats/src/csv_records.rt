@@ -1,6 +1,6 @@
 //! Tables as CSV.
 
-ghost use Rattle.std.specs.Prelude.{◌≡◌, ◌++◌, ◌∷◌, [], map, decimal, IfOk, OnOk};
+ghost use Rattle.std.specs.Prelude.{◌≡◌, ◌++◌, ◌∷◌, [], codes, map, decimal, IfOk, OnOk};
 ghost use Rattle.csv.specs.Records.{fields_of, partial_of};
 ghost use Rattle.csv.specs.Writing.{default_writer, row_text};
 ghost use Rattle.plan_formats.specs.Cells.{cell_of, field_of};
@@ -45,6 +45,17 @@ fn push_number(alloc: Global, row: &mut ByteRecord, n: u64) -> Result<(), AllocE
     row.push_field(text.as_bytes())
 }
 
+// Appends a number below 0 as a field.
+fn push_below(alloc: Global, row: &mut ByteRecord, n: u32) -> Result<(), AllocError>
+    requires { partial_of row.old ≡ [] }
+    ensures fields { OnOk result (fields_of row.new
+        ≡ fields_of row.old ++ (codes "-" ++ decimal n) ∷ []) }
+    ensures whole { OnOk result (partial_of row.new ≡ []) }
+{
+    let text = format!(in alloc; "-{n}")?;
+    row.push_field(text.as_bytes())
+}
+
 // Appends a cell as a field.
 fn push_cell(alloc: Global, row: &mut ByteRecord, cell: &Cell<'_>) -> Result<(), AllocError>
     requires { partial_of row.old ≡ [] }
@@ -54,6 +65,7 @@ fn push_cell(alloc: Global, row: &mut ByteRecord, cell: &Cell<'_>) -> Result<(),
 {
     match cell {
         Cell::Number(n) => push_number(alloc, row, *n),
+        Cell::Below(n) => push_below(alloc, row, *n),
         Cell::Text(text) => row.push_field(text),
         Cell::Flag(true) => row.push_field(b"true"),
         Cell::Flag(false) => row.push_field(b"false"),

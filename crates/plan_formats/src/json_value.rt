@@ -17,6 +17,7 @@ fn cell_value(alloc: Global, cell: &Cell<'_>) -> Result<Value, AllocError>
 {
     Ok(match cell {
         Cell::Number(n) => Value::from(*n),
+        Cell::Below(n) => Value::from(-i64::from(*n)),
         Cell::Text(text) => Value::String(String::from_utf8_lossy(alloc, text)?),
         Cell::Flag(flag) => Value::Bool(*flag),
         Cell::Empty => Value::Null,

@@ -72,13 +72,36 @@ pub(crate) fn total_line<'a>(shape: Shape, lines: &[&'a [u8]]) -> &'a [u8]
     }
 }
 
+/// Returns the line with a summary, this many lines before the end. It is empty if the shape has no
+/// summaries.
+pub(crate) fn summary_line<'a>(shape: Shape, lines: &[&'a [u8]], back: usize) -> &'a [u8]
+    ensures { result.now ≡ spec.summary_line shape (map (λ line. line.now) lines.now) back }
+{
+    if shape.has_summaries() {
+        line_at(lines, lines.len().saturating_sub(back))
+    } else {
+        &[]
+    }
+}
+
+// Returns the number of lines behind the rows.
+fn count_behind(shape: Shape) -> usize
+    ensures { result ≡ spec.count_behind shape }
+{
+    if shape.has_summaries() {
+        2
+    } else {
+        usize::from(shape.has_total())
+    }
+}
+
 /// Returns the lines with the rows.
 pub(crate) fn row_lines<'s, 'a>(shape: Shape, lines: &'s [&'a [u8]]) -> &'s [&'a [u8]]
     ensures { map (λ line. line.now) result.now
         ≡ spec.row_lines shape (map (λ line. line.now) lines.now) }
 {
     let from = usize::from(shape.has_bounds()) + 1;
-    let end = lines.len().saturating_sub(usize::from(shape.has_total()));
+    let end = lines.len().saturating_sub(count_behind(shape));
     if end < from {
         return &[];
     }

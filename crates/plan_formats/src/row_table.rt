@@ -1,6 +1,7 @@
 //! Tables of rows.
 
-ghost use Rattle.std.specs.Prelude.{◌≡◌, ◌++◌, map, IfOk, OnOk};
+ghost use Rattle.std.specs.Prelude.{◌≡◌, ◌==◌, ◌++◌, map, IfOk, OnOk};
+ghost use Rattle.std.specs.List.{slice_split};
 ghost use Rattle.plan_psplib.specs.Lines.{words};
 ghost use Rattle.plan_formats.specs.Tables.{cells_of, member_of, rows_of, table_of};
 ghost use Rattle.plan_formats.specs.NameColumns.{column_of};
@@ -8,7 +9,7 @@ ghost use Rattle.plan_formats.specs.RowTables as spec;
 
 use crate::cell::{Cell, cell_of_word};
 use crate::name_columns::{NameColumn, push_names};
-use crate::parts::{bounds_line, head_line, row_lines, total_line, words_of};
+use crate::parts::{bounds_line, head_line, row_lines, summary_line, total_line, words_of};
 use crate::shape::Shape;
 use crate::table::{Member, Table};
 use std::alloc::{AllocError, Global};
@@ -206,6 +207,99 @@ fn push_total<'a>(members: &mut Vec<Member<'a>>, words: &[&'a [u8]]) -> Result<(
     }
 }
 
+// Appends the makespan that the words of the front of a summary give.
+fn push_makespan<'a>(
+    members: &mut Vec<Member<'a>>,
+    title: &'a [u8],
+    words: &[&'a [u8]],
+) -> Result<(), AllocError>
+    ensures { OnOk result (map member_of members.new.items ≡ map member_of members.old.items
+        ++ spec.makespan_member title.now (map (λ word. word.now) words.now)) }
+{
+    match words {
+        [_, _, value, ..] => push_member(members, title, value),
+        _ => Ok(()),
+    }
+}
+
+// Appends a named text: all bytes but the blank at the front.
+fn push_behind<'a>(
+    members: &mut Vec<Member<'a>>,
+    name: &'a [u8],
+    behind: &'a [u8],
+) -> Result<(), AllocError>
+    ensures { OnOk result (map member_of members.new.items ≡ map member_of members.old.items
+        ++ spec.text_member name.now (spec.behind_blank behind.now)) }
+{
+    let text = match behind {
+        [_, rest @ ..] => rest,
+        [] => behind,
+    };
+    let cell = Cell::Text(text);
+    members.push(Member { name, cell })?;
+    Ok(())
+}
+
+// Returns the parts of a line on both sides of a colon.
+fn parts<'a>(alloc: Global, line: &'a [u8]) -> Result<Vec<&'a [u8]>, AllocError>
+    ensures { IfOk result (λ parts. map (λ part. part.now) parts.items
+        ≡ slice_split (λ byte. byte == 58) line.now) }
+{
+    line.split(|byte| *byte == b':').collect(alloc)
+}
+
+// Appends the makespan and the verdict that the parts of a summary give.
+fn push_parts<'a>(
+    alloc: Global,
+    members: &mut Vec<Member<'a>>,
+    makespan: &'a [u8],
+    verdict: &'a [u8],
+    parts: &[&'a [u8]],
+) -> Result<(), AllocError>
+    ensures { OnOk result (map member_of members.new.items ≡ map member_of members.old.items
+        ++ spec.summary_members makespan.now verdict.now (map (λ part. part.now) parts.now)) }
+{
+    match parts {
+        [front, behind, ..] => {
+            let words = words_of(alloc, front)?;
+            push_makespan(members, makespan, &words)?;
+            push_behind(members, verdict, behind)
+        }
+        _ => Ok(()),
+    }
+}
+
+// Appends the makespan and the verdict that a summary gives.
+fn push_summary<'a>(
+    alloc: Global,
+    members: &mut Vec<Member<'a>>,
+    makespan: &'a [u8],
+    verdict: &'a [u8],
+    line: &'a [u8],
+) -> Result<(), AllocError>
+    ensures { OnOk result (map member_of members.new.items ≡ map member_of members.old.items
+        ++ spec.summary makespan.now verdict.now line.now) }
+{
+    let parts = parts(alloc, line)?;
+    push_parts(alloc, members, makespan, verdict, &parts)
+}
+
+// Appends the makespans and the verdicts of the schedules A and B.
+fn push_summaries<'a>(
+    alloc: Global,
+    members: &mut Vec<Member<'a>>,
+    shape: Shape,
+    lines: &[&'a [u8]],
+) -> Result<(), AllocError>
+    ensures { OnOk result (map member_of members.new.items ≡ map member_of members.old.items
+        ++ spec.summaries shape (map (λ line. line.now) lines.now)) }
+{
+    let a = summary_line(shape, lines, 2);
+    let b = summary_line(shape, lines, 1);
+    push_summary(alloc, members, b"makespan_A", b"verdict_A", a)?;
+    push_summary(alloc, members, b"makespan_B", b"verdict_B", b)
+}
+
 // Returns the named values of a table.
 fn members<'a>(
     alloc: Global,
@@ -220,6 +314,7 @@ fn members<'a>(
     let mut members = Vec::new(alloc);
     push_bounds(&mut members, &bounds)?;
     push_total(&mut members, &total)?;
+    push_summaries(alloc, &mut members, shape, lines)?;
     Ok(members)
 }
 

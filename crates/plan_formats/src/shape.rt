@@ -16,6 +16,8 @@ pub enum Shape {
     Days,
     /// `plan names`: a name on each line.
     Names,
+    /// `plan compare`: the names of the columns, rows, and a line for each of two schedules.
+    Comparison,
     /// `plan check`: a sentence.
     Verdict,
     /// `plan explain`: entries of three lines, with an empty line between each two.
@@ -42,5 +44,12 @@ impl Shape {
         ensures { result ≡ spec.has_total self }
     {
         matches!(self, Shape::Dates | Shape::Schedule | Shape::Solution)
+    }
+
+    // Whether the last two lines have the makespans and the verdicts of two schedules.
+    pub(crate) fn has_summaries(self) -> bool
+        ensures { result ≡ spec.has_summaries self }
+    {
+        matches!(self, Shape::Comparison)
     }
 }

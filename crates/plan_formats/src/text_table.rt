@@ -30,8 +30,7 @@ pub fn table_of_text<'a>(
         Shape::Names => line_table(alloc, b"name", &lines),
         Shape::Verdict => line_table(alloc, b"verdict", &lines),
         Shape::Explanation => entry_table(alloc, &lines),
-        Shape::Dates | Shape::Schedule | Shape::Solution | Shape::Days => {
-            row_table(alloc, shape, columns, &lines)
-        }
+        Shape::Dates | Shape::Schedule | Shape::Solution | Shape::Days | Shape::Comparison =>
+            row_table(alloc, shape, columns, &lines),
     }
 }

@@ -30,6 +30,12 @@ const KINDS: &[&str] = &["project", "shop"];
 // The formats of tables.
 const FORMATS: &[&str] = &["text", "json", "csv"];
 
+// The lines of the chart of a job shop's report.
+const LINES: &[&str] = &["machine", "job"];
+
+// The formats of working days.
+const DAY_FORMATS: &[&str] = &["text", "json", "csv", "ics"];
+
 // The column in which the help describes a command.
 const ABOUT_COLUMN: usize = 14;
 
@@ -72,8 +78,28 @@ enum Form {
     Starts,
     /// An option with the name of a file of holidays.
     Holidays,
+    /// An option with the name of a folder.
+    Folder,
+    /// An option with the number of copies to keep.
+    Keep,
+    /// The same for a report, which has them only with dates.
+    ReportHolidays,
+    /// An option with the rule of a report.
+    ReportRule,
+    /// An option with the name of the file of starts of a report.
+    ReportStarts,
+    /// An option with the first date of a report.
+    ReportStart,
+    /// An option with the working days of a report.
+    ReportDays,
+    /// An option with the kind of the lines of a job shop's chart.
+    Lines,
+    /// An option with a title.
+    Title,
     /// An option with the format of the output.
     Format,
+    /// The same for working days, which can be a calendar file.
+    DayFormat,
     /// An option without a value.
     Flag,
     /// An option without a value and without effect, which the help doesn't list.
@@ -182,6 +208,19 @@ const GIVEN_STARTS: Argument = Argument {
     help: "the start times: numbers, a printed schedule or its CSV; - for standard input",
 };
 
+// The files of starts of a command that compares two schedules.
+const STARTS_A: Argument = Argument {
+    name: "STARTS_A",
+    form: Form::Text,
+    help: "the start times of schedule A, as for plan check; - for standard input",
+};
+
+const STARTS_B: Argument = Argument {
+    name: "STARTS_B",
+    form: Form::Text,
+    help: "the start times of schedule B",
+};
+
 const STARTS: Argument = Argument {
     name: "starts",
     form: Form::Starts,
@@ -234,6 +273,19 @@ const FORMAT: Argument = Argument {
     help: "print text, JSON or CSV",
 };
 
+// The option of the command that prints working days.
+const DAY_FORMAT: Argument = Argument {
+    name: "format",
+    form: Form::DayFormat,
+    help: "print text, JSON, CSV or a calendar file (ics)",
+};
+
+const SVG: Argument = Argument {
+    name: "svg",
+    form: Form::Flag,
+    help: "print an SVG image, with the names of the file",
+};
+
 const DATABASE: Argument = Argument {
     name: "DB",
     form: Form::Name,
@@ -274,7 +326,7 @@ const LIST_COMMANDS: [Entry; 2] = [
     },
 ];
 
-const PROJECT_COMMANDS: [Entry; 5] = [
+const PROJECT_COMMANDS: [Entry; 6] = [
     Entry {
         name: "cpm",
         about: "Prints the critical-path dates of a project",
@@ -321,6 +373,23 @@ const PROJECT_COMMANDS: [Entry; 5] = [
             plan schedule lft examples/house.sm | plan slack --names examples/house.sm -",
         arguments: &[FILE, GIVEN_STARTS, CAPACITY, NAMES],
     },
+    Entry {
+        name: "compare",
+        about: "Compares the start times of two schedules",
+        examples: "Examples:\n  \
+            plan compare examples/six.sm examples/starts.txt examples/late.txt\n  \
+            plan schedule mts examples/six.sm | \
+            plan compare examples/six.sm examples/starts.txt -",
+        arguments: &[
+            FILE,
+            STARTS_A,
+            STARTS_B,
+            INSTANCE_IF_SHOP,
+            CAPACITY_IF_PROJECT,
+            NAMES,
+            FORMAT,
+        ],
+    },
 ];
 
 const SHOP_COMMANDS: [Entry; 4] = [
@@ -361,7 +430,7 @@ const SHOP_COMMANDS: [Entry; 4] = [
     },
 ];
 
-const SCHEDULE_COMMANDS: [Entry; 3] = [
+const SCHEDULE_COMMANDS: [Entry; 4] = [
     Entry {
         name: "solve",
         about: "Prints a short schedule and a proved lower bound",
@@ -402,7 +471,8 @@ const SCHEDULE_COMMANDS: [Entry; 3] = [
         examples: "Examples:\n  \
             plan chart lft examples/house.sm\n  \
             plan chart mwkr examples/shops.txt ft06\n  \
-            plan chart --starts examples/starts.txt examples/six.sm",
+            plan chart --starts examples/starts.txt examples/six.sm\n  \
+            plan chart --svg lft examples/house.sm",
         arguments: &[
             RULE,
             FILE_UNLESS_STARTS,
@@ -410,6 +480,7 @@ const SCHEDULE_COMMANDS: [Entry; 3] = [
             STARTS,
             CAPACITY_IF_PROJECT,
             NAMES,
+            SVG,
         ],
     },
     Entry {
@@ -419,7 +490,8 @@ const SCHEDULE_COMMANDS: [Entry; 3] = [
             plan days lft 2024-03-01 1111100 examples/house.sm\n  \
             plan days mwkr 2024-03-01 1111100 examples/shops.txt ft06\n  \
             plan days --starts examples/starts.txt 2024-03-01 1111100 examples/six.sm\n  \
-            plan days --holidays examples/holidays.txt lft 2024-03-01 mon-fri examples/house.sm",
+            plan days --holidays examples/holidays.txt lft 2024-03-01 mon-fri examples/house.sm\n  \
+            plan days --format ics lft 2024-03-01 mon-fri examples/house.sm",
         arguments: &[
             RULE,
             Argument {
@@ -439,12 +511,62 @@ const SCHEDULE_COMMANDS: [Entry; 3] = [
             HOLIDAYS,
             CAPACITY_IF_PROJECT,
             NAMES,
-            FORMAT,
+            DAY_FORMAT,
+        ],
+    },
+    Entry {
+        name: "report",
+        about: "Prints a report, an HTML page: a chart, the use of resources, a table",
+        examples: "Examples:\n  \
+            plan report examples/house.sm\n  \
+            plan report --rule slk --start 2024-03-01 --days mon-fri examples/house.sm\n  \
+            plan report --starts examples/starts.txt examples/six.sm\n  \
+            plan report --by job --title Printing examples/shops.txt printing",
+        arguments: &[
+            FILE,
+            INSTANCE_IF_SHOP,
+            Argument {
+                name: "rule",
+                form: Form::ReportRule,
+                help: "the priority rule, as for plan chart [default: lft; for a job shop mwkr]",
+            },
+            Argument {
+                name: "starts",
+                form: Form::ReportStarts,
+                help: "show the schedule with the start times in this file, \
+                    or - for standard input",
+            },
+            Argument {
+                name: "start",
+                form: Form::ReportStart,
+                help: "show days: the first date, for example 2024-03-01",
+            },
+            Argument {
+                name: "days",
+                form: Form::ReportDays,
+                help: "the working days, as for plan days",
+            },
+            Argument {
+                name: "holidays",
+                form: Form::ReportHolidays,
+                help: "skip the days in this file, or - for standard input",
+            },
+            Argument {
+                name: "by",
+                form: Form::Lines,
+                help: "for a job shop: what has a line of the chart [default: machine]",
+            },
+            Argument {
+                name: "title",
+                form: Form::Title,
+                help: "the title [default: INSTANCE, or the name of FILE]",
+            },
+            CAPACITY_IF_PROJECT,
         ],
     },
 ];
 
-const SERVER_COMMANDS: [Entry; 4] = [
+const SERVER_COMMANDS: [Entry; 7] = [
     Entry {
         name: "init",
         about: "Creates an office; its key is the first line of standard input",
@@ -482,8 +604,59 @@ const SERVER_COMMANDS: [Entry; 4] = [
     Entry {
         name: "check-office",
         about: "Tests every row of an office, and prints counts and a digest",
-        examples: "Example:\n  plan check-office office.db",
+        examples: "It reads the database only, and tests a copy; a server may run.\n\n\
+            Examples:\n  \
+            plan check-office office.db\n  \
+            plan check-office --in /var/tmp office.db",
+        arguments: &[
+            DATABASE,
+            Argument {
+                name: "in",
+                form: Form::Folder,
+                help: "folder of the copy [default: the one that TMPDIR names, or /tmp]",
+            },
+        ],
+    },
+    Entry {
+        name: "settle",
+        about: "Copies the log of an office into its database, and tests every row",
+        examples: "Example:\n  plan settle office.db",
         arguments: &[DATABASE],
+    },
+    Entry {
+        name: "backup",
+        about: "Copies an office, tests the copy, and prints its name and digest",
+        examples: "A server may run meanwhile. The copy is one file that is complete without a log.\n\n\
+            Examples:\n  \
+            plan backup office.db copy.db\n  \
+            plan backup --keep 7 office.db copies",
+        arguments: &[
+            DATABASE,
+            Argument {
+                name: "COPY",
+                form: Form::Name,
+                help: "a new file, or a folder for a file that has the time in its name",
+            },
+            Argument {
+                name: "keep",
+                form: Form::Keep,
+                help: "remove the older copies in the folder, all but N, 1 to 1000",
+            },
+        ],
+    },
+    Entry {
+        name: "restore",
+        about: "Puts a copy in the place of an office, and prints both digests",
+        examples: "The server has to be stopped. The old database gets another name.\n\n\
+            Example:\n  plan restore copies/office-20260301T030512Z.db office.db",
+        arguments: &[
+            Argument {
+                name: "COPY",
+                form: Form::Name,
+                help: "the copy",
+            },
+            DATABASE,
+        ],
     },
     Entry {
         name: "replay",
@@ -503,12 +676,18 @@ const SERVER_COMMANDS: [Entry; 4] = [
 const HELP_COMMANDS: [Entry; 1] = [Entry {
     name: "explain",
     about: "Prints the meaning of an error and what to do",
-    examples: "Examples:\n  plan explain F7\n  plan explain E10 F9 line 31",
-    arguments: &[Argument {
-        name: "CODE",
-        form: Form::Texts,
-        help: "the code of an error, in capitals or not, or the whole error line",
-    }],
+    examples: "Examples:\n  \
+        plan explain F7\n  \
+        plan explain E10 F9 line 31\n  \
+        plan explain --format json F7",
+    arguments: &[
+        Argument {
+            name: "CODE",
+            form: Form::Texts,
+            help: "the code of an error, in capitals or not, or the whole error line",
+        },
+        FORMAT,
+    ],
 }];
 
 // Each table of commands has a function of its own, so that no proof contains all tables.
@@ -615,10 +794,43 @@ fn arg_of<'a>(alloc: Global, argument: &Argument) -> Result<Arg<'a>, AllocError>
             .value_name("STARTS")
             .conflicts_with("INSTANCE")?,
         Form::Holidays => arg.long(argument.name).value_name("HOLIDAYS"),
+        Form::Folder => arg.long(argument.name).value_name("FOLDER"),
+        Form::Keep => arg
+            .long(argument.name)
+            .value_name("N")
+            .value_parser(value_parser!(u32).range(1..=1000)),
+        Form::ReportHolidays => arg
+            .long(argument.name)
+            .value_name("HOLIDAYS")
+            .requires_arg("start")?,
+        Form::ReportRule => arg
+            .long(argument.name)
+            .value_name("RULE")
+            .conflicts_with("starts")?,
+        Form::ReportStarts => arg.long(argument.name).value_name("STARTS"),
+        Form::ReportStart => arg
+            .long(argument.name)
+            .value_name("DATE")
+            .requires_arg("days")?,
+        Form::ReportDays => arg
+            .long(argument.name)
+            .value_name("MARKS")
+            .requires_arg("start")?,
+        Form::Lines => arg
+            .long(argument.name)
+            .value_name("LINE")
+            .value_parser(LINES)
+            .requires_arg("INSTANCE")?,
+        Form::Title => arg.long(argument.name).value_name("TITLE"),
         Form::Format => arg
             .long(argument.name)
             .value_name("FORMAT")
             .value_parser(FORMATS)
+            .default_value("text"),
+        Form::DayFormat => arg
+            .long(argument.name)
+            .value_name("FORMAT")
+            .value_parser(DAY_FORMATS)
             .default_value("text"),
         Form::Output => arg
             .long(argument.name)
@@ -683,12 +895,31 @@ fn with_commands<'a>(
     Ok(parser)
 }
 
-/// Returns the parser of the command line, which prints this text as its help.
-pub fn command<'a>(alloc: Global, help: &'a str) -> Result<Command<'a>, AllocError> {
+// Returns the command with this name, if there is one.
+fn entry_named(name: &str) -> Option<&'static Entry> {
+    for group in GROUPS {
+        let found = group.commands().iter().find(|entry| entry.name == name);
+        if found.is_some() {
+            return found;
+        }
+    }
+    None
+}
+
+/// Returns the parser of the command line, which prints this text as its help. If the first
+/// argument names a command, the parser knows only this one, because each command costs time.
+pub fn command<'a>(
+    alloc: Global,
+    help: &'a str,
+    first: Option<&str>,
+) -> Result<Command<'a>, AllocError> {
     let mut command = Command::new(alloc, "plan")
         .version("0.4.0")
         .override_help(help)
         .subcommand_required(true);
+    if let Some(entry) = first.and_then(entry_named) {
+        return command.subcommand(subcommand(alloc, entry)?);
+    }
     for group in GROUPS {
         command = with_commands(alloc, command, group)?;
     }

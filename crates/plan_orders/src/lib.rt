@@ -6,4 +6,6 @@ mod arguments;
 mod orders;
 
 pub use arguments::{command, help};
-pub use orders::{FileOrder, OfficeOrder, Order, capacities_of, order_of, overrides_of};
+pub use orders::{
+    FileOrder, Lists, OfficeOrder, Order, capacities_of, order_of, overrides_of, texts_of,
+};

@@ -1,8 +1,9 @@
 //! The orders that the arguments of the command line spell.
 
 use clap::ArgMatches;
-use plan_cli::{Capacity, Dates, ListedTask, Origin, Rows, Task, Template};
+use plan_cli::{Capacity, Dates, NamedText, Origin, Pair, Role, Rows, Task, Template};
 use plan_formats::Format;
+use plan_print::{NamedOrigin, Print, Sheet, Subject};
 use plan_solve::MOST_CONFLICTS;
 use plan_table::Override;
 use std::alloc::{AllocError, Global};
@@ -31,22 +32,16 @@ pub enum FileOrder<'a> {
         seconds: Option<u32>,
         log: Option<&'a str>,
     },
-    /// A task on the project or job shop in one file and the starts in another. The status is 3 if
+    /// A task on the file with this name, and on texts in other files. The status is 3 if
     /// `is_status` and the verdict isn't `active`.
-    Listed {
-        task: ListedTask<'a>,
-        file: &'a str,
-        starts: &'a str,
-        /// The name of the file of holidays, if there is one.
-        holidays: Option<&'a str>,
-        is_status: bool,
-    },
-    /// A task on the file with this name, with the holidays in another file.
-    Dated {
+    Texts {
         task: Task<'a>,
         file: &'a str,
-        holidays: &'a str,
+        texts: &'a [NamedText<'a>],
+        is_status: bool,
     },
+    /// A sheet to print.
+    Print(Print<'a>),
     /// A table to start from.
     New(Template),
     /// The meaning of an error line, which is given as one argument or as several.
@@ -58,34 +53,108 @@ fn shown_name(path: &str) -> &str {
     if path == "-" { "standard input" } else { path }
 }
 
-// Tests whether an error line is about a file of holidays.
-fn is_of_holidays(line: &str) -> bool {
-    line.starts_with("G5 ") || line.starts_with("G6 ")
+// Whether an error line is about a text with this role.
+fn is_about(line: &str, role: Role) -> bool {
+    match role {
+        Role::Starts => line.ends_with(" of the starts"),
+        Role::StartsA => line.ends_with(" of the starts A"),
+        Role::StartsB => line.ends_with(" of the starts B"),
+        Role::Holidays => line.starts_with("G5 ") || line.starts_with("G6 "),
+    }
+}
+
+// Returns the name of the file that an error line is about, if it is known: that of a text, or else
+// this one.
+fn file_among<'a>(texts: &[NamedText<'a>], file: &'a str, line: &str) -> Option<&'a str> {
+    for text in texts {
+        if is_about(line, text.role) {
+            return Some(shown_name(text.name));
+        }
+    }
+    if line == "I1 file" && !texts.is_empty() {
+        None
+    } else {
+        Some(shown_name(file))
+    }
+}
+
+// The roles of texts, and their arguments as messages name them.
+const ROLE_NAMES: [(Role, &str); 4] = [
+    (Role::Starts, "STARTS"),
+    (Role::StartsA, "STARTS_A"),
+    (Role::StartsB, "STARTS_B"),
+    (Role::Holidays, "HOLIDAYS"),
+];
+
+// Whether the text with this role is standard input.
+fn is_standard(texts: &[NamedText<'_>], role: Role) -> bool {
+    for text in texts {
+        if text.role == role {
+            return text.name == "-";
+        }
+    }
+    false
+}
+
+// Returns the names of two arguments of a print that are standard input, if there are two.
+fn print_input(print: &Print<'_>) -> Option<(&'static str, &'static str)> {
+    let starts = match print.origin {
+        NamedOrigin::Starts(name) => name,
+        NamedOrigin::Rule(_) => "",
+    };
+    match (print.file, starts, print.holidays) {
+        ("-", "-", _) => Some(("FILE", "STARTS")),
+        (_, "-", Some("-")) => Some(("STARTS", "HOLIDAYS")),
+        ("-", _, Some("-")) => Some(("FILE", "HOLIDAYS")),
+        _ => None,
+    }
+}
+
+// Returns the name of the file that an error line of a print is about, if it is known.
+fn print_file_of<'a>(print: &Print<'a>, line: &str) -> Option<&'a str> {
+    match (print.origin, print.holidays) {
+        (_, Some(holidays)) if is_about(line, Role::Holidays) => Some(shown_name(holidays)),
+        (NamedOrigin::Starts(starts), _) if line.ends_with(" of the starts") => {
+            Some(shown_name(starts))
+        }
+        (NamedOrigin::Rule(_), None) => Some(shown_name(print.file)),
+        _ if line != "I1 file" => Some(shown_name(print.file)),
+        _ => None,
+    }
 }
 
 impl<'a> FileOrder<'a> {
+    /// Returns the names of two arguments that are standard input, if there are two.
+    pub fn shared_input(&self) -> Option<(&'static str, &'static str)> {
+        if let FileOrder::Print(print) = *self {
+            return print_input(&print);
+        }
+        let FileOrder::Texts { file, texts, .. } = *self else {
+            return None;
+        };
+        let mut found = if file == "-" { Some("FILE") } else { None };
+        for (role, name) in ROLE_NAMES {
+            if is_standard(texts, role) {
+                if let Some(first) = found {
+                    return Some((first, name));
+                }
+                found = Some(name);
+            }
+        }
+        None
+    }
+
     /// Returns the name of the file that an error line is about, if it is known.
     pub fn file_of(&self, line: &str) -> Option<&'a str> {
         if line == "I3 output" {
             return None;
         }
-        match self {
+        match *self {
             FileOrder::Task(_, path) | FileOrder::Watched(_, path) => Some(shown_name(path)),
             FileOrder::Solve { file, .. } => Some(shown_name(file)),
-            FileOrder::Dated { holidays, .. } if is_of_holidays(line) => Some(shown_name(holidays)),
-            FileOrder::Dated { file, .. } if line != "I1 file" => Some(shown_name(file)),
-            FileOrder::Listed {
-                holidays: Some(holidays),
-                ..
-            } if is_of_holidays(line) => Some(shown_name(holidays)),
-            FileOrder::Listed { starts, .. } if line.ends_with(" of the starts") => {
-                Some(shown_name(starts))
-            }
-            FileOrder::Listed { file, .. } if line != "I1 file" => Some(shown_name(file)),
-            FileOrder::Listed { .. }
-            | FileOrder::Dated { .. }
-            | FileOrder::New(_)
-            | FileOrder::Explain(_) => None,
+            FileOrder::Texts { file, texts, .. } => file_among(texts, file, line),
+            FileOrder::Print(print) => print_file_of(&print, line),
+            FileOrder::New(_) | FileOrder::Explain(_) => None,
         }
     }
 }
@@ -97,9 +166,27 @@ pub enum OfficeOrder<'a> {
     Init {
         database: &'a str,
     },
-    /// Counts the rows and prints their digest.
+    /// Counts the rows of a copy and prints their digest.
     Check {
         database: &'a str,
+        /// The folder of the copy, if it is given.
+        folder: Option<&'a str>,
+    },
+    /// Copies the log into the database.
+    Settle {
+        database: &'a str,
+    },
+    /// Makes a copy.
+    Backup {
+        database: &'a str,
+        copy: &'a str,
+        /// The number of copies to keep, if others are removed.
+        keep: Option<u32>,
+    },
+    /// Puts a copy in the place of the database.
+    Restore {
+        database: &'a str,
+        copy: &'a str,
     },
     /// Prints the responses to the connections in files, one in each.
     Replay {
@@ -129,7 +216,10 @@ impl<'a> OfficeOrder<'a> {
         }
         match self {
             OfficeOrder::Init { database }
-            | OfficeOrder::Check { database }
+            | OfficeOrder::Check { database, .. }
+            | OfficeOrder::Settle { database }
+            | OfficeOrder::Backup { database, .. }
+            | OfficeOrder::Restore { database, .. }
             | OfficeOrder::Replay { database, .. }
             | OfficeOrder::Serve { database, .. } => Some(database),
         }
@@ -144,30 +234,24 @@ pub enum Order<'a> {
 
 // Returns the task of `chart`: that of a job shop if an instance is given, else of a project.
 fn chart_task<'a>(
-    arguments: &'a ArgMatches<'_>,
+    origin: Origin<'a>,
+    instance: Option<&'a str>,
     capacities: &'a [Capacity<'a>],
-) -> Option<Task<'a>> {
-    let rule = arguments.get_str("RULE")?;
-    let origin = Origin::Rule(rule);
-    Some(match arguments.get_str("INSTANCE") {
+) -> Task<'a> {
+    match instance {
         Some(instance) => Task::ShopChart { origin, instance },
         None => Task::Chart { origin, capacities },
-    })
+    }
 }
 
 // Returns the task of `days`: that of a job shop if an instance is given, else of a project.
 fn days_task<'a>(
-    arguments: &'a ArgMatches<'_>,
+    origin: Origin<'a>,
+    dates: Dates<'a>,
+    instance: Option<&'a str>,
     capacities: &'a [Capacity<'a>],
-) -> Option<Task<'a>> {
-    let rule = arguments.get_str("RULE")?;
-    let dates = Dates {
-        start: arguments.get_str("START")?,
-        marks: arguments.get_str("MARKS")?,
-        holidays: &[],
-    };
-    let origin = Origin::Rule(rule);
-    Some(match arguments.get_str("INSTANCE") {
+) -> Task<'a> {
+    match instance {
         Some(instance) => Task::ShopDays {
             origin,
             dates,
@@ -178,7 +262,7 @@ fn days_task<'a>(
             dates,
             capacities,
         },
-    })
+    }
 }
 
 // Returns the task of the command with this name.
@@ -190,8 +274,6 @@ fn task_of<'a>(
     match name {
         "cpm" => Some(Task::Dates),
         "names" => Some(Task::Names),
-        "chart" => chart_task(arguments, capacities),
-        "days" => days_task(arguments, capacities),
         "schedule" => Some(Task::Schedule {
             rule: arguments.get_str("RULE")?,
             capacities,
@@ -217,7 +299,20 @@ fn office_order<'a>(name: &str, arguments: &'a ArgMatches<'_>) -> Option<OfficeO
     let database = arguments.get_str("DB")?;
     match name {
         "init" => Some(OfficeOrder::Init { database }),
-        "check-office" => Some(OfficeOrder::Check { database }),
+        "check-office" => Some(OfficeOrder::Check {
+            database,
+            folder: arguments.get_str("in"),
+        }),
+        "settle" => Some(OfficeOrder::Settle { database }),
+        "backup" => Some(OfficeOrder::Backup {
+            database,
+            copy: arguments.get_str("COPY")?,
+            keep: arguments.get_one("keep"),
+        }),
+        "restore" => Some(OfficeOrder::Restore {
+            database,
+            copy: arguments.get_str("COPY")?,
+        }),
         "replay" => Some(OfficeOrder::Replay {
             database,
             requests: arguments.get_strs("REQ")?,
@@ -242,25 +337,58 @@ fn proof_order<'a>(arguments: &'a ArgMatches<'_>) -> Option<FileOrder<'a>> {
     Some(FileOrder::Watched(task, path))
 }
 
-// Returns the capacity that a text such as `R2=4` gives. The name must have no control characters,
-// because an error line can contain it.
+// Whether a name isn't empty and has no control characters: an error line can contain it.
+fn is_plain(name: &str) -> bool {
+    !name.is_empty() && !name.bytes().any(|byte| byte.is_ascii_control())
+}
+
+// Returns the capacity that a text such as `R2=4` gives.
 fn capacity_of(text: &str) -> Option<Capacity<'_>> {
     let (resource, digits) = text.split_once('=')?;
     let amount: u64 = digits.parse().ok()?;
-    let is_plain = !resource.is_empty() && !resource.bytes().any(|byte| byte.is_ascii_control());
-    if is_plain && amount <= GREATEST_CAPACITY {
+    if is_plain(resource) && amount <= GREATEST_CAPACITY {
         Some(Capacity { resource, amount })
     } else {
         None
     }
 }
 
+// Returns the values of the texts that the option `capacity` has, in their order, or the first text
+// without a value.
+fn values_of<'a, T: Drop, F: Fn(&'a str) -> Option<T>>(
+    alloc: Global,
+    arguments: Option<&'a ArgMatches<'_>>,
+    value_of: F,
+) -> Result<Result<Vec<T>, &'a str>, AllocError>
+    requires { F.IsAlwaysCallable value_of }
+{
+    let mut values = Vec::new(alloc);
+    let Some(arguments) = arguments else {
+        return Ok(Ok(values));
+    };
+    for text in arguments.get_strs("capacity").unwrap_or(&[]) {
+        match value_of(text) {
+            Some(value) => values.push(value)?,
+            None => return Ok(Err(text)),
+        }
+    }
+    Ok(Ok(values))
+}
+
 // Returns the arguments of a command that has the option `capacity` for the resources of a file.
 fn planning<'a, 'b>(matches: &'a ArgMatches<'b>) -> Option<&'a ArgMatches<'b>> {
     match matches.subcommand()? {
-        ("schedule" | "best-project" | "solve" | "chart" | "days" | "slack", arguments) => {
-            Some(arguments)
-        }
+        (
+            "schedule"
+            | "best-project"
+            | "solve"
+            | "chart"
+            | "days"
+            | "report"
+            | "slack"
+            | "compare",
+            arguments,
+        ) => Some(arguments),
         _ => None,
     }
 }
@@ -271,17 +399,7 @@ pub fn capacities_of<'a>(
     alloc: Global,
     matches: &'a ArgMatches<'_>,
 ) -> Result<Result<Vec<Capacity<'a>>, &'a str>, AllocError> {
-    let mut capacities = Vec::new(alloc);
-    let Some(arguments) = planning(matches) else {
-        return Ok(Ok(capacities));
-    };
-    for text in arguments.get_strs("capacity").unwrap_or(&[]) {
-        match capacity_of(text) {
-            Some(capacity) => capacities.push(capacity)?,
-            None => return Ok(Err(text)),
-        }
-    }
-    Ok(Ok(capacities))
+    values_of(alloc, planning(matches), capacity_of)
 }
 
 // Returns the task of `solve`: that of a job shop if an instance is given, else of a project.
@@ -345,6 +463,7 @@ fn has_names(name: &str) -> bool {
             | "chart"
             | "days"
             | "slack"
+            | "compare"
     )
 }
 
@@ -361,7 +480,9 @@ fn has_formats(name: &str) -> bool {
             | "solve"
             | "days"
             | "check"
+            | "compare"
             | "names"
+            | "explain"
     )
 }
 
@@ -384,13 +505,11 @@ fn rows_of(name: &str, arguments: &ArgMatches<'_>) -> Rows {
     }
 }
 
-// Returns the capacity that a text such as `crew=6` gives. The name has no control characters,
-// because an error line can contain it.
+// Returns the capacity that a text such as `crew=6` gives.
 fn override_of(text: &str) -> Option<Override<'_>> {
     let (resource, digits) = text.rsplit_once('=')?;
     let amount: u32 = digits.parse().ok()?;
-    let is_plain = !resource.is_empty() && !resource.bytes().any(|byte| byte.is_ascii_control());
-    if is_plain && amount <= GREATEST_IN_LIST {
+    if is_plain(resource) && amount <= GREATEST_IN_LIST {
         Some(Override {
             resource: resource.as_bytes(),
             amount,
@@ -400,23 +519,49 @@ fn override_of(text: &str) -> Option<Override<'_>> {
     }
 }
 
+// Returns the arguments of `import`, if it is the command.
+fn importing<'a, 'b>(matches: &'a ArgMatches<'b>) -> Option<&'a ArgMatches<'b>> {
+    match matches.subcommand()? {
+        ("import", arguments) => Some(arguments),
+        _ => None,
+    }
+}
+
 /// Returns the capacities that the arguments of `import` give, in their order, or the first text
 /// that gives none.
 pub fn overrides_of<'a>(
     alloc: Global,
     matches: &'a ArgMatches<'_>,
 ) -> Result<Result<Vec<Override<'a>>, &'a str>, AllocError> {
-    let mut overrides = Vec::new(alloc);
-    let Some(("import", arguments)) = matches.subcommand() else {
-        return Ok(Ok(overrides));
+    values_of(alloc, importing(matches), override_of)
+}
+
+// Returns the arguments of a command with names of texts, and the roles of the texts.
+fn text_arguments(command: &str) -> &'static [(&'static str, Role)] {
+    match command {
+        "check" | "slack" => &[("STARTS", Role::Starts)],
+        "compare" => &[("STARTS_A", Role::StartsA), ("STARTS_B", Role::StartsB)],
+        "chart" => &[("starts", Role::Starts)],
+        "days" => &[("holidays", Role::Holidays), ("starts", Role::Starts)],
+        _ => &[],
+    }
+}
+
+/// Returns the names of the texts that the arguments give, in the order in which they are read.
+pub fn texts_of<'a>(
+    alloc: Global,
+    matches: &'a ArgMatches<'_>,
+) -> Result<Vec<NamedText<'a>>, AllocError> {
+    let mut texts = Vec::new(alloc);
+    let Some((command, arguments)) = matches.subcommand() else {
+        return Ok(texts);
     };
-    for text in arguments.get_strs("capacity").unwrap_or(&[]) {
-        match override_of(text) {
-            Some(given) => overrides.push(given)?,
-            None => return Ok(Err(text)),
+    for &(argument, role) in text_arguments(command) {
+        if let Some(name) = arguments.get_str(argument) {
+            texts.push(NamedText { role, name })?;
         }
     }
-    Ok(Ok(overrides))
+    Ok(texts)
 }
 
 // Returns the order of `import`.
@@ -432,87 +577,257 @@ fn import_order<'a>(
     Some(FileOrder::Task(task, arguments.get_str("FILE")?))
 }
 
-// Returns the order of `chart` with a list of starts: FILE is the first argument, INSTANCE the
-// second.
-fn listed_chart<'a>(
-    arguments: &'a ArgMatches<'_>,
-    starts: &'a str,
-    capacities: &'a [Capacity<'a>],
-) -> Option<FileOrder<'a>> {
-    Some(FileOrder::Listed {
-        task: match arguments.get_str("FILE") {
-            Some(instance) => ListedTask::ShopChart { instance },
-            None => ListedTask::Chart { capacities },
-        },
-        file: arguments.get_str("RULE")?,
-        starts,
-        holidays: None,
-        is_status: false,
-    })
+/// The arguments of the command line that are lists.
+#[derive(Clone, Copy)]
+pub struct Lists<'a> {
+    /// The capacities of a file's resources.
+    pub capacities: &'a [Capacity<'a>],
+    /// The capacities of `import`.
+    pub overrides: &'a [Override<'a>],
+    /// The names of the texts.
+    pub texts: &'a [NamedText<'a>],
 }
 
-// Returns the order of `days` with a list of starts: START is the first argument, and so on.
-fn listed_days<'a>(
-    arguments: &'a ArgMatches<'_>,
-    starts: &'a str,
-    capacities: &'a [Capacity<'a>],
-) -> Option<FileOrder<'a>> {
-    let dates = Dates {
-        start: arguments.get_str("RULE")?,
-        marks: arguments.get_str("START")?,
-        holidays: &[],
-    };
-    Some(FileOrder::Listed {
-        task: match arguments.get_str("FILE") {
-            Some(instance) => ListedTask::ShopDays { dates, instance },
-            None => ListedTask::Days { dates, capacities },
-        },
-        file: arguments.get_str("MARKS")?,
-        starts,
-        holidays: arguments.get_str("holidays"),
+// Returns the order of a task on a file with texts.
+fn texts_order<'a>(task: Task<'a>, file: &'a str, texts: &'a [NamedText<'a>]) -> FileOrder<'a> {
+    FileOrder::Texts {
+        task,
+        file,
+        texts,
         is_status: false,
-    })
+    }
+}
+
+// Returns the order of `chart`. With starts, FILE is the first argument and INSTANCE the second.
+fn chart_order<'a>(arguments: &'a ArgMatches<'_>, lists: Lists<'a>) -> Option<FileOrder<'a>> {
+    let Lists {
+        capacities,
+        texts,
+        ..
+    } = lists;
+    let rule = arguments.get_str("RULE")?;
+    if arguments.get_str("starts").is_some() {
+        let instance = arguments.get_str("FILE");
+        let task = chart_task(Origin::Starts(&[]), instance, capacities);
+        return Some(texts_order(task, rule, texts));
+    }
+    let instance = arguments.get_str("INSTANCE");
+    let task = chart_task(Origin::Rule(rule), instance, capacities);
+    Some(texts_order(task, arguments.get_str("FILE")?, texts))
+}
+
+// Returns the dates of `days`, without holidays.
+fn dates_of<'a>(start: &'a str, marks: &'a str) -> Dates<'a> {
+    Dates {
+        start,
+        marks,
+        holidays: &[],
+    }
+}
+
+// Returns the order of `days`. With starts, START is the first argument, and so on.
+fn days_order<'a>(arguments: &'a ArgMatches<'_>, lists: Lists<'a>) -> Option<FileOrder<'a>> {
+    let Lists {
+        capacities,
+        texts,
+        ..
+    } = lists;
+    let rule = arguments.get_str("RULE")?;
+    let start = arguments.get_str("START")?;
+    let marks = arguments.get_str("MARKS")?;
+    if arguments.get_str("starts").is_some() {
+        let instance = arguments.get_str("FILE");
+        let dates = dates_of(rule, start);
+        let task = days_task(Origin::Starts(&[]), dates, instance, capacities);
+        return Some(texts_order(task, marks, texts));
+    }
+    let instance = arguments.get_str("INSTANCE");
+    let dates = dates_of(start, marks);
+    let task = days_task(Origin::Rule(rule), dates, instance, capacities);
+    Some(texts_order(task, arguments.get_str("FILE")?, texts))
 }
 
 // Returns the order of `check`.
-fn check_order<'a>(arguments: &'a ArgMatches<'_>) -> Option<FileOrder<'a>> {
-    Some(FileOrder::Listed {
+fn check_order<'a>(
+    arguments: &'a ArgMatches<'_>,
+    texts: &'a [NamedText<'a>],
+) -> Option<FileOrder<'a>> {
+    let starts = &[];
+    Some(FileOrder::Texts {
         task: match arguments.get_str("INSTANCE") {
-            Some(instance) => ListedTask::ShopCheck { instance },
-            None => ListedTask::Check,
+            Some(instance) => Task::ShopCheck { starts, instance },
+            None => Task::Check { starts },
         },
         file: arguments.get_str("FILE")?,
-        starts: arguments.get_str("STARTS")?,
-        holidays: None,
+        texts,
         is_status: arguments.get_flag("status"),
     })
 }
 
-// Returns the order of `chart` or `days` if it has a list of starts.
-fn listed_order<'a>(
-    name: &str,
-    arguments: &'a ArgMatches<'_>,
-    capacities: &'a [Capacity<'a>],
-) -> Option<FileOrder<'a>> {
-    match name {
-        "chart" => listed_chart(arguments, arguments.get_str("starts")?, capacities),
-        "days" => listed_days(arguments, arguments.get_str("starts")?, capacities),
-        _ => None,
+// Returns the order of `slack`.
+fn slack_order<'a>(arguments: &'a ArgMatches<'_>, lists: Lists<'a>) -> Option<FileOrder<'a>> {
+    let task = Task::Slack {
+        starts: &[],
+        capacities: lists.capacities,
+    };
+    Some(texts_order(task, arguments.get_str("FILE")?, lists.texts))
+}
+
+// Returns the order of `compare`.
+fn compare_order<'a>(arguments: &'a ArgMatches<'_>, lists: Lists<'a>) -> Option<FileOrder<'a>> {
+    let starts = Pair { a: &[], b: &[] };
+    let task = match arguments.get_str("INSTANCE") {
+        Some(instance) => Task::ShopCompare { starts, instance },
+        None => Task::Compare {
+            starts,
+            capacities: lists.capacities,
+        },
+    };
+    Some(texts_order(task, arguments.get_str("FILE")?, lists.texts))
+}
+
+// Returns what has a schedule: the instance if one is given, else a project.
+fn subject_of<'a>(instance: Option<&'a str>, capacities: &'a [Capacity<'a>]) -> Subject<'a> {
+    match instance {
+        Some(instance) => Subject::Shop(instance),
+        None => Subject::Project(capacities),
     }
 }
 
-// Returns the order of `days` if it has a file of holidays.
-fn dated_order<'a>(
+// Returns the order of `days` for a calendar file with a list of starts: START is the first
+// argument, and so on.
+fn listed_events<'a>(
     arguments: &'a ArgMatches<'_>,
-    task: Task<'a>,
-    file: &'a str,
-) -> Option<FileOrder<'a>> {
-    let holidays = arguments.get_str("holidays")?;
-    Some(FileOrder::Dated {
-        task,
-        file,
-        holidays,
+    starts: &'a str,
+    capacities: &'a [Capacity<'a>],
+) -> Option<Print<'a>> {
+    let (start, marks) = (arguments.get_str("RULE")?, arguments.get_str("START")?);
+    Some(Print {
+        sheet: Sheet::Events(dates_of(start, marks)),
+        subject: subject_of(arguments.get_str("FILE"), capacities),
+        origin: NamedOrigin::Starts(starts),
+        holidays: arguments.get_str("holidays"),
+        file: arguments.get_str("MARKS")?,
     })
+}
+
+// Returns the order of `days` for a calendar file.
+fn events_order<'a>(
+    arguments: &'a ArgMatches<'_>,
+    capacities: &'a [Capacity<'a>],
+) -> Option<Print<'a>> {
+    if let Some(starts) = arguments.get_str("starts") {
+        return listed_events(arguments, starts, capacities);
+    }
+    let (start, marks) = (arguments.get_str("START")?, arguments.get_str("MARKS")?);
+    Some(Print {
+        sheet: Sheet::Events(dates_of(start, marks)),
+        subject: subject_of(arguments.get_str("INSTANCE"), capacities),
+        origin: NamedOrigin::Rule(arguments.get_str("RULE")?),
+        holidays: arguments.get_str("holidays"),
+        file: arguments.get_str("FILE")?,
+    })
+}
+
+// Returns the title of a chart: the instance, or else the name of the file without its folders.
+fn title_of<'a>(instance: Option<&'a str>, file: &'a str) -> &'a str {
+    match instance {
+        Some(name) if name != "-" => name,
+        _ if file == "-" => "Schedule",
+        _ => match file.rsplit_once('/') {
+            Some((_, name)) => name,
+            None => file,
+        },
+    }
+}
+
+// Returns the order of `chart` for an SVG image with a list of starts: FILE is the first argument,
+// INSTANCE the second.
+fn listed_image<'a>(
+    arguments: &'a ArgMatches<'_>,
+    starts: &'a str,
+    capacities: &'a [Capacity<'a>],
+) -> Option<Print<'a>> {
+    let (file, instance) = (arguments.get_str("RULE")?, arguments.get_str("FILE"));
+    Some(Print {
+        sheet: Sheet::Chart(title_of(instance, file)),
+        subject: subject_of(instance, capacities),
+        origin: NamedOrigin::Starts(starts),
+        holidays: None,
+        file,
+    })
+}
+
+// Returns the order of `chart` for an SVG image.
+fn image_order<'a>(
+    arguments: &'a ArgMatches<'_>,
+    capacities: &'a [Capacity<'a>],
+) -> Option<Print<'a>> {
+    if let Some(starts) = arguments.get_str("starts") {
+        return listed_image(arguments, starts, capacities);
+    }
+    let (file, instance) = (arguments.get_str("FILE")?, arguments.get_str("INSTANCE"));
+    Some(Print {
+        sheet: Sheet::Chart(title_of(instance, file)),
+        subject: subject_of(instance, capacities),
+        origin: NamedOrigin::Rule(arguments.get_str("RULE")?),
+        holidays: None,
+        file,
+    })
+}
+
+// Returns the origin of the schedule of `report`. The default rule is `lft`, for a job shop `mwkr`.
+fn report_origin<'a>(arguments: &'a ArgMatches<'_>, is_shop: bool) -> NamedOrigin<'a> {
+    if let Some(starts) = arguments.get_str("starts") {
+        return NamedOrigin::Starts(starts);
+    }
+    match arguments.get_str("rule") {
+        Some(rule) => NamedOrigin::Rule(rule),
+        None if is_shop => NamedOrigin::Rule("mwkr"),
+        None => NamedOrigin::Rule("lft"),
+    }
+}
+
+// Returns the dates of `report`, if it has some.
+fn report_dates<'a>(arguments: &'a ArgMatches<'_>) -> Option<Dates<'a>> {
+    let start = arguments.get_str("start")?;
+    Some(dates_of(start, arguments.get_str("days")?))
+}
+
+// Returns the order of `report`.
+fn report_order<'a>(
+    arguments: &'a ArgMatches<'_>,
+    capacities: &'a [Capacity<'a>],
+) -> Option<Print<'a>> {
+    let (file, instance) = (arguments.get_str("FILE")?, arguments.get_str("INSTANCE"));
+    let title = arguments.get_str("title");
+    Some(Print {
+        sheet: Sheet::Report {
+            title: title.unwrap_or(title_of(instance, file)),
+            dates: report_dates(arguments),
+            by_job: arguments.get_str("by") == Some("job"),
+        },
+        subject: subject_of(instance, capacities),
+        origin: report_origin(arguments, instance.is_some()),
+        holidays: arguments.get_str("holidays"),
+        file,
+    })
+}
+
+// Returns the order of a command that prints a sheet.
+fn print_order<'a>(
+    name: &str,
+    arguments: &'a ArgMatches<'_>,
+    capacities: &'a [Capacity<'a>],
+) -> Option<Print<'a>> {
+    match name {
+        "days" if arguments.get_str("format") == Some("ics") => {
+            events_order(arguments, capacities)
+        }
+        "chart" if arguments.get_flag("svg") => image_order(arguments, capacities),
+        "report" => report_order(arguments, capacities),
+        _ => None,
+    }
 }
 
 // Returns the order of a command with a task on one file.
@@ -522,57 +837,43 @@ fn plain_order<'a>(
     capacities: &'a [Capacity<'a>],
 ) -> Option<FileOrder<'a>> {
     let task = task_of(name, arguments, capacities)?;
-    let file = arguments.get_str("FILE")?;
-    if name == "days" {
-        if let Some(order) = dated_order(arguments, task, file) {
-            return Some(order);
-        }
-    }
-    Some(FileOrder::Task(task, file))
+    Some(FileOrder::Task(task, arguments.get_str("FILE")?))
 }
 
 // Returns the order of any other command.
 fn file_order<'a>(
     name: &str,
     arguments: &'a ArgMatches<'_>,
-    capacities: &'a [Capacity<'a>],
-    given: &'a [Override<'a>],
+    lists: Lists<'a>,
 ) -> Option<FileOrder<'a>> {
+    if let Some(print) = print_order(name, arguments, lists.capacities) {
+        return Some(FileOrder::Print(print));
+    }
     match name {
-        "import" => import_order(arguments, given),
+        "import" => import_order(arguments, lists.overrides),
         "new" => Some(FileOrder::New(template_of(arguments)?)),
         "explain" => Some(FileOrder::Explain(arguments.get_strs("CODE")?)),
         "prove" => proof_order(arguments),
-        "solve" => solve_order(arguments, capacities),
-        "check" => check_order(arguments),
-        "slack" => Some(FileOrder::Listed {
-            task: ListedTask::Slack { capacities },
-            file: arguments.get_str("FILE")?,
-            starts: arguments.get_str("STARTS")?,
-            holidays: None,
-            is_status: false,
-        }),
-        _ => match listed_order(name, arguments, capacities) {
-            Some(order) => Some(order),
-            None => plain_order(name, arguments, capacities),
-        },
+        "solve" => solve_order(arguments, lists.capacities),
+        "check" => check_order(arguments, lists.texts),
+        "slack" => slack_order(arguments, lists),
+        "compare" => compare_order(arguments, lists),
+        "chart" => chart_order(arguments, lists),
+        "days" => days_order(arguments, lists),
+        _ => plain_order(name, arguments, lists.capacities),
     }
 }
 
-/// Returns the order that the arguments and these capacities spell. The parser has checked that the
+/// Returns the order that the arguments and their lists spell. The parser has checked that the
 /// command and its required arguments are present.
-pub fn order_of<'a>(
-    matches: &'a ArgMatches<'_>,
-    capacities: &'a [Capacity<'a>],
-    given: &'a [Override<'a>],
-) -> Option<Order<'a>> {
+pub fn order_of<'a>(matches: &'a ArgMatches<'_>, lists: Lists<'a>) -> Option<Order<'a>> {
     let (name, arguments) = matches.subcommand()?;
     match name {
-        "init" | "check-office" | "replay" | "serve" => Some(Order::Office(office_order(
-            name, arguments,
-        )?)),
+        "init" | "serve" | "check-office" | "settle" | "backup" | "restore" | "replay" => {
+            Some(Order::Office(office_order(name, arguments)?))
+        }
         _ => Some(Order::File(
-            file_order(name, arguments, capacities, given)?,
+            file_order(name, arguments, lists)?,
             rows_of(name, arguments),
         )),
     }

@@ -1,3 +1,4 @@
+pub mod MakespanLemmas
 pub mod MoveLemmas
 pub mod CandidateLemmas
 pub mod SlackLemmas
@@ -10,3 +11,4 @@ pub mod SheetLemmas
 pub mod TextLemmas
 pub mod EntryLemmas
 pub mod SentenceLemmas
+pub mod ShiftLemmas

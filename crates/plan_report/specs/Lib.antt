@@ -6,4 +6,5 @@ pub mod Sheet
 pub mod StartsText
 pub mod VerdictText
 pub mod Comparison
+pub mod ShopComparison
 pub use Rattle.plan_sgs.specs.Problem

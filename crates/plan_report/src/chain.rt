@@ -14,7 +14,7 @@ ghost use Rattle.plan_report.specs.Chain.{IsSearch, IsTightArc, Keeps, Leads, No
 ghost use Rattle.plan_report.specs.Chain.{ShareResource, target_at};
 ghost use Rattle.plan_report.specs.Chain as spec;
 
-use crate::slack::makespan_of;
+use crate::makespans::makespan_of;
 use plan_sgs::Instance;
 use std::alloc::{AllocError, Global};
 

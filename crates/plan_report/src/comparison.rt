@@ -9,7 +9,7 @@ ghost use Rattle.plan_gantt.specs.Column.{column, lines_from};
 ghost use Rattle.plan_report.specs.Comparison as spec;
 
 use crate::columns::{push_first, push_number, push_right};
-use crate::slack::makespan_of;
+use crate::makespans::makespan_of;
 use crate::verdict_text::push_sentence;
 use plan_net::{Network, index_of};
 use plan_sgs::{Instance, Verdict, check};
@@ -31,8 +31,8 @@ fn shift_text(alloc: Global, a: u64, b: u64) -> Result<String, AllocError>
     }
 }
 
-// Appends the shift from start `a` to start `b`, aligned right.
-fn push_shift(alloc: Global, text: &mut String, a: u64, b: u64) -> Result<(), AllocError>
+/// Appends the shift from start `a` to start `b`, aligned right.
+pub(crate) fn push_shift(alloc: Global, text: &mut String, a: u64, b: u64) -> Result<(), AllocError>
     ensures { OnOk result (string_bytes text.new
         ≡ string_bytes text.old ++ column 8 (spec.shift_text a b)) }
 {

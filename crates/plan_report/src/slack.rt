@@ -6,12 +6,12 @@ ghost use Rattle.plan_net.specs.Network.{IsActivity, count_of};
 ghost use Rattle.plan_profile.specs.Usage.{IsInTime};
 ghost use Rattle.plan_sgs.specs.Checks.{HoldsBefore};
 ghost use Rattle.plan_sgs.specs.Instances.{problem_of};
-ghost use Rattle.plan_sgs.specs.Placement.{greatest_end};
 ghost use Rattle.plan_sgs.specs.Problem as problem;
 ghost use Rattle.plan_sgs.specs.Problem.{IsFeasible, KeepsCapacities, all_placed, duration};
 ghost use Rattle.plan_report.specs.Slack.{AreSlacks, HasRoomAt, IsDue, IsLatestStart, IsSlack};
 ghost use Rattle.plan_report.specs.Slack.{RefusesSlack};
 
+use crate::makespans::makespan_of;
 use plan_profile::{END, Profile};
 use plan_sgs::{Instance, Verdict, check};
 use std::alloc::{AllocError, AllocFailed, Global};
@@ -69,22 +69,6 @@ fn check_feasible(alloc: Global, instance: &Instance, starts: &[u64]) -> Result<
         Verdict::Shift(_) => Ok(()),
         Verdict::Active => Ok(()),
     }
-}
-
-/// Returns the makespan of a list of starts: the greatest end of an activity, in whole time units.
-pub fn makespan_of(instance: &Instance, starts: &[u64]) -> u64
-    requires whole { length starts.now ≡ count_of instance.now.project.network }
-    requires limit { All IsInTime starts.now }
-    ensures value { result ≡ problem.makespan (problem_of instance.now) starts.now }
-    ensures ends { result ≤ greatest_end }
-{
-    let network = instance.network();
-    let mut latest = 0u64;
-    for i in 0..network.len() {
-        let end = starts[i] + network.duration(i as u32 + 1);
-        latest = latest.max(end);
-    }
-    latest
 }
 
 // Returns a profile of all activities at their starts.

@@ -1,5 +1,5 @@
-//! Tests of the service with devices that fail, with failed allocations, and with tables that break
-//! a rule. No command can cause these.
+//! Tests of the service with devices that fail, and with rows that break a rule. No command can
+//! cause these.
 #![tactic(auto)]
 
 #[cfg(test)]
@@ -12,8 +12,6 @@ mod losses;
 mod office;
 #[cfg(test)]
 mod pieces;
-#[cfg(test)]
-mod refusals;
 #[cfg(test)]
 mod replays;
 #[cfg(test)]

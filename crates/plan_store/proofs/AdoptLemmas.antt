@@ -14,7 +14,10 @@ use Rattle.plan_store.specs.declared.fault.StoreFault.TheVariants.{NotOurs, Vers
 use Rattle.plan_store.specs.declared.layout.Layout.{Layout}
 use Rattle.plan_store.specs.declared.layout.Layout.TheVariants.{First, Second}
 use Rattle.plan_store.specs.declared.leftover.Leftover.TheVariants as left
-use Rattle.plan_store.specs.Stores.{IsStore}
+use Rattle.plan_rows.specs.World.{World}
+use Rattle.plan_store.specs.declared.kept_plans.KeptPlans.{KeptPlans}
+use Rattle.plan_store.specs.KeptPlans.{HoldsPlans, KeepsPlans}
+use Rattle.plan_store.specs.Stores.{world_of, IsStore}
 use Rattle.plan_store.specs.Layouts.{schema_of, IsOfficeAt}
 use Rattle.plan_store.specs.Reload.{IsStoreOf}
 use Rattle.plan_store.specs.TableTests.{IsLaid}
@@ -33,7 +36,7 @@ open_after s Version live = live
 open_after s NoMemory live = tt
 open_after s Store live = tt
 
-pub refuses : (s : State) (r : Result (Unit {0}) StoreFault) (fault : StoreFault) → r ≡ Err fault →
+pub refuses : {X : Type 0} (s : State) (r : Result X StoreFault) (fault : StoreFault) → r ≡ Err fault →
     s.in_transaction ≡ false → (HasCleanDisk s → IsTrue s.is_open) → (HasCleanDisk s → IsCause fault s.now) →
     Takes s s r
 refuses s r fault is outside live why = subst (Takes s s) (sym is) (record {
@@ -51,8 +54,8 @@ refuses s r fault is outside live why = subst (Takes s s) (sym is) (record {
 module _ (old mid new : State) (clean_before : HasCleanDisk mid → HasCleanDisk old)
     (same : HasCleanDisk mid → mid.now ≡ old.now) (before : HasCleanDisk mid → (trees : Trees) →
     mid.may_leave trees → old.may_leave trees) where
-  pub takes_after : (r : Result (Unit {0}) StoreFault) → Takes mid new r → Takes old new r
-  takes_after (Ok tt) it = record {
+  pub takes_made : Takes mid new {X = Unit {0}} (Ok tt) → {X : Type 0} (x : X) → Takes old new {X = X} (Ok x)
+  takes_made it x = record {
     outside = it.outside;
     honesty = λ clean. clean_before (it.honesty clean);
     taken = λ clean. let t = it.taken clean in (t.0, subst (λ db. IsTaken db new.now) (same (it.honesty clean)) t.1);
@@ -62,7 +65,9 @@ module _ (old mid new : State) (clean_before : HasCleanDisk mid → HasCleanDisk
     crash = tt;
     is_open = tt;
   }
-  takes_after (Err fault) it = record {
+
+  pub takes_refused : (fault : StoreFault) → Takes mid new {X = Unit {0}} (Err fault) → {X : Type 0} → Takes old new {X = X} (Err fault)
+  takes_refused fault it = record {
     outside = it.outside;
     honesty = λ clean. clean_before (it.honesty clean);
     taken = tt;
@@ -77,3 +82,11 @@ module _ (old mid new : State) (clean_before : HasCleanDisk mid → HasCleanDisk
           → old.may_leave trees ⊎ ((fault ≢ NotOurs) × (fault ≢ Version) × IsMigrated old.now trees)
       left clean trees (inl may) = inl (before (it.honesty clean) trees may)
       left clean trees (inr made) = inr (made.0, made.1, subst (λ db. IsMigrated db trees) (same (it.honesty clean)) made.2)
+
+-- the plans of tables that were adopted
+pub kept_taken : (mid new : State) (kept : KeptPlans) → Takes mid new {X = Unit {0}} (Ok tt)
+    → (HasCleanDisk mid → HoldsPlans (world_of mid.now.trees).plans kept) → KeepsPlans new kept
+kept_taken mid new kept it holds = λ clean live. elim (it.taken clean).1 [
+  | inl same ↦ subst (λ (db : Database). HoldsPlans (world_of db.trees).plans kept) (sym same.1) (holds (it.honesty clean))
+  | inr moved ↦ subst (λ (w : World). HoldsPlans w.plans kept) (sym moved.1) (holds (it.honesty clean))
+]

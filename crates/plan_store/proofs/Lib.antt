@@ -34,3 +34,4 @@ pub mod VersionLemmas
 pub mod MigrateLemmas
 pub mod AdoptLemmas
 pub mod UntrustedTableLemmas
+pub mod KeptLemmas

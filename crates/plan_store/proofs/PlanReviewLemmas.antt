@@ -19,11 +19,10 @@ use Rattle.sqlite.specs.Held.{Held, state}
 use Rattle.sqlite.proofs.Callers.{EndsIn, command_of, given_begin, begun_plain, begins_shown, reads_as, never_commits}
 use Rattle.sqlite_trees.specs.Tree.{Trees}
 use Rattle.plan_rows.specs.declared.fault.BookFault.{BookFault}
-use Rattle.plan_rows.specs.declared.row_tests.review.Review.{Review}
 use Rattle.plan_rows.specs.World.{Plan}
 use Rattle.plan_rows.specs.Rules.{IsPlanRow}
-use Rattle.plan_rows.specs.PlanReview.{HasReviewed}
 use Rattle.plan_store.specs.declared.layout.Layout.{Layout}
+use Rattle.plan_store.specs.declared.plan_test.PlanTest.{PlanTest}
 use Rattle.plan_store.specs.declared.plan_review.Next.{Next}
 use Rattle.plan_store.specs.declared.plan_review.Next.TheVariants.{Good, Bad, End}
 use Rattle.plan_store.specs.Rows.{written_plan, read_plan}
@@ -31,7 +30,7 @@ use Rattle.plan_store.specs.UntrustedRows.{HoldsPlan, TakesRow}
 use Rattle.plan_store.specs.Endurance.{Endures}
 use Rattle.plan_store.proofs.EnduringLemmas.{endures_then, endures_by}
 use Rattle.plan_store.specs.QueryEffect.{meaning_under, IsQueryUnder, IsAtRest, Queries}
-use Rattle.plan_store.specs.PlanReview.{TakesGood, ReviewsRow, ComesNext, Stays, Leaves, Goes, Reviews, ReviewsRows, ReviewsRest, ReviewsPlans}
+use Rattle.plan_store.specs.PlanReview.{HasSeen, TakesGood, ReviewsRow, ComesNext, Stays, Leaves, Goes, Reviews, ReviewsRows, ReviewsRest, ReviewsPlans}
 use Rattle.plan_store.proofs.CodecLemmas.{plan_back}
 use Rattle.plan_store.specs.Layouts.{schema_of}
 use Rattle.plan_store.specs.TableTests.{IsLaid}
@@ -51,8 +50,8 @@ pub none_told : (row : Row) → TakesRow written_plan HoldsPlan row None → Tak
 none_told row none = λ a good is. none a good.0 is
 
 -- a row that is a plan, which was tested
-pub one_told : (row : Row) (plan : Plan) (plans : List Plan) (review : Review) (good : Bool) → TakesRow written_plan HoldsPlan row (Some plan)
-    → MatchBool good (IsPlanRow plan × HasReviewed (plans ++ plan ∷ []) review) (IsPlanRow plan → ⊥) → ReviewsRow row plans review good
+pub one_told : (row : Row) (plan : Plan) (plans : List Plan) (review : PlanTest) (good : Bool) → TakesRow written_plan HoldsPlan row (Some plan)
+    → MatchBool good (IsPlanRow plan × HasSeen (plans ++ plan ∷ []) review) (IsPlanRow plan → ⊥) → ReviewsRow row plans review good
 one_told row plan plans review true takes h = (plan, (takes.0, (takes.1, h.0)), h.1)
 one_told row plan plans review false takes bad = λ a good is. bad (subst IsPlanRow (one_written a plan row is takes.0) good.1)
 
@@ -109,10 +108,10 @@ module _ (old new : State) (rest : IsAtRest old) (honesty : HasCleanDisk new →
 module _ {S : Type 0} (g : Ghosts S) (first : Held S) where
   -- The rows that were given, from any text that was at its start, are those of plans that were
   -- tested.
-  abbrev pub HasGone : Held S → Review → Type 0
+  abbrev pub HasGone : Held S → PlanTest → Type 0
   HasGone now review =
       (text : List ℕ) → HasGiven g text [] first []
-      → (rows : List Row) × (plans : List Plan) × HasGiven g text [] now rows × AllZip (λ row plan. TakesGood row (Some plan)) rows plans × HasReviewed plans review
+      → (rows : List Row) × (plans : List Plan) × HasGiven g text [] now rows × AllZip (λ row plan. TakesGood row (Some plan)) rows plans × HasSeen plans review
 
   zip_push : (rows : List Row) (plans : List Plan) (row : Row) (plan : Plan) →
       AllZip (λ r p. TakesGood r (Some p)) rows plans → TakesGood row (Some plan) →
@@ -122,10 +121,10 @@ module _ {S : Type 0} (g : Ghosts S) (first : Held S) where
   zip_push (r ∷ rows) [] row plan zip takes = absurd zip
   zip_push (r ∷ rows) (p ∷ plans) row plan zip takes = (zip.0, zip_push rows plans row plan zip.1 takes)
 
-  pub gone_none : (review : Review) → HasReviewed [] review → HasGone first review
+  pub gone_none : (review : PlanTest) → HasSeen [] review → HasGone first review
   gone_none review fresh = λ text given. ([], [], given, tt, fresh)
 
-  module _ (old new : Held S) (before after : Review) (gone : HasGone old before) where
+  module _ (old new : Held S) (before after : PlanTest) (gone : HasGone old before) where
     -- one plan more
     pub gone_more : Reviews g old new before after Good → HasGone new after
     gone_more told = λ text given.
@@ -149,8 +148,8 @@ module _ {S : Type 0} (g : Ghosts S) (first : Held S) where
 
 -- ---- the next plan
 
-module _ {S : Type 0} (g : Ghosts S) (old new : Held S) (before after : Review) where
-  pub goes_next : (row : Option Row) → Advances g old new row → (next : Next) → ((plans : List Plan) → HasReviewed plans before → ComesNext row plans after next) → Reviews g old new before after next
+module _ {S : Type 0} (g : Ghosts S) (old new : Held S) (before after : PlanTest) where
+  pub goes_next : (row : Option Row) → Advances g old new row → (next : Next) → ((plans : List Plan) → HasSeen plans before → ComesNext row plans after next) → Reviews g old new before after next
   goes_next None on next comes = λ text params given plans has reviewed.
       let it = comes plans reviewed in
       subst (Goes g text params old new given plans after) (sym it.0) (on text params given has, it.1)
@@ -161,11 +160,11 @@ module _ {S : Type 0} (g : Ghosts S) (old new : Held S) (before after : Review) 
   goes_next (Some row) on End comes = λ text params given plans has reviewed. absurd (comes plans reviewed)
 
 -- after a good plan some plans were tested
-pub good_reviewed : (row : Option Row) (plans : List Plan) (review : Review) (r : Result Next BookFault) →
-    IfOk r (ComesNext row plans review) → r ≡ Ok Good → (all : List Plan) × HasReviewed all review
+pub good_reviewed : (row : Option Row) (plans : List Plan) (review : PlanTest) (r : Result Next BookFault) →
+    IfOk r (ComesNext row plans review) → r ≡ Ok Good → (all : List Plan) × HasSeen all review
 good_reviewed row plans review r told is = by_row row (subst (λ k. IfOk k (ComesNext row plans review)) is told)
   where
-    by_row : (o : Option Row) → ComesNext o plans review Good → (all : List Plan) × HasReviewed all review
+    by_row : (o : Option Row) → ComesNext o plans review Good → (all : List Plan) × HasSeen all review
     by_row None it = (plans, it.1)
     by_row (Some r) it = (plans ++ it.0 ∷ [], it.2)
 
@@ -194,7 +193,7 @@ module _ (layout : Layout) (old : State) (laid : IsLaid layout old) (new : State
   of_old : (rows : List Row) → Reads (meaning_under new.now.schema text) new.now [] rows → Reads (meaning_under (schema_of layout) plans_text) old.now [] rows
   of_old rows reads = subst (λ (d : Database). Reads (meaning_under (schema_of layout) plans_text) d [] rows) same (subst₂ (λ s t. Reads (meaning_under s t) new.now [] rows) schema_is is reads)
 
-  pub plans_told : (db : Database) → db ≡ new.now → (review : Review) (good : Bool) → ReviewsRows text db new review good → ReviewsPlans (old.now.trees 5) review good
+  pub plans_told : (db : Database) → db ≡ new.now → (review : PlanTest) (good : Bool) → ReviewsRows text db new review good → ReviewsPlans (old.now.trees 5) review good
   plans_told db whole review true (rows, plans, reads, zip, reviewed) =
       (plans, plans_good layout old laid plans rows (of_old rows (subst (λ (d : Database). Reads (meaning_under d.schema text) d [] rows) whole reads)) zip, reviewed)
   plans_told db whole review false (rows, row, begins, none) =
@@ -204,8 +203,8 @@ module _ (layout : Layout) (old : State) (laid : IsLaid layout old) (new : State
       plan_bad layout old laid all row (of_old all reads) (Contains-append_left (rows ++ row ∷ []) more.0 row (Contains-push rows row)) none
 
 -- the result of a test after any plans
-pub if_all_ok : (r : Result Next BookFault) (row : Option Row) (before after : Review) → ((plans : List Plan) → HasReviewed plans before → IfOk r (ComesNext row plans after)) → {P : Next → Type 0}
-    → ((next : Next) → ((plans : List Plan) → HasReviewed plans before → ComesNext row plans after next) → P next) → IfOk r P
+pub if_all_ok : (r : Result Next BookFault) (row : Option Row) (before after : PlanTest) → ((plans : List Plan) → HasSeen plans before → IfOk r (ComesNext row plans after)) → {P : Next → Type 0}
+    → ((next : Next) → ((plans : List Plan) → HasSeen plans before → ComesNext row plans after next) → P next) → IfOk r P
 if_all_ok (Ok next) row before after told f = f next told
 if_all_ok (Err fault) row before after told f = tt
 
@@ -223,7 +222,7 @@ module _ {S : Type 0} (g : Ghosts S) (old mid new : Held S) (rest : IsAtRest (st
       (old.in_transaction ≡ false → mid.in_transaction ≡ false) →
       Survives (state g old) (state g mid) (CommitsShowing text [] (state g old))
       → (mid.in_transaction ≡ false → new.in_transaction ≡ false) → Survives (state g mid) (state g new) (λ _. ⊥) → (HasCleanDisk (state g new) → Leaves (state g mid) (state g new))
-      → (review : Review) (r : Result Bool BookFault) → (HasCleanDisk (state g new) → IfOk r (λ good. IsTrue (state g new).is_open × ReviewsRest g mid new review good))
+      → (review : PlanTest) (r : Result Bool BookFault) → (HasCleanDisk (state g new) → IfOk r (λ good. IsTrue (state g new).is_open × ReviewsRest g mid new review good))
       → Queries (state g old) (state g new) r (ReviewsRows text (state g old).now (state g new) review)
   rows_queried begun mode one mode_on two leaves review r told =
       let late = λ (clean : HasCleanDisk (state g new)). let it : HasCleanDisk (state g mid) = omega (arith, two.clean) in it in

@@ -26,23 +26,22 @@ use Rattle.plan_rows.specs.declared.kinds.Kind.{Kind}
 use Rattle.plan_rows.specs.declared.kinds.PlanKind.{PlanKind}
 use Rattle.plan_rows.specs.declared.rows.DeskRow.{DeskRow}
 use Rattle.plan_rows.specs.declared.rows.CodeRow.{CodeRow}
-use Rattle.plan_rows.specs.declared.rows.PlanEntry.{PlanEntry}
 use Rattle.plan_rows.specs.declared.rows.BindEntry.{BindEntry}
 use Rattle.plan_rows.specs.declared.rows.LagEntry.{LagEntry}
 use Rattle.plan_rows.specs.declared.rows.PlanRow.{PlanRow}
 use Rattle.plan_rows.specs.Names.{kind_text, plan_kind_text}
-use Rattle.plan_rows.specs.Plans.{code_before, plan_before}
+use Rattle.plan_rows.specs.Plans.{code_before}
 use Rattle.plan_rows.specs.World.{Digest, Published, Desk, Plan, Bind, Lag, World, same_text, is_code, is_desk, is_plan_of, is_plan, is_bind_by, is_bind_of, is_bind, is_lag_by, is_lag_of, is_lag, code_in, desk_in, plan_in}
 use Rattle.plan_rows.specs.Views.{view}
 use Rattle.plan_rows.specs.Plans.{in_order, bind_before, lag_before, place_of, arc_of, places_of, lags_of}
-use Rattle.plan_rows.specs.Books.{Matches, IsPlanAnswer, IsDeskAnswer, IsCapacityAnswer, ListsCodes, ListsPlans, published_in, entry_in, entry_of, bind_in, lag_in}
+use Rattle.plan_rows.specs.Books.{Matches, IsPlanAnswer, IsDeskAnswer, IsCapacityAnswer, ListsCodes, published_in, bind_in, lag_in}
 use Rattle.plan_store.specs.declared.query_rows.PlanPart.{PlanPart}
 use Rattle.plan_store.specs.TableRows.{row_at, Keeps}
 use Rattle.plan_store.specs.Rows.{kind_in, plan_kind_in, text_in, blob_in, number_in, digest_in, digest_value, number_value, written_code, read_code, written_desk, read_desk, written_plan, read_plan, written_bind, read_bind, written_lag, read_lag, office_in}
 use Rattle.plan_store.specs.Stores.{world_of, HoldRows}
 use Rattle.plan_store.specs.Transactions.{meaning_of}
 use Rattle.plan_store.specs.BookCalls.{Stands}
-use Rattle.plan_store.specs.QueryRows.{ShowsDesk, ShowsCapacity, ShowsCode, ShowsEntry, ShowsBind, ShowsLag, ShowsPlan, IsPlanPart, ListsShown, FirstShown, OfficeShown, AnyShown, CountShown}
+use Rattle.plan_store.specs.QueryRows.{ShowsDesk, ShowsCapacity, ShowsCode, ShowsBind, ShowsLag, ShowsPlan, IsPlanPart, ListsShown, FirstShown, OfficeShown, AnyShown}
 use Rattle.plan_store.proofs.QueryForms.{alone, by, is_given}
 use Rattle.plan_store.proofs.KeepLemmas.{finds_entry, reads_entries}
 use Rattle.plan_store.proofs.CodecLemmas.{kind_back, plan_kind_back, code_tested, desk_tested, plan_tested, owner_tested, bind_of_tested, bind_tested, lag_of_tested, lag_tested}
@@ -112,15 +111,6 @@ any_among show p (x ∷ xs) =
 module _ {A : Type 0} (written : A → Row) (read : Row → A) (rows : List Row) (it : Keeps written read rows) (p : A → Bool) (show : ℤ × A → Row) where
   pub any_read : (answer : List Row) → answer ≡ map show (filter (λ x. p x.1) it.entries) → nat_lt 0 (length answer) ≡ list_any p (map read rows)
   any_read answer is = ap (λ l. nat_lt 0 (length l)) is ∙ any_among show p it.entries ∙ ap (list_any p) (sym (reads_entries written read it))
-
--- ---- the number of rows
-
-module _ {A : Type 0} (written : A → Row) (read : Row → A) (rows : List Row) (it : Keeps written read rows) (p : A → Bool) (show : ℤ × A → Row) where
-  pub rows_counted : (answer : List Row) → answer ≡ map show (filter (λ x. p x.1) it.entries) → length answer ≡ length (filter p (map read rows))
-  rows_counted answer is =
-      let found = filter (λ (x : ℤ × A). p x.1) it.entries in
-      ap length is ∙ length-map found show ∙ sym (length-map found (λ (x : ℤ × A). x.1))
-      ∙ ap length (sym (filter-map p (λ (x : ℤ × A). x.1) it.entries) ∙ ap (filter p) (sym (reads_entries written read it)))
 
 -- ---- all rows, rising
 
@@ -258,20 +248,6 @@ module _ (s : State) (stands : Stands s) where
       (λ x y low. then_low (slice_cmp nat_cmp x.1.code y.1.code) x.0 y.0 low ∙ ap is_gt (nat_list_cmp_total.antisymm x.1.code y.1.code) ∙ turned (slice_cmp nat_cmp y.1.code x.1.code)) h.0 are all h.2
       ∙ map-id _ ∙ ap (in_order code_before) (filter_true (map read_code (s.now.trees 1)))
 
-  pub plans_read : (desk : List ℕ) (all : List PlanEntry) → ListsShown ShowsEntry means.plans_text s.now (Text desk ∷ []) all → ListsPlans (view desk (world_of s.now.trees)).plans all
-  plans_read desk all h =
-      let show = λ (x : ℤ × Plan). number_value x.1.n ∷ Text (plan_kind_text x.1.kind) ∷ [] in
-      let cmp = λ (a b : ℤ × Plan). ordering_then (int_cmp (pos a.1.n) (pos b.1.n)) (int_cmp a.0 b.0) in
-      let kept = held.plans in
-      let are = rows_sorted written_plan 5 (is_given 1 0 ∷ []) means.plans_query.project
-      (Text desk ∷ []) seen kept.entries kept.are kept.rise (λ x. is_plan_of desk x.1)
-      (owner_tested desk []) show (λ x. refl)
-      (by 2 ∷ by 0 ∷ []) cmp (λ a b low. no_tie_after (int_cmp (pos a.1.n) (pos b.1.n)) (no_tie low)) (λ a b. then_key (value_cmp-Int (pos a.1.n) (pos b.1.n)) (last_key (value_cmp-Int a.0 b.0)))
-      h.0 (read_query means.plans_text means.plans_query _ means.plans_is s.now (Text desk ∷ []) h.0 h.1) in
-      list_read written_plan read_plan (s.now.trees 5) kept (is_plan_of desk) show ShowsEntry entry_in entry_of
-      (λ x y shows. λ i. (same_numbers y.n x.1.n (sym shows.n) i, same_plan_kinds y.kind x.1.kind (sym shows.kind) i)) cmp plan_before
-      (λ x y low. then_low (int_cmp (pos x.1.n) (pos y.1.n)) x.0 y.0 low ∙ above x.1.n y.1.n) h.0 are all h.2
-
   pub binds_read : (desk : List ℕ) (n : ℕ) (all : List BindEntry) → ListsShown ShowsBind means.binds_text s.now (Text desk ∷ number_value n ∷ []) all
       → map bind_in all ≡ places_of (view desk (world_of s.now.trees)) n
   binds_read desk n all h =
@@ -310,14 +286,6 @@ module _ (s : State) (stands : Stands s) where
       (int_cmp (pos x.1.target) (pos y.1.target)) x.0 y.0 low
       ∙ above_both x.1.source y.1.source x.1.target y.1.target) h.0 are all h.2
       ∙ ap (λ l. map arc_of (in_order lag_before l)) (sym (filter_both (is_lag_by desk) (λ row. row.n == n) (map read_lag (s.now.trees 9))))
-
-  pub counted_read : (desk : List ℕ) (count : ℕ) → CountShown means.counted_text s.now (Text desk ∷ []) count → count ≡ length (view desk (world_of s.now.trees)).plans
-  counted_read desk count h =
-      let show = λ (x : ℤ × Plan). number_value x.1.n ∷ [] in
-      let kept = held.plans in
-      let are = rows_by_number written_plan 5 (is_given 1 0 ∷ []) means.counted_query.project (Text desk ∷ []) seen kept.entries kept.are kept.rise
-      (λ x. is_plan_of desk x.1) (owner_tested desk []) show (λ x. refl) h.0 (read_query means.counted_text means.counted_query _ means.counted_is s.now (Text desk ∷ []) h.0 h.1) in
-      h.2 ∙ rows_counted written_plan read_plan (s.now.trees 5) kept (is_plan_of desk) show h.0 are
 
   pub known_read : (code : List ℕ) (any : Bool) → AnyShown means.known_text s.now (Text code ∷ []) any → any ≡ list_any (is_code code) (world_of s.now.trees).published
   known_read code any h =

@@ -81,42 +81,6 @@ pub capacities_listed : reads_listing store_schema capacities_text ≡ false
 unfolding understood everything
 capacities_listed = refl
 
-abbrev pub plans_text : List ℕ
-plans_text = codes "SELECT n, kind FROM plans WHERE desk = ?1 ORDER BY n, rowid"
-
-abbrev pub plans_query : Query
-plans_query = of_table 5 (is_given 1 0 ∷ []) (col 1 2 ∷ col 1 3 ∷ []) (by 2 ∷ by 0 ∷ [])
-
-pub plans_is : command_of (understood store_schema plans_text) ≡ Select (alone plans_query) (codes "n" ∷ codes "kind" ∷ [])
-unfolding understood everything
-plans_is = refl
-
-pub plans_plain : IsPlain (understood store_schema plans_text)
-unfolding understood everything
-plans_plain = (refl, refl)
-
-pub plans_listed : reads_listing store_schema plans_text ≡ false
-unfolding understood everything
-plans_listed = refl
-
-abbrev pub counted_text : List ℕ
-counted_text = codes "SELECT n FROM plans WHERE desk = ?1 ORDER BY rowid"
-
-abbrev pub counted_query : Query
-counted_query = of_table 5 (is_given 1 0 ∷ []) (col 1 2 ∷ []) (by 0 ∷ [])
-
-pub counted_is : command_of (understood store_schema counted_text) ≡ Select (alone counted_query) (codes "n" ∷ [])
-unfolding understood everything
-counted_is = refl
-
-pub counted_plain : IsPlain (understood store_schema counted_text)
-unfolding understood everything
-counted_plain = (refl, refl)
-
-pub counted_listed : reads_listing store_schema counted_text ≡ false
-unfolding understood everything
-counted_listed = refl
-
 abbrev pub plan_text : List ℕ
 plan_text = codes "SELECT kind, name, body, start, days FROM plans WHERE desk = ?1 AND n = ?2 ORDER BY rowid"
 

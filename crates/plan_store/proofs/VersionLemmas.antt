@@ -1,26 +1,26 @@
 -- From the rows that were read to the version of the tables, or to no office.
-use Rattle.std.proofs.Common.{◌≡◌, ℤ, Bool, true, false, List, [], ◌∷◌, Some, None, Ok, Result, IsTrue, IfOk, IsUtf8, refl, sym, ap, subst, ◌∙◌}
+use Rattle.std.proofs.Common.{◌≡◌, ℤ, true, false, List, [], ◌∷◌, Option, Some, None, MatchOption, Ok, Result, IsTrue, IfOk, IsUtf8, refl, sym, ap, subst, ◌∙◌}
 use Rattle.std.specs.List.{AllByRecursion}
 use Rattle.sqlite_keyed.proofs.ListLemmas.{all_weaker, all_both}
 use Rattle.sqlite_trees.specs.Tree.{Trees}
 use Rattle.sqlite.specs.Effect.{Database}
 use Rattle.sqlite.specs.State.{State, HasCleanDisk}
 use Rattle.plan_rows.specs.declared.fault.BookFault.{BookFault}
-use Rattle.plan_rows.specs.declared.row_tests.review.Review.{Review}
-use Rattle.plan_rows.specs.RowTests.{Tells}
-use Rattle.plan_rows.specs.PlanReview.{HasReviewed}
 use Rattle.plan_rows.specs.Tables.{world_beside}
 use Rattle.plan_rows.specs.World.{Plan, World}
 use Rattle.plan_rows.specs.Rules.{IsWorld, IsPlanRow}
 use Rattle.plan_store.specs.declared.layout.Layout.{Layout}
 use Rattle.plan_store.specs.declared.layout.Layout.TheVariants.{First, Second}
 use Rattle.plan_store.specs.declared.untrusted_tables.OtherRows.{OtherRows}
+use Rattle.plan_store.specs.declared.kept_plans.KeptPlans.{KeptPlans}
+use Rattle.plan_store.specs.declared.plan_test.PlanTest.{PlanTest}
+use Rattle.plan_store.specs.KeptPlans.{HoldsPlans}
 use Rattle.plan_store.specs.Rows.{read_plan, written_plan}
 use Rattle.plan_store.specs.Stores.{world_of}
 use Rattle.plan_store.specs.Layouts.{meta_at, world_in, IsOfficeAt}
 use Rattle.plan_store.specs.UntrustedRows.{HoldsPlan, TakesTable}
-use Rattle.plan_store.specs.PlanReview.{IsGoodPlan, ReviewsPlans}
-use Rattle.plan_store.specs.TableTests.{IsLaid, IsReadable, Looks, HoldsOthers, IsJudged, world_others}
+use Rattle.plan_store.specs.PlanReview.{HasSeen, IsGoodPlan, ReviewsPlans}
+use Rattle.plan_store.specs.TableTests.{IsLaid, IsReadable, Looks, HoldsOthers, IsJudged, SaysOffice, world_others}
 use Rattle.plan_store.proofs.HoldsLemmas.{plans_hold}
 use Rattle.plan_store.proofs.TableTestLemmas.{looks_again}
 use Rattle.plan_store.proofs.EnduringLemmas.{endures_itself}
@@ -61,23 +61,26 @@ module _ (layout : Layout) (s : State) (laid : IsLaid layout s) (it : OtherRows)
     sound = laid.in_order.sound;
   }
 
-  pub told : (review : Review) → ((plans : List Plan) →
-      world_beside review.beside plans ≡ world_others it plans) → (good : Bool) →
-      ((plans : List Plan) → HasReviewed plans review →
-      Tells good (IsWorld (world_beside review.beside plans)))
-      → ReviewsPlans (s.now.trees 5) review true → IsJudged layout s.now it good
-  told review beside true tells (plans, takes, reviewed) = office_at plans takes (subst IsWorld (beside plans) (tells plans reviewed))
-  told review beside false tells (plans, takes, reviewed) = λ version h. tells plans reviewed (subst IsWorld (sym (beside plans ∙ same_world plans takes)) h.rules)
+  pub told : (test : PlanTest) → ((plans : List Plan) →
+      world_beside test.review.beside plans ≡ world_others it plans) → (found : Option KeptPlans) →
+      ((plans : List Plan) → HasSeen plans test → MatchOption found
+      (IsWorld (world_beside test.review.beside plans) → ⊥)
+      (λ kept. IsWorld (world_beside test.review.beside plans) × HoldsPlans plans kept))
+      → ReviewsPlans (s.now.trees 5) test true → IsJudged layout s.now it found
+  told test beside (Some kept) tells (plans, takes, seen) =
+      let h = tells plans seen in
+      (office_at plans takes (subst IsWorld (beside plans) h.0), subst (λ l. HoldsPlans l kept) takes.1 h.1)
+  told test beside None tells (plans, takes, seen) = λ version h. tells plans seen (subst IsWorld (sym (beside plans ∙ same_world plans takes)) h.rules)
 
-  pub untold : (review : Review) → ReviewsPlans (s.now.trees 5) review false → IsJudged layout s.now it false
-  untold review none = no_office layout s.now none
+  pub untold : (test : PlanTest) → ReviewsPlans (s.now.trees 5) test false → IsJudged layout s.now it None
+  untold test none = no_office layout s.now none
 
 module _ (layout : Layout) (old new : State) (ready : IsReadable layout old) where
   pub judged : (it : OtherRows) → (HasCleanDisk old → HoldsOthers layout old.now it) →
-      {X : Type 0} (x : X) (Is : X → Type 0) (good : Bool) →
-      (IsLaid layout old → HoldsOthers layout old.now it → Is x → IsJudged layout old.now it good)
-      → Looks layout old new (Ok x) Is → Looks layout old new (Ok good) (IsJudged layout old.now it)
-  judged it holds x Is good f look = looks_again layout old new (Ok x) Is (Ok good) (IsJudged layout old.now it) look (λ clean.
+      {X : Type 0} (x : X) (Is : X → Type 0) (found : Option KeptPlans) →
+      (IsLaid layout old → HoldsOthers layout old.now it → Is x → IsJudged layout old.now it found)
+      → Looks layout old new (Ok x) Is → Looks layout old new (Ok found) (IsJudged layout old.now it)
+  judged it holds x Is found f look = looks_again layout old new (Ok x) Is (Ok found) (IsJudged layout old.now it) look (λ clean.
       let said = look.answer clean in
       let was = look.same clean said.0 in
       (said.0, f (ready.laid (look.honesty clean) was.0) (holds (look.honesty clean)) said.1))
@@ -95,3 +98,11 @@ looks_nowhere layout s ready r Is answer = record {
   crash = λ clean trees may. may;
   endures = endures_itself s;
 }
+
+-- the version and the plans of an office, or none
+pub says_none : (layout : Layout) (db : Database) (kept : KeptPlans) → ((version : ℤ) → IsOfficeAt layout version db → ⊥) → SaysOffice layout db (None, kept)
+says_none layout db kept none = record { version = none; plans = λ some. cc }
+
+pub says_some : (layout : Layout) (db : Database) (version : ℤ) (kept : KeptPlans) → IsOfficeAt layout version db → HoldsPlans (world_of db.trees).plans kept
+    → SaysOffice layout db (Some version, kept)
+says_some layout db version kept office holds = record { version = office; plans = λ some. holds }

@@ -20,3 +20,4 @@ pub mod OnDisk
 pub mod UntrustedRows
 pub mod PlanReview
 pub mod KeyedRows
+pub mod KeptPlans

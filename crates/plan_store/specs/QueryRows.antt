@@ -5,7 +5,6 @@ use Rattle.sqlite_value.specs.Order.{Row, column}
 use Rattle.plan_rows.specs.declared.kinds.Kind.{Kind}
 use Rattle.plan_rows.specs.declared.rows.DeskRow.{DeskRow}
 use Rattle.plan_rows.specs.declared.rows.CodeRow.{CodeRow}
-use Rattle.plan_rows.specs.declared.rows.PlanEntry.{PlanEntry}
 use Rattle.plan_rows.specs.declared.rows.BindEntry.{BindEntry}
 use Rattle.plan_rows.specs.declared.rows.LagEntry.{LagEntry}
 use Rattle.plan_store.specs.declared.query_rows.PlanPart.{PlanPart}
@@ -34,10 +33,6 @@ pub record ShowsCode (row : Row) (entry : CodeRow) : Type 0 where
   pub code : column row 0 ≡ Text (string_bytes entry.code)
   pub kind : column row 1 ≡ Text (kind_text entry.kind)
   pub capacity : column row 2 ≡ Int (pos entry.capacity)
-
-pub record ShowsEntry (row : Row) (entry : PlanEntry) : Type 0 where
-  pub n : column row 0 ≡ Int (pos entry.n)
-  pub kind : column row 1 ≡ Text (plan_kind_text entry.kind)
 
 pub record ShowsBind (row : Row) (entry : BindEntry) : Type 0 where
   pub place : column row 0 ≡ Int (pos entry.place)
@@ -78,11 +73,6 @@ FirstShown shows text db params found =
 abbrev pub OfficeShown : List ℕ → Database → Row → Digest → Type 0
 OfficeShown text db params digest =
     (rows : List Row) × Reads (meaning_of text) db params rows × ShowsOffice rows digest
-
--- the number of rows of a query
-abbrev pub CountShown : List ℕ → Database → Row → ℕ → Type 0
-CountShown text db params count =
-    (rows : List Row) × Reads (meaning_of text) db params rows × (count ≡ length rows)
 
 abbrev pub AnyShown : List ℕ → Database → Row → Bool → Type 0
 AnyShown text db params any =

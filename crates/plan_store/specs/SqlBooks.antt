@@ -11,6 +11,8 @@ use Rattle.sqlite.specs.Held.{Held, held_code, state}
 use Rattle.plan_rows.specs.Books.{Shelf}
 use Rattle.plan_store.specs.Stores.{world_of, IsStore}
 use Rattle.plan_store.specs.declared.next_plan.NextPlan.{NextPlan}
+use Rattle.plan_store.specs.declared.kept_plans.KeptPlans.{KeptPlans}
+use Rattle.plan_store.specs.KeptPlans.{KeepsPlans}
 use Rattle.plan_store.specs.BookCalls.{Stands, IsReady, IsNextNumber, IsStoreLeft, may_leave}
 
 -- The connection of a book, the numbers of writing calls that succeeded and failed, and the number
@@ -27,10 +29,12 @@ book_code {S} store =
     (λ b. (b.conn, (b.made, (b.refused, b.denials))))
     (λ p. record { conn = p.0; made = p.1.0; refused = p.1.1.0; denials = p.1.1.1 }) (λ _. refl)
 
--- Its connection is ready, and the kept number is that of the desk's next plan.
-pub record IsServing (s : State) (kept : Option NextPlan) : Type 0 where
+-- Its connection is ready, the kept number is that of the desk's next plan, and the kept plans are
+-- those in the tables.
+pub record IsServing (s : State) (kept : Option NextPlan) (listed : KeptPlans) : Type 0 where
   pub ready : IsReady s
   pub next : IfSome kept (λ next. IsNextNumber s (string_bytes next.desk) next.n)
+  pub plans : KeepsPlans s listed
 
 -- The calls can fail, and the tables are readable as long as the store is open.
 abbrev pub sql_shelf : {S : Type 0} → Ghosts S → Shelf (Counted S)

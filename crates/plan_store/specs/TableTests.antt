@@ -1,6 +1,5 @@
 -- A connection while its tables are tested (docs/definitions.md, "Tables").
-use Rattle.std.specs.Prelude.{◌≡◌, ℤ, Bool, false, List, [], ◌∷◌, map, Option, IsTrue, Result, IfOk, MatchOption}
-use Rattle.std.specs.Bool.{MatchBool}
+use Rattle.std.specs.Prelude.{◌≡◌, ℤ, false, List, [], ◌∷◌, map, Option, IsSome, IsTrue, Result, IfOk, MatchOption}
 use Rattle.sqlite_trees.specs.Tree.{Trees}
 use Rattle.sqlite_trees.specs.declared.store.Store.{Ghosts}
 use Rattle.sqlite.specs.Effect.{Database}
@@ -11,10 +10,13 @@ use Rattle.plan_rows.specs.Books.{published_in}
 use Rattle.plan_rows.specs.Tables.{desk_kept, bind_kept, lag_kept}
 use Rattle.plan_rows.specs.World.{Plan, World}
 use Rattle.plan_store.specs.declared.untrusted_tables.OtherRows.{OtherRows}
+use Rattle.plan_store.specs.declared.kept_plans.KeptPlans.{KeptPlans}
 use Rattle.plan_store.specs.declared.layout.Layout.{Layout}
 use Rattle.plan_store.specs.Endurance.{Endures}
 use Rattle.plan_store.specs.TableRows.{Keeps}
 use Rattle.plan_store.specs.Rows.{read_code, written_code, read_desk, written_desk, read_bind, written_bind}
+use Rattle.plan_store.specs.Stores.{world_of}
+use Rattle.plan_store.specs.KeptPlans.{HoldsPlans}
 use Rattle.plan_store.specs.Layouts.{schema_of, meta_at, world_in, KeepsLags, IsOfficeAt}
 use Rattle.plan_store.specs.Reload.{IsInOrder}
 
@@ -63,15 +65,21 @@ abbrev pub TakesOthers : Layout → Database → Option OtherRows → Type 0
 TakesOthers layout db found =
     MatchOption found ((version : ℤ) → ¬ IsOfficeAt layout version db) (HoldsOthers layout db)
 
--- tables with these rows hold an office, or none
-abbrev pub IsJudged : Layout → Database → OtherRows → Bool → Type 0
-IsJudged layout db it good =
-    MatchBool good (IsOfficeAt layout it.version db) ((version : ℤ) → ¬ IsOfficeAt layout version db)
+-- the plans of the tables with these rows, or none if they hold no office
+abbrev pub IsJudged : Layout → Database → OtherRows → Option KeptPlans → Type 0
+IsJudged layout db it found =
+    MatchOption found ((version : ℤ) → ¬ IsOfficeAt layout version db)
+    (λ kept. IsOfficeAt layout it.version db × HoldsPlans (world_of db.trees).plans kept)
 
 -- the version of the tables, or none if they hold no office
 abbrev pub SaysVersion : Layout → Database → Option ℤ → Type 0
 SaysVersion layout db said =
     MatchOption said ((version : ℤ) → ¬ IsOfficeAt layout version db) (λ version. IsOfficeAt layout version db)
+
+-- the same, and the plans of the office
+pub record SaysOffice (layout : Layout) (db : Database) (it : Option ℤ × KeptPlans) : Type 0 where
+  pub version : SaysVersion layout db it.0
+  pub plans : IsSome it.0 → HoldsPlans (world_of db.trees).plans it.1
 
 -- the same facts about the connections that functions take
 module _ {S : Type 0} (g : Ghosts S) (layout : Layout) where

@@ -1,13 +1,15 @@
 //! The adoption of existing tables.
 
-ghost use Rattle.std.specs.Prelude.{◌≡◌, false};
+ghost use Rattle.std.specs.Prelude.{◌≡◌, false, IfOk, OnOk, IsSome};
 ghost use Rattle.sqlite.specs.State.{HasCleanDisk};
 ghost use Rattle.sqlite.specs.Held.{state};
 ghost use Rattle.plan_store.specs.Reload.{IsInOrder};
 ghost use Rattle.plan_store.specs.TableTests.{IsLaid, SaysVersion};
+ghost use Rattle.plan_store.specs.KeptPlans.{KeepsPlans};
 ghost use Rattle.plan_store.specs.Adoption.{Takes};
 
 use crate::fault::StoreFault;
+use crate::kept_plans::KeptPlans;
 use crate::layout::{Layout, layout_of};
 use crate::migration::migrate;
 use crate::version::read_version;
@@ -26,7 +28,8 @@ fn take_version<S: Alter>(
         → IsLaid layout (state S.Store conn.old) }
     requires says { HasCleanDisk (state S.Store conn.old)
         → SaysVersion layout (state S.Store conn.old).now said }
-    ensures { Takes (state S.Store conn.old) (state S.Store conn.new) result }
+    ensures takes { Takes (state S.Store conn.old) (state S.Store conn.new) result }
+    ensures said { OnOk result (IsSome said) }
 {
     match (layout, said) {
         (_, None) => Err(StoreFault::NotOurs),
@@ -37,18 +40,26 @@ fn take_version<S: Alter>(
     }
 }
 
-/// Adopts the tables of a reloaded connection. It migrates those of the first version.
-pub fn take_tables<S: Alter>(alloc: Global, conn: &mut Connection<S>) -> Result<(), StoreFault>
+/// Adopts the tables of a reloaded connection and returns their plans. It migrates those of the
+/// first version.
+pub fn take_tables<S: Alter>(
+    alloc: Global,
+    conn: &mut Connection<S>,
+) -> Result<KeptPlans, StoreFault>
     requires outside { (state S.Store conn.old).in_transaction ≡ false }
     requires in_order { HasCleanDisk (state S.Store conn.old)
         → IsInOrder (state S.Store conn.old) }
-    ensures { Takes (state S.Store conn.old) (state S.Store conn.new) result }
+    ensures takes { Takes (state S.Store conn.old) (state S.Store conn.new) result }
+    ensures plans { IfOk result (KeepsPlans (state S.Store conn.new)) }
 {
     let Some(layout) = layout_of(conn.schema()) else {
         return Err(StoreFault::NotOurs);
     };
     match read_version(alloc, conn, layout) {
-        Ok(said) => take_version(conn, layout, said),
+        Ok((said, kept)) => match take_version(conn, layout, said) {
+            Ok(()) => Ok(kept),
+            Err(fault) => Err(fault),
+        },
         Err(BookFault::NoMemory) => Err(StoreFault::NoMemory),
         Err(BookFault::Store) => Err(StoreFault::Store),
     }

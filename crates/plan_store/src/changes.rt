@@ -5,14 +5,17 @@ ghost use Rattle.plan_rows.specs.Changes.{apply, Publish, OpenDesk, SetKey, AddP
 ghost use Rattle.plan_rows.specs.Changes.{RemovePlan, BindPlace, SetCalendar, SetLag};
 ghost use Rattle.plan_store.specs.BookCalls.{Serves, ChangesOffice, KeepsRules};
 ghost use Rattle.plan_store.specs.BookCalls.{HasNextNumber, numbered_plan};
+ghost use Rattle.sqlite.specs.Held.{state};
+ghost use Rattle.plan_store.specs.KeptPlans.{KeepsPlans};
 ghost use Rattle.plan_store.specs.Edits.{set_capacity, add_code, set_bind, add_bind};
 ghost use Rattle.plan_store.specs.Edits.{drop_lag, change_lag, add_lag, put_lag};
 
+use crate::kept_plans::KeptPlans;
 use crate::numbers::{digits_of, number_after, sql_number};
 use crate::queries::{find_desk, has_lag, is_bound, is_published};
 use crate::schema::{INSERT_BIND, INSERT_DESK, INSERT_LAG, INSERT_PLAN, INSERT_PUBLISHED};
 use crate::transaction::transact;
-use plan_rows::{BookFault, Kind, PlanKind};
+use plan_rows::{BookFault, Kind, PlanEntry, PlanKind};
 use sqlite::types::ValueRef;
 use sqlite::{Alter, Connection, params};
 
@@ -146,9 +149,11 @@ fn add_numbered<'x, S: Alter>(
     )
 }
 
-// Adds a plan with the desk's next number.
+// Adds a plan with the desk's next number. The kept list changes after the tables, and by then it
+// needs no memory.
 fn add_next<'x, S: Alter>(
     conn: &mut Connection<S>,
+    plans: &mut KeptPlans,
     desk: &'x str,
     next: u64,
     kind: PlanKind,
@@ -156,40 +161,54 @@ fn add_next<'x, S: Alter>(
     body: &'x [u8],
 ) -> Result<(), BookFault>
     requires ready { Serves S.Store conn.old }
+    requires plans { KeepsPlans (state S.Store conn.old) plans.old }
     requires next { HasNextNumber S.Store conn.old desk.now next }
     requires kept { KeepsRules S.Store conn.old
         (apply desk.now (AddPlan kind name.now body.now)) }
-    ensures { ChangesOffice S.Store conn.old conn.new result
+    ensures changes { ChangesOffice S.Store conn.old conn.new result
         (apply desk.now (AddPlan kind name.now body.now)) }
+    ensures plans { KeepsPlans (state S.Store conn.new) plans.new }
 {
     let n = sql_number(next)?;
-    add_numbered(conn, desk, n, kind, name, body)
+    plans.make_list(desk)?;
+    let list = plans.list_with(desk, PlanEntry { n: next, kind })?;
+    match add_numbered(conn, desk, n, kind, name, body) {
+        Ok(()) => {
+            plans.set_list(desk, list);
+            Ok(())
+        }
+        Err(fault) => Err(fault),
+    }
 }
 
 // Reads the desk's next number and adds a plan with it.
 fn add_after_reading<'x, S: Alter>(
     conn: &mut Connection<S>,
+    plans: &mut KeptPlans,
     desk: &'x str,
     kind: PlanKind,
     name: &'x str,
     body: &'x [u8],
 ) -> Result<(), BookFault>
     requires ready { Serves S.Store conn.old }
+    requires plans { KeepsPlans (state S.Store conn.old) plans.old }
     requires kept { KeepsRules S.Store conn.old
         (apply desk.now (AddPlan kind name.now body.now)) }
-    ensures { ChangesOffice S.Store conn.old conn.new result
+    ensures changes { ChangesOffice S.Store conn.old conn.new result
         (apply desk.now (AddPlan kind name.now body.now)) }
+    ensures plans { KeepsPlans (state S.Store conn.new) plans.new }
 {
     let Some(row) = find_desk(conn, desk)? else {
         return Err(BookFault::Store);
     };
-    add_next(conn, desk, row.next, kind, name, body)
+    add_next(conn, plans, desk, row.next, kind, name, body)
 }
 
 /// Adds a plan with the desk's next number, which rises by 1. If the number isn't known, it is read
 /// from the desk's row.
 pub fn add_plan_in<'x, S: Alter>(
     conn: &mut Connection<S>,
+    plans: &mut KeptPlans,
     desk: &'x str,
     known: Option<u64>,
     kind: PlanKind,
@@ -197,29 +216,26 @@ pub fn add_plan_in<'x, S: Alter>(
     body: &'x [u8],
 ) -> Result<(), BookFault>
     requires ready { Serves S.Store conn.old }
+    requires plans { KeepsPlans (state S.Store conn.old) plans.old }
     requires known { IfSome known (HasNextNumber S.Store conn.old desk.now) }
     requires kept { KeepsRules S.Store conn.old
         (apply desk.now (AddPlan kind name.now body.now)) }
-    ensures { ChangesOffice S.Store conn.old conn.new result
+    ensures changes { ChangesOffice S.Store conn.old conn.new result
         (apply desk.now (AddPlan kind name.now body.now)) }
+    ensures plans { KeepsPlans (state S.Store conn.new) plans.new }
 {
     match known {
-        Some(next) => add_next(conn, desk, next, kind, name, body),
-        None => add_after_reading(conn, desk, kind, name, body),
+        Some(next) => add_next(conn, plans, desk, next, kind, name, body),
+        None => add_after_reading(conn, plans, desk, kind, name, body),
     }
 }
 
-/// Removes a plan with its binds and lags.
-pub fn remove_plan_in<S: Alter>(
-    conn: &mut Connection<S>,
-    desk: &str,
-    n: u64,
-) -> Result<(), BookFault>
+// Removes a plan with its binds and lags from the tables.
+fn remove_numbered<S: Alter>(conn: &mut Connection<S>, desk: &str, n: u32) -> Result<(), BookFault>
     requires ready { Serves S.Store conn.old }
     requires kept { KeepsRules S.Store conn.old (apply desk.now (RemovePlan n)) }
     ensures { ChangesOffice S.Store conn.old conn.new result (apply desk.now (RemovePlan n)) }
 {
-    let n = sql_number(n)?;
     let given: &[ValueRef<'_>] = params![desk, n];
     transact(
         conn,
@@ -229,6 +245,33 @@ pub fn remove_plan_in<S: Alter>(
             ("DELETE FROM lags WHERE desk = ?1 AND n = ?2", given),
         ],
     )
+}
+
+/// Removes a plan with its binds and lags. The kept list changes after the tables, and by then it
+/// needs no memory.
+pub fn remove_plan_in<S: Alter>(
+    conn: &mut Connection<S>,
+    plans: &mut KeptPlans,
+    desk: &str,
+    n: u64,
+) -> Result<(), BookFault>
+    requires ready { Serves S.Store conn.old }
+    requires plans { KeepsPlans (state S.Store conn.old) plans.old }
+    requires kept { KeepsRules S.Store conn.old (apply desk.now (RemovePlan n)) }
+    ensures changes { ChangesOffice S.Store conn.old conn.new result
+        (apply desk.now (RemovePlan n)) }
+    ensures plans { KeepsPlans (state S.Store conn.new) plans.new }
+{
+    let number = sql_number(n)?;
+    plans.make_list(desk)?;
+    let list = plans.list_without(desk, n)?;
+    match remove_numbered(conn, desk, number) {
+        Ok(()) => {
+            plans.set_list(desk, list);
+            Ok(())
+        }
+        Err(fault) => Err(fault),
+    }
 }
 
 /// Sets the calendar of a plan.

@@ -2,6 +2,7 @@
 
 ghost use Rattle.std.specs.Prelude.{◌≡◌, find, length, map, false};
 ghost use Rattle.sqlite.specs.Given.{IsPlain};
+ghost use Rattle.sqlite.specs.Held.{state};
 ghost use Rattle.sqlite.specs.Listing.{understood, reads_listing};
 ghost use Rattle.sqlite.specs.Values.{bound};
 ghost use Rattle.plan_rows.specs.World.{code_in, desk_in, plan_in, is_code, is_bind, is_lag};
@@ -13,16 +14,21 @@ ghost use Rattle.plan_rows.specs.Books.{ListsCodes, ListsPlans, IsPlanAnswer, bi
 ghost use Rattle.plan_store.specs.Tables.{store_schema};
 ghost use Rattle.plan_store.specs.BookCalls.{Serves, ReadsTables, ReadsOffice};
 ghost use Rattle.plan_store.specs.QueryRows.{ListsShown, FirstShown, OfficeShown};
-ghost use Rattle.plan_store.specs.QueryRows.{AnyShown, CountShown, IsPlanPart};
+ghost use Rattle.plan_store.specs.QueryRows.{AnyShown, IsPlanPart};
+ghost use Rattle.plan_store.specs.KeptPlans.{KeepsPlans};
 
+use crate::kept_plans::KeptPlans;
 use crate::numbers::sql_number;
 use crate::query_rows::{FromRow, PlanPart, read_all, read_digest, read_first};
 use crate::schema::{LIST_PUBLISHED, SELECT_PLAN};
-use crate::statements::rows_of;
+use crate::statements::{prepare, rows_of};
 use plan_rows::{BindEntry, BookFault, CodeRow, DeskRow, Kind, LagEntry, PlanEntry, PlanRow};
 use sqlite::types::ValueRef;
 use sqlite::{Alter, Connection, params};
 use std::alloc::Global;
+
+// Selects the digest of the office's key.
+const OFFICE: &str = "SELECT office FROM meta ORDER BY rowid";
 
 /// Reads all rows of a query.
 pub fn list_rows<S: Alter, T: FromRow>(
@@ -79,7 +85,7 @@ pub fn office_in<S: Alter>(conn: &mut Connection<S>) -> Result<[u8; 32], BookFau
     ensures { ReadsOffice S.Store conn.old conn.new result
         (λ w digest. digest ≡ w.office) }
 {
-    first_digest(conn, "SELECT office FROM meta ORDER BY rowid", &[])
+    first_digest(conn, OFFICE, &[])
 }
 
 /// Reads a desk by its name.
@@ -126,51 +132,43 @@ pub fn list_codes<S: Alter>(
     list_rows(alloc, conn, LIST_PUBLISHED, &[])
 }
 
-/// Lists the plans of a desk by number.
+// Fails if the store is closed. It reads no row.
+fn check_open<S: Alter>(conn: &mut Connection<S>) -> Result<(), BookFault>
+    requires ready { Serves S.Store conn.old }
+    ensures { ReadsTables S.Store conn.old conn.new result (λ _ _. Unit {0}) }
+{
+    prepare(conn, OFFICE)?;
+    Ok(())
+}
+
+/// Lists the plans of a desk by number, from the kept plans.
 pub fn list_plans<S: Alter>(
-    alloc: Global,
     conn: &mut Connection<S>,
+    plans: &KeptPlans,
     desk: &str,
 ) -> Result<Vec<PlanEntry>, BookFault>
     requires ready { Serves S.Store conn.old }
+    requires plans { KeepsPlans (state S.Store conn.old) plans.now }
     ensures { ReadsOffice S.Store conn.old conn.new result
         (λ w rows. ListsPlans (view desk.now w).plans rows.items) }
 {
-    list_rows(
-        alloc,
-        conn,
-        "SELECT n, kind FROM plans WHERE desk = ?1 ORDER BY n, rowid",
-        params![desk],
-    )
+    check_open(conn)?;
+    Ok(plans.list(desk)?)
 }
 
-// Counts the rows of a query.
-fn count_rows<S: Alter>(
+/// Counts the plans of a desk, from the kept plans.
+pub fn count_plans<S: Alter>(
     conn: &mut Connection<S>,
-    text: &str,
-    params: &[ValueRef<'_>],
+    plans: &KeptPlans,
+    desk: &str,
 ) -> Result<usize, BookFault>
     requires ready { Serves S.Store conn.old }
-    requires plain { IsPlain (understood store_schema text.now) }
-    requires ours { reads_listing store_schema text.now ≡ false }
-    ensures { ReadsTables S.Store conn.old conn.new result
-        (λ db. CountShown text.now db (bound params.now)) }
-{
-    let rows = rows_of(conn, text, params)?;
-    Ok(rows.len())
-}
-
-/// Counts the plans of a desk. It reads their numbers but no files.
-pub fn count_plans<S: Alter>(conn: &mut Connection<S>, desk: &str) -> Result<usize, BookFault>
-    requires ready { Serves S.Store conn.old }
+    requires plans { KeepsPlans (state S.Store conn.old) plans.now }
     ensures { ReadsOffice S.Store conn.old conn.new result
         (λ w count. count ≡ length (view desk.now w).plans) }
 {
-    count_rows(
-        conn,
-        "SELECT n FROM plans WHERE desk = ?1 ORDER BY rowid",
-        params![desk],
-    )
+    check_open(conn)?;
+    Ok(plans.count(desk))
 }
 
 // Reads a plan of a desk without its binds and lags.

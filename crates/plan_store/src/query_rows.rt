@@ -5,10 +5,10 @@ ghost use Rattle.std.specs.List.{AllZip};
 ghost use Rattle.sqlite_value.specs.Order.{Row as Shown};
 ghost use Rattle.plan_rows.specs.Books.{Matches};
 ghost use Rattle.plan_store.specs.QueryRows.{ShowsOffice, ShowsDesk, ShowsCapacity};
-ghost use Rattle.plan_store.specs.QueryRows.{ShowsCode, ShowsEntry, ShowsBind, ShowsLag};
+ghost use Rattle.plan_store.specs.QueryRows.{ShowsCode, ShowsBind, ShowsLag};
 
 use crate::cells::{bytes_at, digest_at, kind_at, number_at, plan_kind_at, small_at, text_at};
-use plan_rows::{BindEntry, BookFault, CodeRow, DeskRow, Kind, LagEntry, PlanEntry, PlanKind};
+use plan_rows::{BindEntry, BookFault, CodeRow, DeskRow, Kind, LagEntry, PlanKind};
 use sqlite::Row;
 use std::alloc::Global;
 
@@ -80,17 +80,6 @@ impl FromRow for CodeRow {
             code: text_at(row, 0)?,
             kind: kind_at(row, 1)?,
             capacity: number_at(row, 2)?,
-        })
-    }
-}
-
-impl FromRow for PlanEntry {
-    ghost shows = { ShowsEntry };
-
-    fn from_row(row: &Row) -> Result<PlanEntry, BookFault> {
-        Ok(PlanEntry {
-            n: number_at(row, 0)?,
-            kind: plan_kind_at(row, 1)?,
         })
     }
 }

@@ -20,6 +20,7 @@ use crate::changes::{
 };
 use crate::creation::{is_empty, make_tables};
 use crate::fault::StoreFault;
+use crate::kept_plans::KeptPlans;
 use crate::keyed_rows::list_by_key;
 use crate::leftover::Leftover;
 use crate::next_plan::{NextPlan, known_number, next_plan_of};
@@ -46,6 +47,8 @@ pub struct SqlBook<S: Alter> {
     denials: Calls,
     // the number in the desk's row that was read last, until a call writes
     next_plan: Option<NextPlan>,
+    // the numbers and kinds of the plans in the tables
+    kept_plans: KeptPlans,
 }
 
 impl<S: Alter> Model for SqlBook<S> {
@@ -63,7 +66,7 @@ impl<S: Alter> Model for SqlBook<S> {
       denials = b.denials.refused;
     } };
 
-    ghost invariant = { λ b. IsServing (state S.Store b.conn) b.next_plan };
+    ghost invariant = { λ b. IsServing (state S.Store b.conn) b.next_plan b.kept_plans };
 }
 
 impl<S: Alter> SqlBook<S> {
@@ -100,6 +103,7 @@ impl<S: Alter> SqlBook<S> {
             calls: Calls::new(),
             denials: Calls::new(),
             next_plan: None,
+            kept_plans: KeptPlans::new(alloc),
         })
     }
 
@@ -114,6 +118,7 @@ impl<S: Alter> SqlBook<S> {
             calls: _,
             denials: _,
             next_plan: _,
+            kept_plans: _,
         } = self;
         conn
     }
@@ -140,15 +145,17 @@ impl<S: Alter + Drop> SqlBook<S> {
             Ok(conn) => conn,
             Err((fault, store)) => return Err((fault, Leftover::Store(store))),
         };
-        if let Err(fault) = take_tables(alloc, &mut conn) {
-            return Err((fault, Leftover::Connection(conn)));
-        }
+        let kept_plans = match take_tables(alloc, &mut conn) {
+            Ok(kept) => kept,
+            Err(fault) => return Err((fault, Leftover::Connection(conn))),
+        };
         Ok(SqlBook {
             alloc,
             conn,
             calls: Calls::new(),
             denials: Calls::new(),
             next_plan: None,
+            kept_plans,
         })
     }
 }
@@ -229,12 +236,12 @@ impl<S: Alter> Book for SqlBook<S> {
     }
 
     fn plans(&mut self, desk: &str) -> Result<Vec<PlanEntry>, BookFault> {
-        let answer = list_plans(self.alloc, &mut self.conn, desk);
+        let answer = list_plans(&mut self.conn, &self.kept_plans, desk);
         self.denials.note(answer)
     }
 
     fn count_plans(&mut self, desk: &str) -> Result<usize, BookFault> {
-        let answer = count_plans(&mut self.conn, desk);
+        let answer = count_plans(&mut self.conn, &self.kept_plans, desk);
         self.denials.note(answer)
     }
 
@@ -252,14 +259,22 @@ impl<S: Alter> Book for SqlBook<S> {
     ) -> Result<(), BookFault> {
         let next = known_number(&self.next_plan, desk);
         self.next_plan = None;
-        let answer = add_plan_in(&mut self.conn, desk, next, kind, name, body);
+        let answer = add_plan_in(
+            &mut self.conn,
+            &mut self.kept_plans,
+            desk,
+            next,
+            kind,
+            name,
+            body,
+        );
         let counted = self.calls.count(answer);
         self.denials.note(counted)
     }
 
     fn remove_plan(&mut self, desk: &str, n: u64) -> Result<(), BookFault> {
         self.next_plan = None;
-        let answer = remove_plan_in(&mut self.conn, desk, n);
+        let answer = remove_plan_in(&mut self.conn, &mut self.kept_plans, desk, n);
         let counted = self.calls.count(answer);
         self.denials.note(counted)
     }

@@ -1,24 +1,26 @@
-//! The version of the tables, if they hold an office.
+//! The version of the tables and the numbers and kinds of their plans, if they hold an office.
 
 ghost use Rattle.sqlite.specs.State.{HasCleanDisk};
 ghost use Rattle.sqlite.specs.Held.{state};
 ghost use Rattle.plan_store.specs.TableTests.{CanRead, Inspects, HoldsOthers};
-ghost use Rattle.plan_store.specs.TableTests.{IsJudged, SaysVersion};
+ghost use Rattle.plan_store.specs.TableTests.{IsJudged, SaysOffice};
 
+use crate::kept_plans::KeptPlans;
 use crate::layout::Layout;
 use crate::plan_review::review_plans;
+use crate::plan_test::PlanTest;
 use crate::untrusted_tables::{OtherRows, try_others};
-use plan_rows::{Beside, BookFault, Review};
+use plan_rows::{Beside, BookFault};
 use sqlite::{Alter, Connection};
 use std::alloc::Global;
 
-// Returns whether the tables with these rows and their plans hold an office.
-fn is_office<S: Alter>(
+// Returns the plans of the tables with these rows, if the tables hold an office.
+fn office_plans<S: Alter>(
     alloc: Global,
     conn: &mut Connection<S>,
     layout: Layout,
     others: &OtherRows,
-) -> Result<bool, BookFault>
+) -> Result<Option<KeptPlans>, BookFault>
     requires ready { CanRead S.Store layout conn.old }
     requires others { HasCleanDisk (state S.Store conn.old)
         → HoldsOthers layout (state S.Store conn.old).now others.now }
@@ -32,28 +34,28 @@ fn is_office<S: Alter>(
         binds: others.binds.as_slice(),
         lags: others.lags.as_slice(),
     };
-    let mut review = Review::new(alloc, beside)?;
+    let mut review = PlanTest::new(alloc, beside)?;
     if !review_plans(conn, layout, &mut review)? {
-        return Ok(false);
+        return Ok(None);
     }
-    Ok(review.is_world()?)
+    Ok(review.finish()?)
 }
 
-/// Reads the version of the tables. It returns `None` if they hold no office.
+/// Reads the version of the tables and the plans in them. There is no version if they hold no
+/// office.
 pub fn read_version<S: Alter>(
     alloc: Global,
     conn: &mut Connection<S>,
     layout: Layout,
-) -> Result<Option<i64>, BookFault>
+) -> Result<(Option<i64>, KeptPlans), BookFault>
     requires { CanRead S.Store layout conn.old }
-    ensures { Inspects S.Store layout conn.old conn.new result (SaysVersion layout) }
+    ensures { Inspects S.Store layout conn.old conn.new result (SaysOffice layout) }
 {
     let Some(others) = try_others(alloc, conn, layout)? else {
-        return Ok(None);
+        return Ok((None, KeptPlans::new(alloc)));
     };
-    if is_office(alloc, conn, layout, &others)? {
-        Ok(Some(others.version))
-    } else {
-        Ok(None)
+    match office_plans(alloc, conn, layout, &others)? {
+        Some(kept) => Ok((Some(others.version), kept)),
+        None => Ok((None, KeptPlans::new(alloc))),
     }
 }

@@ -1,15 +1,10 @@
-//! Worked examples of several crates that no command on files shows. They cover networks, profiles,
-//! searches and memos, schedules by a list and with a lag, and words and verdicts of job shops.
-//! They also cover devices that fail, errors that no file causes, and calls with failed
-//! allocations.
+//! Worked examples of several crates that no command on files shows: schedules by a list and with a
+//! lag, words and verdicts of job shops, answers that are kept for projects, devices that fail,
+//! errors that no file causes, calls with failed allocations, and calls that no command makes.
 #![tactic(auto)]
 
 #[cfg(test)]
 mod calendars;
-#[cfg(test)]
-mod clauses;
-#[cfg(test)]
-mod dates;
 #[cfg(test)]
 mod devices;
 #[cfg(test)]
@@ -19,17 +14,11 @@ mod job_shops;
 #[cfg(test)]
 mod kept_projects;
 #[cfg(test)]
-mod memos;
-#[cfg(test)]
-mod networks;
-#[cfg(test)]
-mod profiles;
-#[cfg(test)]
 mod project_trees;
 #[cfg(test)]
 mod refusals;
 #[cfg(test)]
-mod searches;
+mod runs;
 #[cfg(test)]
 mod serial;
 #[cfg(test)]
@@ -38,3 +27,5 @@ mod shop_verdicts;
 mod shops;
 #[cfg(test)]
 mod six;
+#[cfg(test)]
+mod tables;

@@ -1,17 +1,16 @@
+use Rattle.std.proofs.Common.{◌∙◌, Ok}
 use Rattle.sqlite.specs.Held.{state}
-use Rattle.plan_store.proofs.QueryEffectLemmas.{asks_map}
-use Rattle.plan_store.proofs.ReadMeanings.{counted_plain, counted_listed}
-use Rattle.plan_store.proofs.ReadLemmas.{counted_read}
+use Rattle.plan_store.specs.Stores.{world_of}
+use Rattle.plan_store.proofs.QueryEffectLemmas.{asks_again}
+use Rattle.plan_store.proofs.KeptLemmas.{kept_counted}
 use Rattle.plan_store.proofs.queries.count_plans.Goals as goal
-
-pub count_rows-requires-clause-plain : goal.count_rows-requires-clause-plain
-count_rows-requires-clause-plain g c = counted_plain
-
-pub count_rows-requires-clause-ours : goal.count_rows-requires-clause-ours
-count_rows-requires-clause-ours g c = counted_listed
 
 pub returns : goal.returns
 returns g c =
     let old = state g.S.Store c.args.conn.now in
-    let new = state g.S.Store c.count_rows.new.conn in
-    asks_map old new c.requires.ready c.count_rows.result _ _ (λ x stands h. counted_read old stands c.args.desk.now x (rw (c.params-to_sql.ensures) at h)) c.count_rows.ensures
+    let new = state g.S.Store c.check_open.new.conn in
+    let it = c.in_ok-check_open.ensures in
+    asks_again old new (Ok tt) _ (Ok c.count.result) _ it (λ clean.
+    let live = (it.answer clean).0 in
+    let was = it.same clean live in
+    (live, c.count.ensures ∙ kept_counted (world_of old.now.trees) c.args.desk.now c.args.plans.now (c.requires.plans (it.honesty clean) was.0)))

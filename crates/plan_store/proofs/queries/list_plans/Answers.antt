@@ -1,17 +1,16 @@
+use Rattle.std.proofs.Common.{Ok}
 use Rattle.sqlite.specs.Held.{state}
-use Rattle.plan_store.proofs.QueryEffectLemmas.{asks_map}
-use Rattle.plan_store.proofs.ReadMeanings.{plans_plain, plans_listed}
-use Rattle.plan_store.proofs.ReadLemmas.{plans_read}
+use Rattle.plan_store.specs.Stores.{world_of}
+use Rattle.plan_store.proofs.QueryEffectLemmas.{asks_again}
+use Rattle.plan_store.proofs.KeptLemmas.{kept_listed}
 use Rattle.plan_store.proofs.queries.list_plans.Goals as goal
-
-pub list_rows-requires-clause-plain : goal.list_rows-requires-clause-plain
-list_rows-requires-clause-plain g c = plans_plain
-
-pub list_rows-requires-clause-ours : goal.list_rows-requires-clause-ours
-list_rows-requires-clause-ours g c = plans_listed
 
 pub returns : goal.returns
 returns g c =
     let old = state g.S.Store c.args.conn.now in
-    let new = state g.S.Store c.list_rows.new.conn in
-    asks_map old new c.requires.ready c.list_rows.result _ _ (λ x stands h. plans_read old stands c.args.desk.now x.items (rw (c.params-to_sql.ensures) at h)) c.list_rows.ensures
+    let new = state g.S.Store c.check_open.new.conn in
+    let it = c.in_ok-check_open.ensures in
+    asks_again old new (Ok tt) _ (Ok c.in_ok-list.field-0) _ it (λ clean.
+    let live = (it.answer clean).0 in
+    let was = it.same clean live in
+    (live, kept_listed (world_of old.now.trees) c.args.desk.now c.args.plans.now c.in_ok-list.field-0.items (c.requires.plans (it.honesty clean) was.0) c.in_ok-list.ensures))

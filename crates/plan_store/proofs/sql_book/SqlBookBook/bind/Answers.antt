@@ -1,8 +1,10 @@
-use Rattle.std.proofs.Common.{subst}
+use Rattle.std.proofs.Common.{refl, subst}
 use Rattle.plan_rows.specs.Books.{Writes}
 use Rattle.plan_rows.specs.Changes.{apply, BindPlace}
 use Rattle.plan_store.specs.SqlBooks.{Counted, sql_shelf}
 use Rattle.plan_store.proofs.BookLemmas.{writes_from}
+use Rattle.sqlite.specs.Held.{state}
+use Rattle.plan_store.proofs.KeptLemmas.{served_changed}
 use Rattle.plan_store.proofs.sql_book.SqlBookBook.bind.Goals as goal
 
 pub returns : goal.returns
@@ -23,3 +25,8 @@ returns g c =
     c.count-counted.result c.note.result c.count-counted.ensures.answer c.note.ensures.answer
     c.bind_place-answer.ensures
     c.count-counted.ensures.made c.count-counted.ensures.refused (record { told = c.note.ensures.told; wanted = c.note.ensures.wanted; denied = c.note.ensures.denied }))
+
+pub invariant_of-self : goal.invariant_of-self
+invariant_of-self g c =
+    served_changed (state g.S.Store c.self.inside.conn) (state g.S.Store c.bind_place-answer.new.conn) (apply c.args.desk.now (BindPlace c.args.n c.args.place c.args.code.now)) (λ w desk. refl)
+    c.self.inside.next_plan c.self.inside.kept_plans c.bind_place-answer.result c.bind_place-answer.ensures c.self.invariant

@@ -2,6 +2,8 @@ use Rattle.std.proofs.Common.{◌≡◌, refl, subst}
 use Rattle.plan_rows.specs.Books.{Reads}
 use Rattle.plan_store.specs.SqlBooks.{Counted, sql_shelf}
 use Rattle.plan_store.proofs.BookLemmas.{reads_from}
+use Rattle.sqlite.specs.Held.{state}
+use Rattle.plan_store.proofs.KeptLemmas.{served_asked}
 use Rattle.plan_store.proofs.sql_book.SqlBookBook.office.Goals as goal
 
 pub returns : goal.returns
@@ -12,3 +14,8 @@ returns g c =
     subst (λ old. Reads (sql_shelf g.S.Store) old now c.note.result (λ digest. digest ≡ ((sql_shelf g.S.Store).world old).office)) c.self.view_is
     (reads_from g.S.Store was now c.self.invariant.ready c.office_in-answer.result c.note.result _ c.note.ensures.answer c.office_in-answer.ensures refl refl
     (record { told = c.note.ensures.told; wanted = c.note.ensures.wanted; denied = c.note.ensures.denied }))
+
+pub invariant_of-self : goal.invariant_of-self
+invariant_of-self g c =
+    served_asked (state g.S.Store c.self.inside.conn) (state g.S.Store c.office_in-answer.new.conn) c.self.inside.next_plan c.self.inside.kept_plans
+    c.office_in-answer.result _ c.office_in-answer.ensures c.self.invariant

@@ -5,6 +5,8 @@ use Rattle.plan_rows.specs.Plans.{has_number}
 use Rattle.plan_rows.specs.Books.{Reads, Matches, IsPlanAnswer}
 use Rattle.plan_store.specs.SqlBooks.{Counted, sql_shelf}
 use Rattle.plan_store.proofs.BookLemmas.{reads_from}
+use Rattle.sqlite.specs.Held.{state}
+use Rattle.plan_store.proofs.KeptLemmas.{served_asked}
 use Rattle.plan_store.proofs.sql_book.SqlBookBook.plan.Goals as goal
 
 pub returns : goal.returns
@@ -18,3 +20,8 @@ returns g c =
     c.self.view_is
     (reads_from g.S.Store was now c.self.invariant.ready c.find_plan-answer.result c.note.result _ c.note.ensures.answer c.find_plan-answer.ensures refl refl
     (record { told = c.note.ensures.told; wanted = c.note.ensures.wanted; denied = c.note.ensures.denied }))
+
+pub invariant_of-self : goal.invariant_of-self
+invariant_of-self g c =
+    served_asked (state g.S.Store c.self.inside.conn) (state g.S.Store c.find_plan-answer.new.conn) c.self.inside.next_plan c.self.inside.kept_plans
+    c.find_plan-answer.result _ c.find_plan-answer.ensures c.self.invariant

@@ -21,5 +21,5 @@ returns g c =
     subst (λ old. Writes (sql_shelf g.S.Store) old now c.note.result change) c.self.view_is
     (writes_from g.S.Store was now c.self.invariant.ready change c.remove_plan_in-answer.result
     c.count-counted.result c.note.result c.count-counted.ensures.answer c.note.ensures.answer
-    c.remove_plan_in-answer.ensures
+    c.remove_plan_in-answer.ensures.changes
     c.count-counted.ensures.made c.count-counted.ensures.refused (record { told = c.note.ensures.told; wanted = c.note.ensures.wanted; denied = c.note.ensures.denied }))

@@ -3,6 +3,8 @@ use Rattle.plan_rows.specs.Books.{Reads}
 use Rattle.plan_rows.specs.KeyedRows.{AreRowsByKey}
 use Rattle.plan_store.specs.SqlBooks.{Counted, sql_shelf}
 use Rattle.plan_store.proofs.BookLemmas.{reads_from}
+use Rattle.sqlite.specs.Held.{state}
+use Rattle.plan_store.proofs.KeptLemmas.{served_asked}
 use Rattle.plan_store.proofs.sql_book.SqlBookListing.list.Goals as goal
 
 pub returns : goal.returns
@@ -13,3 +15,8 @@ returns g c =
     subst (λ old. Reads (sql_shelf g.S.Store) old now c.note.result (AreRowsByKey ((sql_shelf g.S.Store).world old))) c.self.view_is
     (reads_from g.S.Store was now c.self.invariant.ready c.list_by_key-answer.result c.note.result _ c.note.ensures.answer c.list_by_key-answer.ensures refl refl
     (record { told = c.note.ensures.told; wanted = c.note.ensures.wanted; denied = c.note.ensures.denied }))
+
+pub invariant_of-self : goal.invariant_of-self
+invariant_of-self g c =
+    served_asked (state g.S.Store c.self.inside.conn) (state g.S.Store c.list_by_key-answer.new.conn) c.self.inside.next_plan c.self.inside.kept_plans
+    c.list_by_key-answer.result _ c.list_by_key-answer.ensures c.self.invariant

@@ -1,0 +1,24 @@
+use Rattle.std.proofs.lemmas.Result.{err_from_is_err_and}
+use Rattle.plan_report.specs.StartsText.{activity_sheet}
+use Rattle.plan_cli.proofs.CompareLemmas.{no_first, no_second, bad_pair}
+use Rattle.plan_cli.proofs.comparisons.instance_text.Goals as goal
+
+pub returns-in_err-a-clause-refused : goal.returns-in_err-a-clause-refused
+returns-in_err-a-clause-refused c =
+    let first = c.args.pair.a.now in
+    let second = c.args.pair.b.now in
+    let net = c.network-network.result.now in
+    let e = c.in_err-a.field-0.0 in
+    let error = err_from_is_err_and c.from_residual.result c.from_residual.ensures.1 in
+    rw (error.1, error.2) (bad_pair first second c.args.instance.now net e c.network-network.ensures.instance.fit c.network-network.ensures.network
+    (no_first (activity_sheet net) first second e c.in_err-a.ensures.refused))
+
+pub returns-in_err-b-clause-refused : goal.returns-in_err-b-clause-refused
+returns-in_err-b-clause-refused c =
+    let first = c.args.pair.a.now in
+    let second = c.args.pair.b.now in
+    let net = c.network-network.result.now in
+    let e = c.in_err-b.field-0.0 in
+    let error = err_from_is_err_and c.from_residual-in_err-b.result c.from_residual-in_err-b.ensures.1 in
+    rw (error.1, error.2) (bad_pair first second c.args.instance.now net e c.network-network.ensures.instance.fit c.network-network.ensures.network
+    (no_second (activity_sheet net) first second c.in_ok-a.a.items e c.in_ok-a.ensures.said c.in_err-b.ensures.refused))

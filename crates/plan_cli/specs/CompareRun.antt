@@ -1,0 +1,66 @@
+-- The output of `plan compare` for the bytes that it reads (docs/definitions.md, "Runs").
+use Rattle.std.specs.Prelude.{◌≡◌, ◌⊎◌, ◌++◌, ℕ, List, codes, string_bytes}
+use Rattle.plan_sgs.specs.Problem.{NeedsFit}
+use Rattle.plan_sgs.specs.Instances.{Planned, problem_of}
+use Rattle.plan_shop.specs.Shop.{JobShop}
+use Rattle.plan_report.specs.Comparison.{IsComparison}
+use Rattle.plan_report.specs.Sheet.{Sheet}
+use Rattle.plan_report.specs.ShopComparison.{IsShopComparison}
+use Rattle.plan_report.specs.StartsText.{SaysStarts, activity_sheet, step_sheet}
+use Rattle.plan_errors.specs.Output.{Refuses}
+use Rattle.plan_errors.specs.declared.fault.CliFault.{CliFault}
+use Rattle.plan_errors.specs.declared.fault.CliFault.TheVariants as fault
+use Rattle.plan_cli.specs.ScheduleRun.{TellsNeed}
+use Rattle.plan_cli.specs.Starts.{TellsNoStarts}
+
+-- the line of an error with the name of a schedule behind it
+abbrev pub named_line : List ℕ → List ℕ → List ℕ
+named_line name line = line ++ codes " " ++ name
+
+-- the same for an error: only a line gets the name, and memory can run out for it
+abbrev pub IsNamedFault : List ℕ → CliFault → CliFault → Type 0
+IsNamedFault name (fault.Refused line) named =
+    Refuses (λ told. told ≡ named_line name (string_bytes line)) named
+IsNamedFault name fault.Memory named = named ≡ fault.Memory
+IsNamedFault name fault.Input named = named ≡ fault.Input
+IsNamedFault name fault.Output named = named ≡ fault.Output
+
+-- a line gives the first check that the starts of the schedule with this name fail
+abbrev pub TellsNoStartsOf : List ℕ → Sheet → List ℕ → List ℕ → Type 0
+TellsNoStartsOf name sheet text line =
+    (plain : List ℕ) × TellsNoStarts sheet text plain × (line ≡ named_line name plain)
+
+-- a line gives the first check that the starts of schedule A fail, or else those of schedule B
+abbrev pub TellsNoPair : Sheet → List ℕ → List ℕ → List ℕ → Type 0
+TellsNoPair sheet first second line = TellsNoStartsOf (codes "A") sheet first line
+    ⊎ ((a : List ℕ) × SaysStarts sheet first a
+    × TellsNoStartsOf (codes "B") sheet second line)
+
+-- two texts say the starts of the schedules A and B, and this holds of them
+abbrev pub SayPair : Sheet → List ℕ → List ℕ → (List ℕ → List ℕ → Type 0) → Type 0
+SayPair sheet first second Holds = (a : List ℕ) × SaysStarts sheet first a
+    × ((b : List ℕ) × SaysStarts sheet second b × Holds a b)
+
+-- a text compares the schedules with the starts in two texts, for an instance whose needs are
+-- within its capacities
+abbrev pub IsCompared : List ℕ → List ℕ → Planned → List ℕ → Type 0
+IsCompared first second i text = NeedsFit (problem_of i)
+    × SayPair (activity_sheet i.project.network) first second (λ a b. IsComparison i a b text)
+
+-- a line gives the first check that one of these texts fails, for such an instance
+abbrev pub TellsBadPair : List ℕ → List ℕ → Planned → List ℕ → Type 0
+TellsBadPair first second i line =
+    NeedsFit (problem_of i) × TellsNoPair (activity_sheet i.project.network) first second line
+
+-- the same, behind a need that is above its capacity
+abbrev pub TellsNotCompared : List ℕ → List ℕ → Planned → List ℕ → Type 0
+TellsNotCompared first second i line = TellsNeed i line ⊎ TellsBadPair first second i line
+
+-- a text compares the schedules of a job shop with the starts in two texts
+abbrev pub IsShopCompared : List ℕ → List ℕ → JobShop → List ℕ → Type 0
+IsShopCompared first second s text =
+    SayPair (step_sheet s) first second (λ a b. IsShopComparison s a b text)
+
+-- a line gives the first check that one of these texts fails, for a job shop
+abbrev pub TellsShopNotCompared : List ℕ → List ℕ → JobShop → List ℕ → Type 0
+TellsShopNotCompared first second s line = TellsNoPair (step_sheet s) first second line

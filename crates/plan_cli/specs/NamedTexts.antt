@@ -1,0 +1,86 @@
+-- Tasks with texts in files of their own (docs/definitions.md, "Runs").
+use Rattle.std.specs.Prelude.{ℕ, ◌+◌, ◌≤◌, List, [], ◌∷◌, Option, Result, Err, length}
+use denote.Ref.{Bor}
+use Rattle.plan_psplib.specs.Plain.{longest_text}
+use Rattle.plan_errors.specs.declared.fault.CliFault.{CliFault}
+use Rattle.plan_errors.specs.declared.fault.CliFault.TheVariants as fault
+use Rattle.plan_cli.specs.Tasks.{AreRead, DoesTask}
+use Rattle.plan_cli.specs.declared.calendars.Dates.{Dates}
+use Rattle.plan_cli.specs.declared.comparisons.Pair.{Pair}
+use Rattle.plan_cli.specs.declared.named_texts.NamedText.{NamedText}
+use Rattle.plan_cli.specs.declared.named_texts.Role.{Role}
+use Rattle.plan_cli.specs.declared.named_texts.Role.TheVariants as role
+use Rattle.plan_cli.specs.declared.origins.Origin.TheVariants as origin
+use Rattle.plan_cli.specs.declared.tasks.Rows.{Rows}
+use Rattle.plan_cli.specs.declared.tasks.Task.{Task}
+use Rattle.plan_cli.specs.declared.tasks.Task.TheVariants as task
+
+-- the task with other starts, if it has starts or a schedule
+abbrev pub with_starts : Task → Bor (List ℕ) → Task
+with_starts (task.Check starts) text = task.Check text
+with_starts (task.ShopCheck starts instance) text = task.ShopCheck text instance
+with_starts (task.Slack starts given) text = task.Slack text given
+with_starts (task.Chart from given) text = task.Chart (origin.Starts text) given
+with_starts (task.ShopChart from instance) text = task.ShopChart (origin.Starts text) instance
+with_starts (task.Days from dates given) text = task.Days (origin.Starts text) dates given
+with_starts (task.ShopDays from dates instance) text =
+    task.ShopDays (origin.Starts text) dates instance
+with_starts t text = t
+
+-- the pair with other starts of A, and of B
+abbrev pub pair_with_a : Pair → Bor (List ℕ) → Pair
+pair_with_a pair text = record { a = text; b = pair.b }
+
+abbrev pub pair_with_b : Pair → Bor (List ℕ) → Pair
+pair_with_b pair text = record { a = pair.a; b = text }
+
+-- the comparison with other starts of A
+abbrev pub with_starts_a : Task → Bor (List ℕ) → Task
+with_starts_a (task.Compare pair given) text = task.Compare (pair_with_a pair text) given
+with_starts_a (task.ShopCompare pair instance) text =
+    task.ShopCompare (pair_with_a pair text) instance
+with_starts_a t text = t
+
+-- the comparison with other starts of B
+abbrev pub with_starts_b : Task → Bor (List ℕ) → Task
+with_starts_b (task.Compare pair given) text = task.Compare (pair_with_b pair text) given
+with_starts_b (task.ShopCompare pair instance) text =
+    task.ShopCompare (pair_with_b pair text) instance
+with_starts_b t text = t
+
+-- the dates with other holidays
+abbrev pub dates_with : Dates → Bor (List ℕ) → Dates
+dates_with dates text = record { start = dates.start; marks = dates.marks; holidays = text }
+
+-- the task with other holidays, if it has dates
+abbrev pub with_holidays : Task → Bor (List ℕ) → Task
+with_holidays (task.Days from dates given) text = task.Days from (dates_with dates text) given
+with_holidays (task.ShopDays from dates instance) text =
+    task.ShopDays from (dates_with dates text) instance
+with_holidays t text = t
+
+-- the task with another text of this role
+abbrev pub with_text : Task → Role → Bor (List ℕ) → Task
+with_text t role.Starts text = with_starts t text
+with_text t role.StartsA text = with_starts_a t text
+with_text t role.StartsB text = with_starts_b t text
+with_text t role.Holidays text = with_holidays t text
+
+-- Unless the input fails or memory runs out, this holds of the text that was read: at most one byte
+-- more than the longest text has.
+abbrev pub DoesWith : Option (List ℕ) → Result (Unit {0}) CliFault → (Bor (List ℕ) → Type 0)
+    → Type 0
+DoesWith bytes (Err fault.Memory) Does = Unit {0}
+DoesWith bytes (Err fault.Input) Does = Unit {0}
+DoesWith bytes result Does =
+    (text : Bor (List ℕ)) × (length text.now ≤ longest_text + 1) × AreRead text.now bytes
+    × Does text
+
+-- The task does what it does with the texts that were read for these names, in their order. The
+-- first argument gives the bytes behind a name, if they are known.
+abbrev pub DoesTexts : (List ℕ → Option (List ℕ)) → Task → Rows → List NamedText
+    → Option (List ℕ) → Option (List ℕ) → Option (List ℕ) → Result (Unit {0}) CliFault → Type 0
+DoesTexts behind t rows [] file taken after result = DoesTask t rows file taken after result
+DoesTexts behind t rows (named ∷ rest) file taken after result =
+    DoesWith (behind named.name.now) result
+    (λ text. DoesTexts behind (with_text t named.role text) rows rest file taken after result)

@@ -1,0 +1,166 @@
+//! Texts that a task reads from files of their own.
+
+ghost use Rattle.std.specs.Prelude.{◌≡◌};
+ghost use Rattle.plan_cli.specs.NamedTexts as spec;
+
+use crate::calendars::Dates;
+use crate::comparisons::Pair;
+use crate::origins::Origin;
+use crate::tasks::Task;
+
+/// The use of a text in a task.
+#[derive(Clone, Copy, Debug, PartialEq, Eq)]
+pub enum Role {
+    /// The starts of a schedule. A task that otherwise schedules by a rule shows them.
+    Starts,
+    /// The starts of schedule A in a comparison.
+    StartsA,
+    /// The starts of schedule B in a comparison.
+    StartsB,
+    /// The holidays of a calendar.
+    Holidays,
+}
+
+/// A text in the file with this name, or in standard input if the name is `-`.
+#[derive(Clone, Copy, Debug, Drop)]
+pub struct NamedText<'a> {
+    pub role: Role,
+    pub name: &'a str,
+}
+
+// Returns the task with these starts. A task without starts stays as it is.
+fn with_starts<'a>(task: Task<'a>, text: &'a [u8]) -> Task<'a>
+    ensures { result ≡ spec.with_starts task.entry text.entry }
+{
+    let origin = Origin::Starts(text);
+    match task {
+        Task::Check { .. } => Task::Check { starts: text },
+        Task::ShopCheck { instance, .. } => Task::ShopCheck {
+            starts: text,
+            instance,
+        },
+        Task::Slack { capacities, .. } => Task::Slack {
+            starts: text,
+            capacities,
+        },
+        Task::Chart { capacities, .. } => Task::Chart { origin, capacities },
+        Task::ShopChart { instance, .. } => Task::ShopChart { origin, instance },
+        Task::Days {
+            dates,
+            capacities,
+            ..
+        } => Task::Days {
+            origin,
+            dates,
+            capacities,
+        },
+        Task::ShopDays {
+            dates,
+            instance,
+            ..
+        } => Task::ShopDays {
+            origin,
+            dates,
+            instance,
+        },
+        _ => task,
+    }
+}
+
+// Returns the pair with these starts of A.
+fn pair_with_a<'a>(pair: Pair<'a>, text: &'a [u8]) -> Pair<'a>
+    ensures { result ≡ spec.pair_with_a pair.entry text.entry }
+{
+    Pair { a: text, b: pair.b }
+}
+
+// Returns the pair with these starts of B.
+fn pair_with_b<'a>(pair: Pair<'a>, text: &'a [u8]) -> Pair<'a>
+    ensures { result ≡ spec.pair_with_b pair.entry text.entry }
+{
+    Pair { a: pair.a, b: text }
+}
+
+// Returns the comparison with these starts of A. Another task stays as it is.
+fn with_starts_a<'a>(task: Task<'a>, text: &'a [u8]) -> Task<'a>
+    ensures { result ≡ spec.with_starts_a task.entry text.entry }
+{
+    match task {
+        Task::Compare { starts, capacities } => Task::Compare {
+            starts: pair_with_a(starts, text),
+            capacities,
+        },
+        Task::ShopCompare { starts, instance } => Task::ShopCompare {
+            starts: pair_with_a(starts, text),
+            instance,
+        },
+        _ => task,
+    }
+}
+
+// Returns the comparison with these starts of B. Another task stays as it is.
+fn with_starts_b<'a>(task: Task<'a>, text: &'a [u8]) -> Task<'a>
+    ensures { result ≡ spec.with_starts_b task.entry text.entry }
+{
+    match task {
+        Task::Compare { starts, capacities } => Task::Compare {
+            starts: pair_with_b(starts, text),
+            capacities,
+        },
+        Task::ShopCompare { starts, instance } => Task::ShopCompare {
+            starts: pair_with_b(starts, text),
+            instance,
+        },
+        _ => task,
+    }
+}
+
+// Returns the dates with these holidays.
+fn dates_with<'a>(dates: Dates<'a>, holidays: &'a [u8]) -> Dates<'a>
+    ensures { result ≡ spec.dates_with dates.entry holidays.entry }
+{
+    Dates {
+        start: dates.start,
+        marks: dates.marks,
+        holidays,
+    }
+}
+
+// Returns the task with these holidays. A task without a calendar stays as it is.
+fn with_holidays<'a>(task: Task<'a>, holidays: &'a [u8]) -> Task<'a>
+    ensures { result ≡ spec.with_holidays task.entry holidays.entry }
+{
+    match task {
+        Task::Days {
+            origin,
+            dates,
+            capacities,
+        } => Task::Days {
+            origin,
+            dates: dates_with(dates, holidays),
+            capacities,
+        },
+        Task::ShopDays {
+            origin,
+            dates,
+            instance,
+        } => Task::ShopDays {
+            origin,
+            dates: dates_with(dates, holidays),
+            instance,
+        },
+        _ => task,
+    }
+}
+
+/// Returns the task with a text in place of its text with this role.
+pub(crate) fn with_text<'a>(task: Task<'a>, role: Role, text: &'a [u8]) -> Task<'a>
+    ensures { result ≡ spec.with_text task.entry role text.entry }
+{
+    match role {
+        Role::Starts => with_starts(task, text),
+        Role::StartsA => with_starts_a(task, text),
+        Role::StartsB => with_starts_b(task, text),
+        Role::Holidays => with_holidays(task, text),
+    }
+}

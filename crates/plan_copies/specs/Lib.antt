@@ -1,0 +1,4 @@
+pub mod Bytes
+pub mod Stable
+pub mod Checks
+pub mod Settling

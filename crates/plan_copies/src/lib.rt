@@ -1,0 +1,31 @@
+//! The commands on copies of an office: check it by a copy, back it up, restore it, and settle its
+//! log.
+#![tactic(auto)]
+
+mod backup;
+mod bytes;
+mod check;
+mod devices;
+mod expiry;
+mod fault;
+mod lines;
+mod named;
+mod pair;
+mod restore;
+mod room;
+mod scratch;
+mod settle;
+mod strays;
+
+pub use backup::backup_on_files;
+pub use bytes::copy_all;
+pub use check::{CheckFault, Scratch, check_copy, copy_checked};
+pub use devices::{FileReader, FileWriter};
+pub use fault::PairFault;
+pub use lines::{CopyFault, scratch_fault};
+pub use named::{NamedCopy, NamedPair};
+pub use pair::{MOST_TRIES, Origin, Target, copy_stable};
+pub use restore::restore_on_files;
+pub use scratch::{check_on_file, scratch_folder};
+pub use settle::{settle_from, settle_on_file};
+pub use strays::{has_log, remove_stray_log};

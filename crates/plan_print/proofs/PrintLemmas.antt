@@ -1,0 +1,70 @@
+-- Sheets that are written for the bytes that were read.
+use Rattle.std.proofs.Common.{◌≡◌, ℕ, ◌+◌, ◌≤◌, Bool, true, false, List, Option, Some, None, Result, Ok, Err, length, refl, subst}
+use Rattle.std.specs.Prelude.{bytes_eq, codes, if◌then◌else◌}
+use denote.Ref.{Bor}
+use Rattle.plan_errors.specs.declared.fault.CliFault.{CliFault}
+use Rattle.plan_errors.specs.declared.fault.CliFault.TheVariants as cli
+use Rattle.plan_cli.specs.Tasks.{AreRead, bytes_named}
+use Rattle.plan_cli.specs.NamedTexts.{DoesWith}
+use Rattle.plan_cli.specs.declared.origins.Origin.{Origin}
+use Rattle.plan_cli.specs.declared.origins.Origin.TheVariants as origin
+use Rattle.plan_print.specs.Prints.{PrintsFrom, PrintsNamed, PrintsWith, Prints, sheet_with}
+use Rattle.plan_print.specs.declared.prints.NamedOrigin.{NamedOrigin}
+use Rattle.plan_print.specs.declared.prints.NamedOrigin.TheVariants as named
+use Rattle.plan_print.specs.declared.prints.Print.{Print}
+use Rattle.plan_print.specs.declared.sheets.Sheet.{Sheet}
+use Rattle.plan_print.specs.declared.sheets.Subject.{Subject}
+
+-- what holds of the bytes that were read, if the known bytes are others and the fact implies another
+does_as : (known other : Option (List ℕ)) (r : Result (Unit {0}) CliFault) (Does Other : Bor (List ℕ) → Type 0)
+    → known ≡ other → ((text : Bor (List ℕ)) → Does text → Other text) → DoesWith known r Does → DoesWith other r Other
+does_as known other (Ok u) Does Other same implies (text, short, read, does) = (text, short, subst (AreRead text.now) same read, implies text does)
+does_as known other (Err (cli.Refused line)) Does Other same implies (text, short, read, does) =
+    (text, short, subst (AreRead text.now) same read, implies text does)
+does_as known other (Err cli.Memory) Does Other same implies does = tt
+does_as known other (Err cli.Input) Does Other same implies does = tt
+does_as known other (Err cli.Output) Does Other same implies (text, short, read, does) =
+    (text, short, subst (AreRead text.now) same read, implies text does)
+
+-- the same bytes of the files
+abbrev pub AreSame : (List ℕ → Option (List ℕ)) → (List ℕ → Option (List ℕ)) → Type 0
+AreSame f g = (name : List ℕ) → f name ≡ g name
+
+from_same : (known other : Option (List ℕ)) (s : Sheet) (of : Subject) (from : Origin) (taken after : Option (List ℕ))
+    (r : Result (Unit {0}) CliFault) → known ≡ other
+    → PrintsFrom known s of from taken after r → PrintsFrom other s of from taken after r
+from_same known other s of from taken after r same p = subst (λ (k : Option (List ℕ)). PrintsFrom k s of from taken after r) same p
+
+named_same : (f g : List ℕ → Option (List ℕ)) → AreSame f g
+    → (s : Sheet) (of : Subject) (from : NamedOrigin) (file : List ℕ) (taken after : Option (List ℕ)) (r : Result (Unit {0}) CliFault)
+    → PrintsNamed f s of from file taken after r → PrintsNamed g s of from file taken after r
+named_same f g same s of (named.Rule name) file taken after r p = from_same (f file) (g file) s of (origin.Rule name) taken after r (same file) p
+named_same f g same s of (named.Starts name) file taken after r p =
+    does_as (f name.now) (g name.now) r (λ starts. PrintsFrom (f file) s of (origin.Starts starts) taken after r)
+    (λ starts. PrintsFrom (g file) s of (origin.Starts starts) taken after r) (same name.now)
+    (λ starts q. from_same (f file) (g file) s of (origin.Starts starts) taken after r (same file) q) p
+
+with_same : (f g : List ℕ → Option (List ℕ)) → AreSame f g
+    → (print : Print) (holidays : Option (Bor (List ℕ))) (taken after : Option (List ℕ)) (r : Result (Unit {0}) CliFault)
+    → PrintsWith f print holidays taken after r → PrintsWith g print holidays taken after r
+with_same f g same print None taken after r p = named_same f g same print.sheet print.subject print.origin print.file.now taken after r p
+with_same f g same print (Some name) taken after r p =
+    does_as (f name.now) (g name.now) r
+    (λ text. PrintsNamed f (sheet_with print.sheet text) print.subject print.origin print.file.now taken after r)
+    (λ text. PrintsNamed g (sheet_with print.sheet text) print.subject print.origin print.file.now taken after r) (same name.now)
+    (λ text q. named_same f g same (sheet_with print.sheet text) print.subject print.origin print.file.now taken after r q) p
+
+-- a print does the same for the same bytes
+pub prints_same : (f g : List ℕ → Option (List ℕ)) → AreSame f g
+    → (print : Print) (taken after : Option (List ℕ)) (r : Result (Unit {0}) CliFault)
+    → Prints f print taken after r → Prints g print taken after r
+prints_same f g same print taken after r p = with_same f g same print print.holidays taken after r p
+
+-- no bytes are known whatever the name is
+either : (none : Option (List ℕ)) (b : Bool) → (if b then none else none) ≡ none
+either none true = refl
+either none false = refl
+
+-- no name has known bytes if no file has
+pub none_named : AreSame (bytes_named None (λ _. None)) (λ _. None)
+none_named name = either None (bytes_eq name (codes "-"))

@@ -1,0 +1,8 @@
+pub mod Digests
+pub mod Margins
+pub mod ProjectSheets
+pub mod ShopSheets
+pub mod Prints
+pub use Rattle.plan_cli.specs.Tasks
+pub use Rattle.plan_errors.specs.Output
+pub use Rattle.plan_io.specs.Devices

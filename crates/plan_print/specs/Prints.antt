@@ -1,0 +1,74 @@
+-- The output of a command that prints a sheet, for the bytes that it reads (docs/definitions.md,
+-- "Runs").
+use Rattle.std.specs.Prelude.{ℕ, List, Option, Some, None, Result}
+use denote.Ref.{Bor}
+use Rattle.plan_errors.specs.Output.{Writes}
+use Rattle.plan_errors.specs.declared.fault.CliFault.{CliFault}
+use Rattle.plan_cli.specs.Plans.{IsOfProject, RefusesFile, IsOfShop, RefusesShop}
+use Rattle.plan_cli.specs.NamedTexts.{DoesWith, dates_with}
+use Rattle.plan_cli.specs.declared.calendars.Dates.{Dates}
+use Rattle.plan_cli.specs.declared.origins.Origin.{Origin}
+use Rattle.plan_cli.specs.declared.origins.Origin.TheVariants as origin
+use Rattle.plan_print.specs.ProjectSheets.{IsSheetFrom, TellsNoSheetFrom}
+use Rattle.plan_print.specs.ShopSheets.{IsShopSheetFrom, TellsNoShopSheetFrom}
+use Rattle.plan_print.specs.declared.sheets.Sheet.{Sheet}
+use Rattle.plan_print.specs.declared.sheets.Sheet.TheVariants as sheet
+use Rattle.plan_print.specs.declared.sheets.Subject.{Subject}
+use Rattle.plan_print.specs.declared.sheets.Subject.TheVariants as subject
+use Rattle.plan_print.specs.declared.prints.NamedOrigin.{NamedOrigin}
+use Rattle.plan_print.specs.declared.prints.NamedOrigin.TheVariants as named
+use Rattle.plan_print.specs.declared.prints.Print.{Print}
+
+-- a text is a sheet of the project in a file, or of an instance in a job shop file
+abbrev pub IsSheet : Sheet → Subject → Origin → List ℕ → List ℕ → Type 0
+IsSheet s (subject.Project given) from file = IsOfProject given.now (IsSheetFrom from s file) file
+IsSheet s (subject.Shop instance) from file =
+    IsOfShop instance.now (IsShopSheetFrom from s instance.now file) file
+
+-- a line gives the first check that a file fails, or else refuses its sheet
+abbrev pub RefusesSheet : Sheet → Subject → Origin → List ℕ → List ℕ → Type 0
+RefusesSheet s (subject.Project given) from = RefusesFile given.now (TellsNoSheetFrom from s)
+RefusesSheet s (subject.Shop instance) from = RefusesShop instance.now (TellsNoShopSheetFrom from s)
+
+-- dates with the holidays in a text, if there are dates
+abbrev pub some_with : Option Dates → Bor (List ℕ) → Option Dates
+some_with None text = None
+some_with (Some dates) text = Some (dates_with dates text)
+
+-- the sheet with the holidays in a text, if it has dates
+abbrev pub sheet_with : Sheet → Bor (List ℕ) → Sheet
+sheet_with (sheet.Events dates) text = sheet.Events (dates_with dates text)
+sheet_with (sheet.Chart title) text = sheet.Chart title
+sheet_with (sheet.Report title dates by_job) text = sheet.Report title (some_with dates text) by_job
+
+-- Unless the input fails or memory runs out, the sheet is written for the bytes that were read, or
+-- the line that refuses it is the error.
+abbrev pub PrintsFrom : Option (List ℕ) → Sheet → Subject → Origin → Option (List ℕ)
+    → Option (List ℕ) → Result (Unit {0}) CliFault → Type 0
+PrintsFrom bytes s of from taken after result = DoesWith bytes result (λ file.
+    Writes (IsSheet s of from file.now) (RefusesSheet s of from file.now) taken after result)
+
+-- the same by the rule with a name, or for the starts in the file with a name
+abbrev pub PrintsNamed : (List ℕ → Option (List ℕ)) → Sheet → Subject → NamedOrigin → List ℕ
+    → Option (List ℕ) → Option (List ℕ) → Result (Unit {0}) CliFault → Type 0
+PrintsNamed bytes_of s of (named.Rule name) file taken after result =
+    PrintsFrom (bytes_of file) s of (origin.Rule name) taken after result
+PrintsNamed bytes_of s of (named.Starts name) file taken after result =
+    DoesWith (bytes_of name.now) result (λ starts.
+    PrintsFrom (bytes_of file) s of (origin.Starts starts) taken after result)
+
+-- the same with the holidays in the file with a name, if there is one
+abbrev pub PrintsWith : (List ℕ → Option (List ℕ)) → Print → Option (Bor (List ℕ))
+    → Option (List ℕ) → Option (List ℕ) → Result (Unit {0}) CliFault → Type 0
+PrintsWith bytes_of print None taken after result =
+    PrintsNamed bytes_of print.sheet print.subject print.origin print.file.now taken after result
+PrintsWith bytes_of print (Some name) taken after result =
+    DoesWith (bytes_of name.now) result (λ text. PrintsNamed bytes_of (sheet_with print.sheet text)
+    print.subject print.origin print.file.now taken after result)
+
+-- The effect of a print, if these are the bytes of the files with a name, as far as they are known.
+-- At most one byte more than the longest text has is read of each file.
+abbrev pub Prints : (List ℕ → Option (List ℕ)) → Print → Option (List ℕ) → Option (List ℕ)
+    → Result (Unit {0}) CliFault → Type 0
+Prints bytes_of print taken after result =
+    PrintsWith bytes_of print print.holidays taken after result

@@ -1,0 +1,17 @@
+//! The commands of `plan` that print sheets of schedules, from the bytes that they read to the
+//! bytes that they write.
+#![tactic(auto)]
+
+mod charts;
+mod digests;
+mod events;
+mod margins;
+mod prints;
+mod projects;
+mod reports;
+mod sheets;
+mod shop_reports;
+mod shops;
+
+pub use prints::{NamedOrigin, Print, print_on_files, print_on_named};
+pub use sheets::{Sheet, Subject};

@@ -1,0 +1,198 @@
+//! The sheets of files that are given by their names.
+
+ghost use Rattle.std.specs.Prelude.{◌≡◌, ◌⊎◌, ◌+◌, ◌≤◌, None, IfErr, IsErrOf, OnOk};
+ghost use Rattle.plan_io.specs.Devices.{most_calls};
+ghost use Rattle.plan_errors.specs.Output.{HasSinkFailed};
+ghost use Rattle.plan_cli.specs.NamedTexts.{dates_with};
+ghost use Rattle.plan_cli.specs.Tasks.{bytes_behind};
+ghost use Rattle.plan_print.specs.Prints as spec;
+
+use crate::sheets::{Sheet, Subject, sheet_text};
+use plan_cli::{CliFault, Dates, Inputs, Origin, SystemInputs, read_named};
+use plan_errors::write_text;
+use plan_io::Sink;
+use std::alloc::Global;
+use std::rt::Files;
+
+/// Where a schedule comes from.
+#[derive(Clone, Copy, Debug, Drop)]
+pub enum NamedOrigin<'a> {
+    /// The schedule by the priority rule with this name.
+    Rule(&'a str),
+    /// The feasible schedule whose starts the file with this name lists.
+    Starts(&'a str),
+}
+
+/// A sheet to print, and the names of the files that it is made from. One of them may be `-` for
+/// standard input.
+#[derive(Clone, Copy, Debug, Drop)]
+pub struct Print<'a> {
+    pub sheet: Sheet<'a>,
+    pub subject: Subject<'a>,
+    pub origin: NamedOrigin<'a>,
+    /// The name of the file of holidays, if there is one.
+    pub holidays: Option<&'a str>,
+    /// The name of the file of the project or the job shop.
+    pub file: &'a str,
+}
+
+// Returns dates with the holidays in a text.
+fn dates_with<'a>(dates: Dates<'a>, holidays: &'a [u8]) -> Dates<'a>
+    ensures { result ≡ dates_with dates.entry holidays.entry }
+{
+    Dates {
+        start: dates.start,
+        marks: dates.marks,
+        holidays,
+    }
+}
+
+// Returns dates with the holidays in a text, if there are dates.
+fn some_with<'a>(dates: Option<Dates<'a>>, holidays: &'a [u8]) -> Option<Dates<'a>>
+    ensures { result ≡ spec.some_with dates.entry holidays.entry }
+{
+    match dates {
+        Some(dates) => Some(dates_with(dates, holidays)),
+        None => None,
+    }
+}
+
+// Returns the sheet with the holidays in a text, if it has dates.
+fn sheet_with<'a>(sheet: Sheet<'a>, holidays: &'a [u8]) -> Sheet<'a>
+    ensures { result ≡ spec.sheet_with sheet.entry holidays.entry }
+{
+    match sheet {
+        Sheet::Events(dates) => Sheet::Events(dates_with(dates, holidays)),
+        Sheet::Chart(title) => Sheet::Chart(title),
+        Sheet::Report {
+            title,
+            dates,
+            by_job,
+        } => Sheet::Report {
+            title,
+            dates: some_with(dates, holidays),
+            by_job,
+        },
+    }
+}
+
+// Prints a sheet of the file with this name.
+fn print_from<I: Inputs, W: Sink>(
+    alloc: Global,
+    inputs: &I,
+    sheet: Sheet<'_>,
+    subject: Subject<'_>,
+    origin: Origin<'_>,
+    file: &str,
+    writer: &mut W,
+) -> Result<(), CliFault>
+    ensures does { spec.PrintsFrom (bytes_behind I.Inputs inputs.now file.now)
+        sheet.entry subject.entry origin.entry (W.taken writer.old) (W.taken writer.new) result }
+    ensures writes { W.calls writer.new ≤ W.calls writer.old + most_calls }
+    ensures quiet { IfErr result (λ e. (e ≡ CliFault.Output) ⊎ (writer.new ≡ writer.old)) }
+    ensures fine { OnOk result (W.faults writer.new ≡ W.faults writer.old) }
+    ensures output { IsErrOf result CliFault.Output → HasSinkFailed W.Sink writer.old writer.new }
+{
+    let bytes = read_named(alloc, inputs, file)?;
+    let text = sheet_text(alloc, sheet, subject, origin, &bytes)?;
+    write_text(writer, text.as_bytes())
+}
+
+// Prints a sheet of the file with this name. If the schedule has its starts in a file, that one is
+// read first.
+fn print_by<I: Inputs, W: Sink>(
+    alloc: Global,
+    inputs: &I,
+    sheet: Sheet<'_>,
+    subject: Subject<'_>,
+    origin: NamedOrigin<'_>,
+    file: &str,
+    writer: &mut W,
+) -> Result<(), CliFault>
+    ensures does { spec.PrintsNamed (bytes_behind I.Inputs inputs.now) sheet.entry subject.entry
+        origin.entry file.now (W.taken writer.old) (W.taken writer.new) result }
+    ensures writes { W.calls writer.new ≤ W.calls writer.old + most_calls }
+    ensures quiet { IfErr result (λ e. (e ≡ CliFault.Output) ⊎ (writer.new ≡ writer.old)) }
+    ensures fine { OnOk result (W.faults writer.new ≡ W.faults writer.old) }
+    ensures output { IsErrOf result CliFault.Output → HasSinkFailed W.Sink writer.old writer.new }
+{
+    match origin {
+        NamedOrigin::Rule(name) => {
+            print_from(
+                alloc,
+                inputs,
+                sheet,
+                subject,
+                Origin::Rule(name),
+                file,
+                writer,
+            )
+        }
+        NamedOrigin::Starts(name) => {
+            let starts = read_named(alloc, inputs, name)?;
+            let origin = Origin::Starts(&starts);
+            print_from(alloc, inputs, sheet, subject, origin, file, writer)
+        }
+    }
+}
+
+/// Prints a sheet. The file of the holidays is read first, then that of the starts, then that of
+/// the project or the job shop. A file that can't be opened or read is [`CliFault::Input`].
+///
+/// Nothing is written unless the whole sheet was made. If several errors apply, that of the file
+/// comes first, then those of the capacities, of the schedule, of the calendar, and of a day after
+/// 9999-12-31.
+pub fn print_on_named<I: Inputs, W: Sink>(
+    alloc: Global,
+    inputs: &I,
+    print: Print<'_>,
+    writer: &mut W,
+) -> Result<(), CliFault>
+    // The sheet is written for the bytes of these files.
+    ensures does { spec.Prints (bytes_behind I.Inputs inputs.now) print.entry
+        (W.taken writer.old) (W.taken writer.new) result }
+    ensures writes { W.calls writer.new ≤ W.calls writer.old + most_calls }
+    // With any other error than that of the output, nothing is written.
+    ensures quiet { IfErr result (λ e. (e ≡ CliFault.Output) ⊎ (writer.new ≡ writer.old)) }
+    ensures fine { OnOk result (W.faults writer.new ≡ W.faults writer.old) }
+    ensures output { IsErrOf result CliFault.Output → HasSinkFailed W.Sink writer.old writer.new }
+{
+    let Print {
+        sheet,
+        subject,
+        origin,
+        holidays,
+        file,
+    } = print;
+    let Some(name) = holidays else {
+        return print_by(alloc, inputs, sheet, subject, origin, file, writer);
+    };
+    let days = read_named(alloc, inputs, name)?;
+    print_by(
+        alloc,
+        inputs,
+        sheet_with(sheet, &days),
+        subject,
+        origin,
+        file,
+        writer,
+    )
+}
+
+/// Calls [`print_on_named`] with the system's files and standard input.
+pub fn print_on_files<R: Files + Input + AllocGlobal, W: Sink>(
+    rt: &R,
+    print: Print<'_>,
+    writer: &mut W,
+) -> Result<(), CliFault>
+    // The sheet is written for the bytes that were read.
+    ensures does { spec.Prints (λ _. None) print.entry
+        (W.taken writer.old) (W.taken writer.new) result }
+    ensures writes { W.calls writer.new ≤ W.calls writer.old + most_calls }
+    // With any other error than that of the output, nothing is written.
+    ensures quiet { IfErr result (λ e. (e ≡ CliFault.Output) ⊎ (writer.new ≡ writer.old)) }
+    ensures fine { OnOk result (W.faults writer.new ≡ W.faults writer.old) }
+    ensures output { IsErrOf result CliFault.Output → HasSinkFailed W.Sink writer.old writer.new }
+{
+    print_on_named(rt.alloc(), &SystemInputs::new(rt), print, writer)
+}

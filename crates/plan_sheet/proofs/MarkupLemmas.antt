@@ -1,0 +1,111 @@
+-- The markup of a chart doesn't depend on names.
+use Rattle.std.proofs.Common.{◌≡◌, ℕ, ◌+◌, ◌*◌, ◌==◌, Bool, true, false, if◌then◌else◌, List, [], ◌∷◌, ◌++◌, flat_map, codes, refl, sym, ap, ap₂, ◌∙◌, cond}
+use Rattle.std.specs.List.{filter, list_any, range_with_len}
+use Rattle.std.specs.Fmt.{decimal}
+use Rattle.std.proofs.lemmas.List.Elements.{filter-append}
+use Rattle.plan_table.specs.Names.{Name}
+use Rattle.plan_sheet.specs.Escape.{is_markup, markup_of, escaped}
+use Rattle.plan_sheet.specs.Marks.{marks}
+use Rattle.plan_sheet.specs.Names.{label}
+use Rattle.plan_sheet.specs.Place.{extent}
+use Rattle.plan_sheet.specs.Chart.{Chart, renamed, left_of, right_of, tip_of, diamond, rectangle_head, rectangle, number_of, bar_of, bar_in, bars_of, line_head, line_of, lines_of, image_tag, image_head, image_of}
+use Rattle.plan_sheet.specs.declared.bars.Bar.{Bar}
+use Rattle.plan_sheet.proofs.EscapeLemmas.{no_markup, or_left, or_right}
+
+none_kept : (p : ℕ → Bool) (bytes : List ℕ) → list_any p bytes ≡ false → filter p bytes ≡ []
+none_kept p [] none = refl
+none_kept p (b ∷ bytes) none = ap (λ keep. cond keep (b ∷ filter p bytes) (filter p bytes)) (or_left (p b) _ none) ∙ none_kept p bytes (or_right (p b) _ none)
+
+-- texts with the same markup, one after another
+pub same_append : (a b c d : List ℕ) → markup_of a ≡ markup_of c → markup_of b ≡ markup_of d → markup_of (a ++ b) ≡ markup_of (c ++ d)
+same_append a b c d left right =
+    filter-append is_markup a b ∙ ap₂ (λ x y. x ++ y) left right ∙ sym (filter-append is_markup c d)
+
+-- an escaped text in a document
+pub same_shown : (front tail a b : List ℕ) → markup_of (front ++ escaped a ++ tail) ≡ markup_of (front ++ escaped b ++ tail)
+same_shown front tail a b =
+    same_append (front ++ escaped a) tail (front ++ escaped b) tail
+    (same_append front (escaped a) front (escaped b) refl
+    (none_kept is_markup (escaped a) (no_markup a) ∙ sym (none_kept is_markup (escaped b) (no_markup b)))) refl
+
+pub same_if : (b : Bool) (x y z w : List ℕ) → markup_of x ≡ markup_of z → markup_of y ≡ markup_of w →
+    markup_of (if b then x else y) ≡ markup_of (if b then z else w)
+same_if true x y z w first second = first
+same_if false x y z w first second = second
+
+pub same_flat_map : {A : Type 0} (f g : A → List ℕ) (xs : List A) → ((x : A) → markup_of (f x) ≡ markup_of (g x)) →
+    markup_of (flat_map f xs) ≡ markup_of (flat_map g xs)
+same_flat_map f g [] each = refl
+same_flat_map f g (x ∷ xs) each = same_append (f x) (flat_map f xs) (g x) (flat_map g xs) (each x) (same_flat_map f g xs each)
+
+same_diamond : (x : ℕ) (a b : List ℕ) → markup_of (diamond x (escaped a)) ≡ markup_of (diamond x (escaped b))
+unfolding diamond
+same_diamond x a b =
+    same_shown (codes "<path class=\"bar\" d=\"M" ++ decimal x ++ codes " 2l6 6-6 6-6-6z\"><title>") (codes "</title></path>\n") a b
+
+same_rectangle : (x width : ℕ) (a b : List ℕ) → markup_of (rectangle x width (escaped a)) ≡ markup_of (rectangle x width (escaped b))
+unfolding rectangle
+same_rectangle x width a b =
+    same_shown (rectangle_head x width) (codes "</title></rect>\n") a b
+
+same_bar : (chart : Chart) (rows names : List Name) (bar : Bar) → markup_of (bar_of chart bar) ≡ markup_of (bar_of (renamed chart rows names) bar)
+unfolding bar_of left_of right_of
+same_bar chart rows names bar =
+    let other = renamed chart rows names in
+    let one = tip_of chart.names bar in
+    let two = tip_of names bar in
+    let x = left_of chart bar in
+    let width = extent x (right_of chart bar) in
+    same_if (bar.from == bar.to) (diamond (right_of chart bar) (escaped one)) (rectangle x width (escaped one) ++ number_of chart bar)
+    (diamond (right_of chart bar) (escaped two)) (rectangle x width (escaped two) ++ number_of other bar)
+    (same_diamond (right_of chart bar) one two)
+    (same_append (rectangle x width (escaped one)) (number_of chart bar) (rectangle x width (escaped two)) (number_of other bar)
+    (same_rectangle x width one two) refl)
+
+same_bars : (chart : Chart) (rows names : List Name) (n : ℕ) → markup_of (bars_of chart n) ≡ markup_of (bars_of (renamed chart rows names) n)
+same_bars chart rows names n =
+    let other = renamed chart rows names in
+    same_flat_map (bar_in chart n) (bar_in other n) chart.bars (λ bar.
+    same_if (bar.line == n) (bar_of chart bar) [] (bar_of other bar) [] (same_bar chart rows names bar) refl)
+
+same_head : (y : ℕ) (a b : List ℕ) → markup_of (line_head y (escaped a)) ≡ markup_of (line_head y (escaped b))
+unfolding line_head
+same_head y a b =
+    same_shown
+    (codes "<g transform=\"translate(0," ++ decimal y ++ codes ")\"><svg width=\"232\" height=\"16\"><text x=\"4\" y=\"12\">")
+    (codes "</text></svg>\n") a b
+
+same_line : (chart : Chart) (rows names : List Name) (k n : ℕ) → markup_of (line_of chart k n) ≡ markup_of (line_of (renamed chart rows names) k n)
+unfolding line_of
+same_line chart rows names k n =
+    let other = renamed chart rows names in
+    let one = line_head (16 * k + 24) (escaped (label chart.rows n)) in
+    let two = line_head (16 * k + 24) (escaped (label rows n)) in
+    same_append (one ++ bars_of chart n) (codes "</g>\n") (two ++ bars_of other n) (codes "</g>\n")
+    (same_append one (bars_of chart n) two (bars_of other n) (same_head (16 * k + 24) (label chart.rows n) (label rows n))
+    (same_bars chart rows names n)) refl
+
+same_lines : (chart : Chart) (rows names : List Name) (first count : ℕ) →
+    markup_of (lines_of chart first count) ≡ markup_of (lines_of (renamed chart rows names) first count)
+same_lines chart rows names first count =
+    let other = renamed chart rows names in
+    same_flat_map (λ k. line_of chart k (first + k)) (λ k. line_of other k (first + k)) (range_with_len 0 count)
+    (λ k. same_line chart rows names k (first + k))
+
+pub same_image_head : (height : ℕ) (opening a b : List ℕ) → markup_of (image_head height opening (escaped a)) ≡ markup_of (image_head height opening (escaped b))
+unfolding image_head
+same_image_head height opening a b =
+    same_shown (image_tag height ++ opening ++ codes "<title>") (codes "</title>\n") a b
+
+-- an image has the same markup whatever its title and its names are
+pub same_image : (opening a b : List ℕ) (chart : Chart) (rows names : List Name) (first count : ℕ) →
+    markup_of (image_of opening a chart first count) ≡ markup_of (image_of opening b (renamed chart rows names) first count)
+unfolding image_of
+same_image opening a b chart rows names first count =
+    let other = renamed chart rows names in
+    let one = image_head (16 * count + 28) opening (escaped a) in
+    let two = image_head (16 * count + 28) opening (escaped b) in
+    let axis = marks chart.span chart.days (16 * count + 10) in
+    same_append (one ++ axis ++ lines_of chart first count) (codes "</svg>\n") (two ++ axis ++ lines_of other first count) (codes "</svg>\n")
+    (same_append (one ++ axis) (lines_of chart first count) (two ++ axis) (lines_of other first count)
+    (same_append one axis two axis (same_image_head (16 * count + 28) opening a b) refl) (same_lines chart rows names first count)) refl

@@ -1,0 +1,205 @@
+-- The markup of a report doesn't depend on names.
+use Rattle.std.proofs.Common.{◌≡◌, ℕ, ◌+◌, ◌-◌, ◌*◌, Bool, true, false, if◌then◌else◌, nat_lt, List, [], ◌++◌, codes, min, refl}
+use Rattle.std.specs.List.{range_with_len}
+use Rattle.std.specs.Int.{div_ceil}
+use Rattle.std.specs.Prelude.{slice_index}
+use Rattle.jiff_core.specs.declared.civil.date.Date.{Date}
+use Rattle.plan_net.specs.Network.{count_of}
+use Rattle.plan_sgs.specs.Instances.{Planned}
+use Rattle.plan_shop.specs.Shop.{JobShop}
+use Rattle.plan_table.specs.Names.{Name}
+use Rattle.plan_sheet.specs.Bars.{activity_bars, step_bars, greatest_end}
+use Rattle.plan_sheet.specs.Chart.{Chart, renamed, image_head, image_of}
+use Rattle.plan_sheet.specs.Escape.{markup_of, escaped}
+use Rattle.plan_sheet.specs.Marks.{marks}
+use Rattle.plan_sheet.specs.Names.{label, name_text}
+use Rattle.plan_sheet.specs.Page.{note_of, styles, headings, front, figure, figures, back, page}
+use Rattle.plan_sheet.specs.Pieces.{counted}
+use Rattle.plan_sheet.specs.Plans.{shop_lines}
+use Rattle.plan_sheet.specs.Reports.{project_chart, project_table, project_page, shop_table, shop_page}
+use Rattle.plan_sheet.specs.Table.{Table, last_heads, heads, number_text, first_cells, name_cell, machine_cell, time_cells, last_cells, row_front, row_of, rows_of, table_text}
+use Rattle.plan_sheet.specs.Usage.{use_area, use_labels, use_image, use_figure, use_figures, use_section, resource_count}
+use Rattle.plan_sheet.specs.Uses.{uses_of}
+use Rattle.plan_sheet.specs.declared.bars.Bar.{Bar}
+use Rattle.plan_sheet.specs.declared.styles.TheConstants.{HEAD, NOTE_TO, STYLES_TO, TITLE_TO, CAPACITY_LINE, USE_NAME, ROW_NUMBER, ROW_NAME, NAME_CELL, PAGE_TO, TABLE_FROM, TABLE_TITLE, TABLE_TO}
+use Rattle.plan_sheet.specs.declared.uses.Use.{Use}
+use Rattle.plan_sheet.proofs.MarkupLemmas.{same_append, same_shown, same_if, same_flat_map, same_image, same_image_head}
+
+-- a piece behind texts with the same markup, or before them
+behind : (a b tail : List ℕ) → markup_of a ≡ markup_of b → markup_of (a ++ tail) ≡ markup_of (b ++ tail)
+behind a b tail same = same_append a tail b tail same refl
+
+before : (head a b : List ℕ) → markup_of a ≡ markup_of b → markup_of (head ++ a) ≡ markup_of (head ++ b)
+before head a b same = same_append head a head b refl same
+
+same_headings : (a b note : List ℕ) → markup_of (headings (escaped a) note) ≡ markup_of (headings (escaped b) note)
+unfolding headings
+same_headings a b note =
+    let one = STYLES_TO.now ++ escaped a ++ TITLE_TO.now in
+    let two = STYLES_TO.now ++ escaped b ++ TITLE_TO.now in
+    behind (one ++ note) (two ++ note) NOTE_TO.now (behind one two note (same_shown STYLES_TO.now TITLE_TO.now a b))
+
+same_front : (a b note : List ℕ) → markup_of (front (escaped a) note) ≡ markup_of (front (escaped b) note)
+unfolding front
+same_front a b note =
+    same_append (HEAD.now ++ escaped a ++ styles) (headings (escaped a) note) (HEAD.now ++ escaped b ++ styles) (headings (escaped b) note)
+    (same_shown HEAD.now styles a b) (same_headings a b note)
+
+same_figure : (chart : Chart) (rows names : List Name) (first count k : ℕ) →
+    markup_of (figure chart first count k) ≡ markup_of (figure (renamed chart rows names) first count k)
+unfolding figure
+same_figure chart rows names first count k =
+    let other = renamed chart rows names in
+    let title = codes "Gantt chart" in
+    let one = image_of [] title chart (first + 40 * k) (min (count - 40 * k) 40) in
+    let two = image_of [] title other (first + 40 * k) (min (count - 40 * k) 40) in
+    behind (codes "<figure>\n" ++ one) (codes "<figure>\n" ++ two) (codes "</figure>\n")
+    (before (codes "<figure>\n") one two (same_image [] title title chart rows names (first + 40 * k) (min (count - 40 * k) 40)))
+
+same_figures : (chart : Chart) (rows names : List Name) (first count : ℕ) →
+    markup_of (figures chart first count) ≡ markup_of (figures (renamed chart rows names) first count)
+same_figures chart rows names first count =
+    same_flat_map (figure chart first count) (figure (renamed chart rows names) first count) (range_with_len 0 (div_ceil count 40))
+    (λ k. same_figure chart rows names first count k)
+
+same_use_labels : (capacity : ℕ) (a b : List ℕ) → markup_of (use_labels capacity (escaped a)) ≡ markup_of (use_labels capacity (escaped b))
+unfolding use_labels
+same_use_labels capacity a b = same_shown (counted CAPACITY_LINE.now capacity ++ USE_NAME.now) (codes "</text></svg>\n") a b
+
+same_use_image : (span : ℕ) (days : List Date) (a b : List ℕ) (capacity : ℕ) (uses : List Use) (makespan : ℕ) →
+    markup_of (use_image span days (escaped a) capacity uses makespan) ≡ markup_of (use_image span days (escaped b) capacity uses makespan)
+unfolding use_image
+same_use_image span days a b capacity uses makespan =
+    let one = image_head 106 [] (escaped a) in
+    let two = image_head 106 [] (escaped b) in
+    let axis = marks span days 88 in
+    let area = use_area span days capacity uses makespan in
+    behind (one ++ axis ++ area ++ use_labels capacity (escaped a)) (two ++ axis ++ area ++ use_labels capacity (escaped b)) (codes "</svg>\n")
+    (same_append (one ++ axis ++ area) (use_labels capacity (escaped a)) (two ++ axis ++ area) (use_labels capacity (escaped b))
+    (behind (one ++ axis) (two ++ axis) area (behind one two axis (same_image_head 106 [] a b))) (same_use_labels capacity a b))
+
+same_use_figure : (chart : Chart) (rows names resources others : List Name) (i : Planned) (starts : List ℕ) (makespan k : ℕ) →
+    markup_of (use_figure chart resources i starts makespan k) ≡ markup_of (use_figure (renamed chart rows names) others i starts makespan k)
+unfolding use_figure
+same_use_figure chart rows names resources others i starts makespan k =
+    let one = use_image chart.span chart.days (escaped (label resources (k + 1))) (slice_index i.capacities k) (uses_of i starts (k + 1)) makespan in
+    let two = use_image chart.span chart.days (escaped (label others (k + 1))) (slice_index i.capacities k) (uses_of i starts (k + 1)) makespan in
+    behind (codes "<figure>\n" ++ one) (codes "<figure>\n" ++ two) (codes "</figure>\n")
+    (before (codes "<figure>\n") one two
+    (same_use_image chart.span chart.days (label resources (k + 1)) (label others (k + 1)) (slice_index i.capacities k)
+    (uses_of i starts (k + 1)) makespan))
+
+same_use_section : (chart : Chart) (rows names resources others : List Name) (i : Planned) (starts : List ℕ) (makespan : ℕ) →
+    markup_of (use_section chart resources i starts makespan) ≡ markup_of (use_section (renamed chart rows names) others i starts makespan)
+unfolding use_section
+same_use_section chart rows names resources others i starts makespan =
+    let other = renamed chart rows names in
+    let one = use_figures chart resources i starts makespan in
+    let two = use_figures other others i starts makespan in
+    let title = codes "<h2>Resource use</h2>\n" in
+    same_if (nat_lt (resource_count i.capacities) 1) [] (if nat_lt 100000 makespan then [] else title ++ one) []
+    (if nat_lt 100000 makespan then [] else title ++ two) refl
+    (same_if (nat_lt 100000 makespan) [] (title ++ one) [] (title ++ two) refl (before title one two
+    (same_flat_map (use_figure chart resources i starts makespan) (use_figure other others i starts makespan)
+    (range_with_len 0 (resource_count i.capacities)) (λ k. same_use_figure chart rows names resources others i starts makespan k))))
+
+-- a table with other names
+abbrev retitled : Table → List Name → List Name → List Name → Table
+retitled table rows names machines =
+    record {
+      chart = renamed table.chart rows names;
+      shop = table.shop;
+      machines = machines;
+      floats = table.floats;
+      slacks = table.slacks;
+    }
+
+same_first_cells : (number a b : List ℕ) → markup_of (first_cells number (escaped a)) ≡ markup_of (first_cells number (escaped b))
+unfolding first_cells
+same_first_cells number a b = same_shown (ROW_NUMBER.now ++ number ++ ROW_NAME.now) (codes "</td>") a b
+
+same_name_cell : (a b : List ℕ) → markup_of (name_cell (escaped a)) ≡ markup_of (name_cell (escaped b))
+unfolding name_cell
+same_name_cell a b = same_shown NAME_CELL.now (codes "</td>") a b
+
+same_row_front : (table : Table) (rows names machines : List Name) (bar : Bar) →
+    markup_of (row_front table bar) ≡ markup_of (row_front (retitled table rows names machines) bar)
+unfolding row_front
+same_row_front table rows names machines bar =
+    let one = name_text table.chart.names bar.number in
+    let two = name_text names bar.number in
+    same_append (first_cells (number_text bar) (escaped one)) (machine_cell table bar) (first_cells (number_text bar) (escaped two))
+    (machine_cell (retitled table rows names machines) bar) (same_first_cells (number_text bar) one two)
+    (same_if table.shop (name_cell (escaped (label table.machines bar.machine))) [] (name_cell (escaped (label machines bar.machine))) []
+    (same_name_cell (label table.machines bar.machine) (label machines bar.machine)) refl)
+
+same_last_cells : (table : Table) (rows names machines : List Name) (bar : Bar) →
+    last_cells table bar ≡ last_cells (retitled table rows names machines) bar
+unfolding last_cells
+same_last_cells table rows names machines bar = refl
+
+same_row : (table : Table) (rows names machines : List Name) (bar : Bar) →
+    markup_of (row_of table bar) ≡ markup_of (row_of (retitled table rows names machines) bar)
+unfolding row_of last_cells
+same_row table rows names machines bar =
+    let other = retitled table rows names machines in
+    let one = row_front table bar in
+    let two = row_front other bar in
+    behind (one ++ time_cells bar ++ last_cells table bar) (two ++ time_cells bar ++ last_cells table bar) (codes "</tr>\n")
+    (behind (one ++ time_cells bar) (two ++ time_cells bar) (last_cells table bar)
+    (behind one two (time_cells bar) (same_row_front table rows names machines bar)))
+
+same_table : (table : Table) (rows names machines : List Name) →
+    markup_of (table_text table) ≡ markup_of (table_text (retitled table rows names machines))
+unfolding table_text heads last_heads
+same_table table rows names machines =
+    let other = retitled table rows names machines in
+    behind (TABLE_FROM.now ++ heads table ++ rows_of table) (TABLE_FROM.now ++ heads table ++ rows_of other) TABLE_TO.now
+    (before (TABLE_FROM.now ++ heads table) (rows_of table) (rows_of other)
+    (same_flat_map (row_of table) (row_of other) table.chart.bars (λ bar. same_row table rows names machines bar)))
+
+same_back : (table : Table) (rows names machines : List Name) → markup_of (back table) ≡ markup_of (back (retitled table rows names machines))
+unfolding back
+same_back table rows names machines =
+    let one = table_text table in
+    let two = table_text (retitled table rows names machines) in
+    behind (TABLE_TITLE.now ++ one) (TABLE_TITLE.now ++ two) PAGE_TO.now
+    (before TABLE_TITLE.now one two (same_table table rows names machines))
+
+-- a page has the same markup whatever its title and the names in its table are
+same_page : (a b : List ℕ) (makespan : ℕ) (table : Table) (rows names machines : List Name) (first count : ℕ) (section other : List ℕ) →
+    markup_of section ≡ markup_of other →
+    markup_of (page a makespan table first count section) ≡ markup_of (page b makespan (retitled table rows names machines) first count other)
+unfolding page
+same_page a b makespan table rows names machines first count section other same =
+    let note = note_of table.chart.days makespan in
+    let one = figures table.chart first count in
+    let two = figures (renamed table.chart rows names) first count in
+    same_append (front (escaped a) note ++ one ++ section) (back table) (front (escaped b) note ++ two ++ other)
+    (back (retitled table rows names machines))
+    (same_append (front (escaped a) note ++ one) section (front (escaped b) note ++ two) other
+    (same_append (front (escaped a) note) one (front (escaped b) note) two (same_front a b note)
+    (same_figures table.chart rows names first count)) same) (same_back table rows names machines)
+
+-- the report of a project has the same markup whatever its title and its names are
+pub same_project : (title : List ℕ) (names resources : List Name) (i : Planned) (starts : List ℕ) (days : List Date) (floats slacks : List ℕ) →
+    markup_of (project_page title names resources i starts days floats slacks)
+    ≡ markup_of (project_page [] [] [] i starts days floats slacks)
+unfolding project_page
+same_project title names resources i starts days floats slacks =
+    let makespan = greatest_end (activity_bars i.project.network starts) in
+    let chart = project_chart names i starts days in
+    same_page title [] makespan (project_table names i starts days floats slacks) [] [] [] 1 (count_of i.project.network)
+    (use_section chart resources i starts makespan) (use_section (renamed chart [] []) [] i starts makespan)
+    (same_use_section chart [] [] resources [] i starts makespan)
+
+-- the report of a job shop has the same markup whatever its title and its names are
+pub same_shop : (title : List ℕ) (machines orders : List Name) (s : JobShop) (starts : List ℕ) (by_job : Bool) (days : List Date) →
+    markup_of (shop_page title machines orders s starts by_job days) ≡ markup_of (shop_page [] [] [] s starts by_job days)
+unfolding shop_page
+same_shop title machines orders s starts true days =
+    same_page title [] (greatest_end (step_bars s starts true)) (shop_table machines orders s starts true days) [] [] []
+    (shop_lines s true).0 (shop_lines s true).1 [] [] refl
+same_shop title machines orders s starts false days =
+    same_page title [] (greatest_end (step_bars s starts false)) (shop_table machines orders s starts false days) [] [] []
+    (shop_lines s false).0 (shop_lines s false).1 [] [] refl

@@ -1,0 +1,119 @@
+-- Gantt charts as SVG (docs/definitions.md, "Sheets"): one definition for each element.
+use Rattle.std.specs.Prelude.{ℕ, ◌+◌, ◌*◌, ◌==◌, if◌then◌else◌, nat_lt, List, [], ◌++◌, map, codes}
+use Rattle.std.specs.List.{flat_map, range_with_len}
+use Rattle.std.specs.Fmt.{decimal}
+use Rattle.jiff_core.specs.declared.civil.date.Date.{Date}
+use Rattle.plan_table.specs.Names.{Name, name_of}
+use Rattle.plan_sheet.specs.Axis.{axis_from, axis_to}
+use Rattle.plan_sheet.specs.Escape.{escaped}
+use Rattle.plan_sheet.specs.Marks.{marks}
+use Rattle.plan_sheet.specs.Names.{label}
+use Rattle.plan_sheet.specs.Pieces.{counted}
+use Rattle.plan_sheet.specs.Place.{place, extent}
+use Rattle.plan_sheet.specs.Titles.{title_of}
+use Rattle.plan_sheet.specs.declared.bars.Bar.{Bar}
+use Rattle.plan_sheet.specs.declared.chart.Chart as declared
+use Rattle.plan_sheet.specs.declared.styles.TheConstants.{BAR_LEFT, BAR_TIP, BAR_WIDTH, CHART_STYLE, COLOURS, IMAGE}
+
+-- a chart: the length of its axis, the days of its instants, the names of its lines and of its
+-- bars, and the bars
+pub record Chart : Type 0 where
+  pub span : ℕ
+  pub days : List Date
+  pub rows : List Name
+  pub names : List Name
+  pub bars : List Bar
+
+-- the same, as the program keeps it
+abbrev pub chart_of : declared.Chart → Chart
+chart_of c =
+    record { span = c.span; days = c.days.now; rows = map name_of c.rows.now; names = map name_of c.names.now; bars = c.bars.now }
+
+-- the same chart with other names
+abbrev pub renamed : Chart → List Name → List Name → Chart
+renamed chart rows names = record { span = chart.span; days = chart.days; rows = rows; names = names; bars = chart.bars }
+
+-- where a bar begins and ends on the axis
+unfoldable pub left_of : Chart → Bar → ℕ
+left_of chart bar = place chart.span (axis_from chart.days bar.from)
+
+unfoldable pub right_of : Chart → Bar → ℕ
+right_of chart bar = place chart.span (axis_to chart.days bar.to)
+
+-- the description of a bar: its title, its start and its end
+unfoldable pub tip_of : List Name → Bar → List ℕ
+tip_of names bar = title_of names bar ++ codes ", " ++ decimal bar.from ++ codes " to " ++ decimal bar.to
+
+-- a milestone: a diamond around a place, with its description
+unfoldable pub diamond : ℕ → List ℕ → List ℕ
+diamond x tip =
+    codes "<path class=\"bar\" d=\"M" ++ decimal x ++ codes " 2l6 6-6 6-6-6z\"><title>" ++ tip ++ codes "</title></path>\n"
+
+-- the start of a rectangle from a place on, up to its description
+unfoldable pub rectangle_head : ℕ → ℕ → List ℕ
+rectangle_head x width = counted BAR_LEFT.now x ++ counted BAR_WIDTH.now width ++ BAR_TIP.now
+
+-- an activity that takes time: a rectangle from a place on, with its description
+unfoldable pub rectangle : ℕ → ℕ → List ℕ → List ℕ
+rectangle x width tip = rectangle_head x width ++ tip ++ codes "</title></rect>\n"
+
+-- a number inside a bar
+unfoldable pub inner_number : ℕ → ℕ → List ℕ
+inner_number x n = codes "<text class=\"on\" x=\"" ++ decimal x ++ codes "\" y=\"12\" dx=\"2\">" ++ decimal n ++ codes "</text>\n"
+
+-- the number inside a bar, if it is that of a step and has 24 units of room
+abbrev pub number_of : Chart → Bar → List ℕ
+number_of chart bar =
+    if nat_lt bar.step 1 then [] else if nat_lt (extent (left_of chart bar) (right_of chart bar)) 24 then []
+    else inner_number (left_of chart bar) bar.inside
+
+-- a bar: a diamond where it ends if it takes no time, else a rectangle
+unfoldable pub bar_of : Chart → Bar → List ℕ
+bar_of chart bar =
+    if bar.from == bar.to then diamond (right_of chart bar) (escaped (tip_of chart.names bar))
+    else rectangle (left_of chart bar) (extent (left_of chart bar) (right_of chart bar)) (escaped (tip_of chart.names bar))
+    ++ number_of chart bar
+
+-- a bar, if it is in line n
+abbrev pub bar_in : Chart → ℕ → Bar → List ℕ
+bar_in chart n bar = if bar.line == n then bar_of chart bar else []
+
+-- the bars of line n
+abbrev pub bars_of : Chart → ℕ → List ℕ
+bars_of chart n = flat_map (bar_in chart n) chart.bars
+
+-- the label of a line at this height, cut off where the bars begin
+unfoldable pub line_head : ℕ → List ℕ → List ℕ
+line_head y label =
+    codes "<g transform=\"translate(0," ++ decimal y ++ codes ")\"><svg width=\"232\" height=\"16\"><text x=\"4\" y=\"12\">"
+    ++ label ++ codes "</text></svg>\n"
+
+-- line n, as the k-th one from above
+unfoldable pub line_of : Chart → ℕ → ℕ → List ℕ
+line_of chart k n = line_head (16 * k + 24) (escaped (label chart.rows n)) ++ bars_of chart n ++ codes "</g>\n"
+
+-- the lines with `count` numbers from `first` on
+abbrev pub lines_of : Chart → ℕ → ℕ → List ℕ
+lines_of chart first count = flat_map (λ k. line_of chart k (first + k)) (range_with_len 0 count)
+
+-- the tag of an image of this height
+unfoldable pub image_tag : ℕ → List ℕ
+image_tag height = IMAGE.now ++ decimal height ++ codes "\" viewBox=\"0 0 1320 " ++ decimal height ++ codes "\">\n"
+
+-- the start of an image of this height, with an opening and a title
+unfoldable pub image_head : ℕ → List ℕ → List ℕ → List ℕ
+image_head height opening title = image_tag height ++ opening ++ codes "<title>" ++ title ++ codes "</title>\n"
+
+-- a chart of these lines below its axis, with an opening and a title
+unfoldable pub image_of : List ℕ → List ℕ → Chart → ℕ → ℕ → List ℕ
+image_of opening title chart first count =
+    image_head (16 * count + 28) opening (escaped title) ++ marks chart.span chart.days (16 * count + 10)
+    ++ lines_of chart first count ++ codes "</svg>\n"
+
+-- the opening of a chart alone, with its styles
+abbrev pub styled_opening : List ℕ
+styled_opening = codes "<style>\n" ++ COLOURS.now ++ CHART_STYLE.now ++ codes "</style>\n"
+
+-- a chart alone
+abbrev pub svg_chart : List ℕ → Chart → ℕ → ℕ → List ℕ
+svg_chart title chart first count = image_of styled_opening title chart first count

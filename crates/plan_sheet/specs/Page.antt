@@ -1,0 +1,52 @@
+-- The page of a report (docs/definitions.md, "Sheets"): its parts one after another.
+use Rattle.std.specs.Prelude.{ℕ, ◌+◌, ◌-◌, ◌*◌, if◌then◌else◌, nat_lt, List, [], ◌++◌, length, min, codes}
+use Rattle.std.specs.List.{flat_map, range_with_len}
+use Rattle.std.specs.Int.{div_ceil}
+use Rattle.std.specs.Fmt.{decimal}
+use Rattle.jiff_core.specs.declared.civil.date.Date.{Date}
+use Rattle.plan_sheet.specs.Chart.{Chart, image_of}
+use Rattle.plan_sheet.specs.Days.{day_text}
+use Rattle.plan_sheet.specs.Escape.{escaped}
+use Rattle.plan_sheet.specs.Table.{Table, table_text}
+use Rattle.plan_sheet.specs.declared.styles.TheConstants.{CHART_STYLE, COLOURS, HEAD, NOTE_TO, PAGE_STYLE, PAGE_TO, STYLES_FROM, STYLES_TO, TABLE_TITLE, TITLE_TO}
+
+-- the first and the last day of a plan; nothing without a calendar
+unfoldable pub dates_part : List Date → ℕ → List ℕ
+dates_part days makespan =
+    if nat_lt (length days) 1 then []
+    else codes ", " ++ day_text days 0 ++ codes " to " ++ day_text days (makespan - 1)
+
+-- the note below the title: the makespan, and the first and the last day
+unfoldable pub note_of : List Date → ℕ → List ℕ
+note_of days makespan = codes "Makespan " ++ decimal makespan ++ dates_part days makespan
+
+-- the styles of a page
+unfoldable pub styles : List ℕ
+styles = STYLES_FROM.now ++ COLOURS.now ++ CHART_STYLE.now ++ PAGE_STYLE.now
+
+-- the title and the note
+unfoldable pub headings : List ℕ → List ℕ → List ℕ
+headings title note = STYLES_TO.now ++ title ++ TITLE_TO.now ++ note ++ NOTE_TO.now
+
+-- the head of a page, its title and its note
+unfoldable pub front : List ℕ → List ℕ → List ℕ
+front title note = HEAD.now ++ title ++ styles ++ headings title note
+
+-- image k of a chart: its lines from line 40 k on, at most 40
+unfoldable pub figure : Chart → ℕ → ℕ → ℕ → List ℕ
+figure chart first count k =
+    codes "<figure>\n" ++ image_of [] (codes "Gantt chart") chart (first + 40 * k) (min (count - 40 * k) 40) ++ codes "</figure>\n"
+
+-- the images of all lines, 40 lines in each
+abbrev pub figures : Chart → ℕ → ℕ → List ℕ
+figures chart first count = flat_map (figure chart first count) (range_with_len 0 (div_ceil count 40))
+
+-- the table below its heading, and the end of a page
+unfoldable pub back : Table → List ℕ
+back table = TABLE_TITLE.now ++ table_text table ++ PAGE_TO.now
+
+-- a page: its title, the chart of a table with `count` lines from `first` on, a section on
+-- resources, and the table
+unfoldable pub page : List ℕ → ℕ → Table → ℕ → ℕ → List ℕ → List ℕ
+page title makespan table first count section =
+    front (escaped title) (note_of table.chart.days makespan) ++ figures table.chart first count ++ section ++ back table

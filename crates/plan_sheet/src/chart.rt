@@ -1,0 +1,331 @@
+//! Gantt charts as SVG.
+
+ghost use Rattle.std.specs.Prelude.{◌≡◌, ◌≤◌, ◌++◌, IfOk, OnOk, map, string_bytes};
+ghost use Rattle.plan_table.specs.Names.{name_of};
+ghost use Rattle.plan_sheet.specs.Chart as spec;
+ghost use Rattle.plan_sheet.specs.Escape as escape;
+ghost use Rattle.plan_sheet.specs.Names as named;
+
+use crate::axis::{axis_from, axis_to};
+use crate::bars::Bar;
+use crate::escape::escaped;
+use crate::marks::push_marks;
+use crate::names::label;
+use crate::pieces::push_counted;
+use crate::place::{extent, place};
+use crate::styles::{BAR_LEFT, BAR_TIP, BAR_WIDTH, CHART_STYLE, COLOURS, IMAGE};
+use crate::titles::title_of;
+use jiff::civil::Date;
+use plan_table::NameLine;
+use std::alloc::{AllocError, Global};
+use std::fmt::Write;
+
+/// A Gantt chart.
+#[derive(Drop)]
+pub struct Chart<'a> {
+    /// The length of the axis, in days of the calendar, or in time units without one.
+    pub span: u32,
+    /// The days of its instants; empty without a calendar.
+    pub days: &'a [Date],
+    /// The names of its lines.
+    pub rows: &'a [NameLine<'a>],
+    /// The names of its bars.
+    pub names: &'a [NameLine<'a>],
+    pub bars: &'a [Bar],
+}
+
+// Returns the place where a bar begins.
+#[tactic(auto, unfolding(crate::specs::Chart::left_of))]
+fn left_of(chart: &Chart<'_>, bar: Bar) -> u64
+    ensures { result ≡ spec.left_of (spec.chart_of chart.now) bar }
+{
+    place(chart.span, axis_from(chart.days, bar.from))
+}
+
+// Returns the place where a bar ends.
+#[tactic(auto, unfolding(crate::specs::Chart::right_of))]
+fn right_of(chart: &Chart<'_>, bar: Bar) -> u64
+    ensures { result ≡ spec.right_of (spec.chart_of chart.now) bar }
+{
+    place(chart.span, axis_to(chart.days, bar.to))
+}
+
+// Returns the description of a bar: its title, its start and its end.
+#[tactic(auto, unfolding(crate::specs::Chart::tip_of))]
+fn tip_of(alloc: Global, names: &[NameLine<'_>], bar: Bar) -> Result<String, AllocError>
+    ensures { IfOk result (λ text. string_bytes text ≡ spec.tip_of (map name_of names.now) bar) }
+{
+    let mut text = title_of(alloc, names, bar)?;
+    let (from, to) = (bar.from, bar.to);
+    write!(text, ", {from} to {to}")?;
+    Ok(text)
+}
+
+// Returns the description of a bar, escaped.
+fn shown_tip(alloc: Global, names: &[NameLine<'_>], bar: Bar) -> Result<String, AllocError>
+    ensures { IfOk result (λ text.
+        string_bytes text ≡ escape.escaped (spec.tip_of (map name_of names.now) bar)) }
+{
+    let tip = tip_of(alloc, names, bar)?;
+    escaped(alloc, &tip)
+}
+
+// Appends a milestone: a diamond around a place, with its description.
+#[tactic(auto, unfolding(crate::specs::Chart::diamond))]
+fn push_diamond(text: &mut String, x: u64, tip: &str) -> Result<(), AllocError>
+    ensures { OnOk result
+        (string_bytes text.new ≡ string_bytes text.old ++ spec.diamond x tip.now) }
+{
+    write!(
+        text,
+        "<path class=\"bar\" d=\"M{x} 2l6 6-6 6-6-6z\"><title>"
+    )?;
+    text.push_str(tip)?;
+    text.push_str("</title></path>\n")
+}
+
+// Appends the start of a rectangle from a place on, up to its description.
+#[tactic(auto, unfolding(crate::specs::Chart::rectangle_head))]
+fn push_rectangle_head(text: &mut String, x: u64, width: u64) -> Result<(), AllocError>
+    ensures { OnOk result
+        (string_bytes text.new ≡ string_bytes text.old ++ spec.rectangle_head x width) }
+{
+    push_counted(text, BAR_LEFT, x)?;
+    push_counted(text, BAR_WIDTH, width)?;
+    text.push_str(BAR_TIP)
+}
+
+// Appends an activity that takes time: a rectangle from a place on, with its description.
+#[tactic(auto, unfolding(crate::specs::Chart::rectangle))]
+fn push_rectangle(text: &mut String, x: u64, width: u64, tip: &str) -> Result<(), AllocError>
+    ensures { OnOk result
+        (string_bytes text.new ≡ string_bytes text.old ++ spec.rectangle x width tip.now) }
+{
+    push_rectangle_head(text, x, width)?;
+    text.push_str(tip)?;
+    text.push_str("</title></rect>\n")
+}
+
+// Appends a number inside a bar.
+#[tactic(auto, unfolding(crate::specs::Chart::inner_number))]
+fn push_inner_number(text: &mut String, x: u64, n: u32) -> Result<(), AllocError>
+    ensures { OnOk result
+        (string_bytes text.new ≡ string_bytes text.old ++ spec.inner_number x n) }
+{
+    write!(
+        text,
+        "<text class=\"on\" x=\"{x}\" y=\"12\" dx=\"2\">{n}</text>\n"
+    )
+}
+
+// Appends the number inside a bar, if it is that of a step and has 24 units of room.
+fn push_number(text: &mut String, chart: &Chart<'_>, bar: Bar) -> Result<(), AllocError>
+    ensures { OnOk result (string_bytes text.new
+        ≡ string_bytes text.old ++ spec.number_of (spec.chart_of chart.now) bar) }
+{
+    let x = left_of(chart, bar);
+    let width = extent(x, right_of(chart, bar));
+    if bar.step < 1 {
+        return Ok(());
+    }
+    if width < 24 {
+        return Ok(());
+    }
+    push_inner_number(text, x, bar.inside)
+}
+
+// Appends a bar: a diamond where it ends if it takes no time, else a rectangle.
+#[tactic(auto, unfolding(crate::specs::Chart::bar_of))]
+fn push_bar(alloc: Global, text: &mut String, chart: &Chart<'_>, bar: Bar) -> Result<(), AllocError>
+    ensures { OnOk result (string_bytes text.new
+        ≡ string_bytes text.old ++ spec.bar_of (spec.chart_of chart.now) bar) }
+{
+    let tip = shown_tip(alloc, chart.names, bar)?;
+    let x = left_of(chart, bar);
+    let end = right_of(chart, bar);
+    if bar.from == bar.to {
+        push_diamond(text, end, &tip)
+    } else {
+        push_rectangle(text, x, extent(x, end), &tip)?;
+        push_number(text, chart, bar)
+    }
+}
+
+// Appends a bar, if it is in line `n`.
+fn push_bar_in(
+    alloc: Global,
+    text: &mut String,
+    chart: &Chart<'_>,
+    n: u32,
+    bar: Bar,
+) -> Result<(), AllocError>
+    ensures { OnOk result (string_bytes text.new
+        ≡ string_bytes text.old ++ spec.bar_in (spec.chart_of chart.now) n bar) }
+{
+    if bar.line == n {
+        push_bar(alloc, text, chart, bar)
+    } else {
+        Ok(())
+    }
+}
+
+// Appends the bars of line `n`.
+fn push_bars(alloc: Global, text: &mut String, chart: &Chart<'_>, n: u32) -> Result<(), AllocError>
+    ensures { OnOk result (string_bytes text.new
+        ≡ string_bytes text.old ++ spec.bars_of (spec.chart_of chart.now) n) }
+{
+    let bars = chart.bars;
+    for &bar in bars {
+        push_bar_in(alloc, text, chart, n, bar)?;
+    }
+    Ok(())
+}
+
+// Appends the label of a line at this height, cut off where the bars begin.
+#[tactic(auto, unfolding(crate::specs::Chart::line_head))]
+fn push_line_head(text: &mut String, y: u32, label: &str) -> Result<(), AllocError>
+    ensures { OnOk result
+        (string_bytes text.new ≡ string_bytes text.old ++ spec.line_head y label.now) }
+{
+    write!(
+        text,
+        "<g transform=\"translate(0,{y})\"><svg width=\"232\" height=\"16\"><text x=\"4\" y=\"12\">"
+    )?;
+    text.push_str(label)?;
+    text.push_str("</text></svg>\n")
+}
+
+/// Returns the label of line `n`, escaped.
+pub(crate) fn shown_label(
+    alloc: Global,
+    rows: &[NameLine<'_>],
+    n: u32,
+) -> Result<String, AllocError>
+    ensures { IfOk result (λ text. string_bytes text
+        ≡ escape.escaped (named.label (map name_of rows.now) n)) }
+{
+    let text = label(alloc, rows, n)?;
+    escaped(alloc, &text)
+}
+
+// Appends line `n`, as the k-th one from above.
+#[tactic(auto, unfolding(crate::specs::Chart::line_of))]
+fn push_line(
+    alloc: Global,
+    text: &mut String,
+    chart: &Chart<'_>,
+    k: u32,
+    n: u32,
+) -> Result<(), AllocError>
+    requires { k ≤ 1000000 }
+    ensures { OnOk result (string_bytes text.new
+        ≡ string_bytes text.old ++ spec.line_of (spec.chart_of chart.now) k n) }
+{
+    let label = shown_label(alloc, chart.rows, n)?;
+    push_line_head(text, 16 * k + 24, &label)?;
+    push_bars(alloc, text, chart, n)?;
+    text.push_str("</g>\n")
+}
+
+// Appends the lines with `count` numbers from `first` on.
+fn push_lines(
+    alloc: Global,
+    text: &mut String,
+    chart: &Chart<'_>,
+    first: u32,
+    count: u32,
+) -> Result<(), AllocError>
+    requires first { first ≤ 1000000 }
+    requires count { count ≤ 1000000 }
+    ensures { OnOk result (string_bytes text.new
+        ≡ string_bytes text.old ++ spec.lines_of (spec.chart_of chart.now) first count) }
+{
+    for k in 0..count {
+        push_line(alloc, text, chart, k, first + k)?;
+    }
+    Ok(())
+}
+
+// Appends the tag of an SVG image of this height.
+#[tactic(auto, unfolding(crate::specs::Chart::image_tag))]
+fn push_image_tag(text: &mut String, height: u32) -> Result<(), AllocError>
+    ensures { OnOk result
+        (string_bytes text.new ≡ string_bytes text.old ++ spec.image_tag height) }
+{
+    text.push_str(IMAGE)?;
+    write!(text, "{height}\" viewBox=\"0 0 1320 {height}\">\n")
+}
+
+/// Appends the start of an SVG image of this height, with an opening and a title, which is escaped.
+#[tactic(auto, unfolding(crate::specs::Chart::image_head))]
+pub(crate) fn push_image_head(
+    text: &mut String,
+    height: u32,
+    opening: &str,
+    title: &str,
+) -> Result<(), AllocError>
+    ensures { OnOk result (string_bytes text.new ≡ string_bytes text.old
+        ++ spec.image_head height opening.now title.now) }
+{
+    push_image_tag(text, height)?;
+    text.push_str(opening)?;
+    text.push_str("<title>")?;
+    text.push_str(title)?;
+    text.push_str("</title>\n")
+}
+
+/// Appends a chart of these lines, with its opening and its title.
+#[tactic(auto, unfolding(crate::specs::Chart::image_of))]
+pub(crate) fn push_chart(
+    alloc: Global,
+    text: &mut String,
+    opening: &str,
+    title: &str,
+    chart: &Chart<'_>,
+    first: u32,
+    count: u32,
+) -> Result<(), AllocError>
+    requires first { first ≤ 1000000 }
+    requires count { count ≤ 1000000 }
+    ensures { OnOk result (string_bytes text.new ≡ string_bytes text.old
+        ++ spec.image_of opening.now title.now (spec.chart_of chart.now) first count) }
+{
+    let title = escaped(alloc, title)?;
+    push_image_head(text, 16 * count + 28, opening, &title)?;
+    push_marks(alloc, text, chart.span, chart.days, 16 * count + 10)?;
+    push_lines(alloc, text, chart, first, count)?;
+    text.push_str("</svg>\n")
+}
+
+// Returns the opening of a chart alone, with its styles.
+fn styled_opening(alloc: Global) -> Result<String, AllocError>
+    ensures { IfOk result (λ text. string_bytes text ≡ spec.styled_opening) }
+{
+    let mut text = String::new(alloc);
+    text.push_str("<style>\n")?;
+    text.push_str(COLOURS)?;
+    text.push_str(CHART_STYLE)?;
+    text.push_str("</style>\n")?;
+    Ok(text)
+}
+
+/// Returns a chart alone, an SVG file (SVG 2): the lines with `count` numbers from `first` on below
+/// one axis, in colours for light and dark backgrounds. Lengths are in units of the viewBox: a line
+/// has 16, the axis 1,000.
+pub(crate) fn svg_chart(
+    alloc: Global,
+    title: &str,
+    chart: &Chart<'_>,
+    first: u32,
+    count: u32,
+) -> Result<String, AllocError>
+    requires first { first ≤ 1000000 }
+    requires count { count ≤ 1000000 }
+    ensures text { IfOk result (λ text.
+        string_bytes text ≡ spec.svg_chart title.now (spec.chart_of chart.now) first count) }
+{
+    let opening = styled_opening(alloc)?;
+    let mut text = String::new(alloc);
+    push_chart(alloc, &mut text, &opening, title, chart, first, count)?;
+    Ok(text)
+}
