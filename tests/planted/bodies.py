@@ -3,6 +3,7 @@ alone, against the contracts of the functions that it calls, so that one check c
 """
 
 import collections
+import contextlib
 import os
 import random
 import re
@@ -17,6 +18,14 @@ HEAD = re.compile(r"^( *)(?:pub(?:\([a-z]+\))? )?(?:const )?fn (\w+)")
 OWNER = re.compile(r"^impl(?:<.*?>)? (?:([\w:]+)(?:<([\w:]+).*?>)? for )?&?\(?(\w+)")
 VERDICT = re.compile(r"(?m)^(?:fn|trait method|cycle) (.+?): (proved|not proved|no proof|could not tell)(.*)$")
 PLACE = re.compile(r"(?:^|[\s(])(?:\./)?(src/[\w/]+\.rt):(\d+)")
+ERROR = re.compile(r"(?m)^(note: )?(?:\./)?(\S+?):(\d+):\d+: (.*)$")
+# what an error says that names something which an edit removed, or that depends on one that does
+GONE = re.compile(r"has no field|is not in scope|has no `|was not admitted|declarations? that depends? on")
+# checks of one change without some answers
+ROUNDS = 8
+# a verdict that says nothing of the contract, and what stands behind one that was found without the answers that say so
+NAMED = "not judged: only a proof file names what the edit removed"
+APART = " without the answers that name what the edit removed"
 TURNED = [
     (" <= ", " < "), (" < ", " <= "), (" >= ", " > "), (" > ", " >= "), (" == ", " != "), (" != ", " == "), (" + ", " - "),
     (" - ", " + "), (" * ", " + "), (" / ", " * "), (" % ", " / "), (" += ", " -= "), (" -= ", " += "), (" && ", " || "),
@@ -180,6 +189,38 @@ def taken(texts, folder):
     return changes
 
 
+def pairs_of(path):
+    """The file, the old and the new text of each pair of an edit."""
+    with open(path, encoding="utf-8") as there:
+        words = re.split(r"(?m)^(file|old|new): ?", there.read())[1:]
+    file = old = ""
+    for key, value in zip(words[::2], words[1::2]):
+        if key == "new":
+            yield file, old, value.removesuffix("\n")
+        file = value.strip() if key == "file" else file
+        old = value.removesuffix("\n") if key == "old" else old
+
+
+def edited(folder, path):
+    """The texts of a crate's files with an edit."""
+    texts = {}
+    for file, old, new in pairs_of(path):
+        if file not in texts:
+            with open(os.path.join(folder, file), encoding="utf-8") as there:
+                texts[file] = there.read()
+        texts[file] = texts[file].replace(old, new)
+    return texts
+
+
+def touched(texts, path):
+    """The functions in which an edit changes something."""
+    found = []
+    for file, old, _ in pairs_of(path):
+        line = texts[file][: texts[file].index(old)].count("\n") if old in texts.get(file, "") else None
+        found += [it for it in functions_of(file, texts.get(file, "").split("\n")) if line is not None and it.head <= line <= it.end]
+    return found
+
+
 def below(crate):
     """The crates of the repository that a crate depends on."""
     with open(os.path.join(TOP, "crates.txt"), encoding="utf-8") as file:
@@ -227,9 +268,65 @@ class Copy:
     def checked(self, changes):
         """What a check says of the crate with some changes."""
         self.write(changes)
+        return self.check()
+
+    def check(self):
+        """What a check says of the crate as it stands in the copy."""
         words = ["rt", "check", "--jobs", os.environ.get("RT_JOBS") or "1"]
         done = subprocess.run(words, cwd=self.folder, stdin=subprocess.DEVNULL, capture_output=True, text=True)
         return done.stdout + done.stderr
+
+    @contextlib.contextmanager
+    def holding(self, texts):
+        """The copy with these texts of files, by their paths in the crate."""
+        was = {}
+        for file, text in texts.items():
+            path = os.path.join(self.folder, file)
+            with open(path, encoding="utf-8") as there:
+                was[path] = there.read()
+            with open(path, "w", encoding="utf-8") as there:
+                there.write(text)
+        try:
+            yield
+        finally:
+            for path, text in was.items():
+                with open(path, "w", encoding="utf-8") as there:
+                    there.write(text)
+
+    def judged(self, functions):
+        """The verdict on the crate as it stands, with wrong bodies of these functions. While only answers are refused, and only because
+        they name what isn't there, they are left out and the crate is checked again."""
+        kept = {}
+        try:
+            for _ in range(ROUNDS):
+                printed = self.check()
+                if not re.search(r"(?m)^logic=", printed):
+                    return "not judged"
+                told = errors(printed)
+                apart = APART if kept else ""
+                if re.search(r"(?m)^logic=proved", printed):
+                    return "PROVED" + apart
+                if not told or not all(is_gone for is_gone, _, _ in told):
+                    return "refused" + apart
+                places = gone(functions, printed)
+                if not places:
+                    return NAMED
+                self.leave_out(places, kept)
+            return NAMED
+        finally:
+            for path, text in kept.items():
+                with open(path, "w", encoding="utf-8") as file:
+                    file.write(text)
+
+    def leave_out(self, places, kept):
+        """Removes the declarations at these places; `kept` has the files as they were."""
+        for file in {file for file, _ in places}:
+            path = os.path.join(self.folder, file)
+            with open(path, encoding="utf-8") as there:
+                text = there.read()
+            kept.setdefault(path, text)
+            with open(path, "w", encoding="utf-8") as there:
+                there.write(without(text, [line for other, line in places if other == file]))
 
 
 def verdict_of(change, verdicts):
@@ -249,6 +346,35 @@ def own(rest):
     return [part for part in parts if part and not part.startswith(("it calls ", "it passes ", "it waits "))]
 
 
+def answers_of(function):
+    """A pattern for the proof files of a function, which have its name in theirs."""
+    return re.compile(rf"proofs/(?:.*/)?\+?{re.escape(function.name.rpartition('::')[2])}/(?:Answers|Invariants)\.antt")
+
+
+def errors(printed):
+    """The errors that a check printed: whether each only names something that isn't there, its file and its line."""
+    told = ERROR.findall(printed)
+    told = [it for it in told if it[0] or "error" in it[3]] or told
+    return [(bool(it[1].startswith("proofs/") and GONE.search(it[3])), it[1], int(it[2])) for it in told]
+
+
+def gone(functions, printed):
+    """The places in the proof files of functions that name something which isn't there."""
+    patterns = [answers_of(function) for function in functions]
+    return [(file, line) for is_gone, file, line in errors(printed) if is_gone and any(it.fullmatch(file) for it in patterns)]
+
+
+def without(text, lines):
+    """A proof file without the declarations that stand at these lines; without the line alone for an import."""
+    rows, drop = text.split("\n"), set()
+    heads = [k for k, row in enumerate(rows) if row[:1].strip() and (k == 0 or not rows[k - 1].strip() or row.startswith("use "))]
+    for line in lines:
+        start = max((k for k in heads if k < line), default=0)
+        end = next((k for k in heads if k > start), len(rows))
+        drop |= {start} if rows[start].startswith("use ") else {*range(start, end)}
+    return "\n".join(row for k, row in enumerate(rows) if k not in drop)
+
+
 def judge(changes, printed):
     """Sorts changes by what a check printed: those that are judged, with their verdicts, and those that aren't. A function that has no
     proof for those alone that it calls is proved by their contracts."""
@@ -257,7 +383,7 @@ def judge(changes, printed):
     for change in changes:
         said = verdict_of(change, verdicts)
         if any(told == "not proved" or told == "no proof" and own(rest) for told, rest in said):
-            judged[change] = "refused"
+            judged[change] = NAMED if gone([change.function], printed) else "refused"
         elif said and all(told in ("proved", "no proof") for told, _ in said):
             judged[change] = "PROVED"
         else:
@@ -287,7 +413,7 @@ def batch_of(waiting):
 
 
 class Trial:
-    """The changes that wait, and what came of the others."""
+    """The changes that wait, and what came of the others. One that only a proof file refuses is tried again, without these answers."""
 
     def __init__(self, copy, changes, tell):
         self.copy, self.waiting, self.ended, self.tell = copy, list(changes), {}, tell
@@ -306,7 +432,7 @@ class Trial:
             return
         judged, left = judge(changes, printed)
         for change, said in judged.items():
-            self.end(change, said)
+            self.end(change, self.again(change) if said == NAMED else said)
         for change in left:
             self.tries[change] += 1
             if self.tries[change] > 2 or len(changes) == 1:
@@ -314,6 +440,11 @@ class Trial:
             else:
                 self.waiting.remove(change)
                 self.waiting.insert(0, change)
+
+    def again(self, change):
+        """The verdict on one change alone."""
+        self.copy.write([change])
+        return self.copy.judged([change.function])
 
     def drop(self, changes, printed):
         """Ends the changes that don't compile; where no line names one, each half is tried by itself."""
