@@ -61,9 +61,9 @@ pub prints_same : (f g : List ℕ → Option (List ℕ)) → AreSame f g
 prints_same f g same print taken after r p = with_same f g same print print.holidays taken after r p
 
 -- no bytes are known whatever the name is
-either : (none : Option (List ℕ)) (b : Bool) → (if b then none else none) ≡ none
-either none true = refl
-either none false = refl
+either : (found : Option (List ℕ)) (b : Bool) → (if b then found else found) ≡ found
+either found true = refl
+either found false = refl
 
 -- no name has known bytes if no file has
 pub none_named : AreSame (bytes_named None (λ _. None)) (λ _. None)
