@@ -13,7 +13,8 @@ use Rattle.plan_psplib.specs.Streams.{LineWord, Stream}
 use Rattle.plan_psplib.specs.Tokens.{◌>>=◌, LineNumber, check, as_number, number_of_words, number_at, limited, limited_at, duration_at, greatest, greatest_total}
 use Rattle.plan_psplib.specs.Causes.{NextIs}
 use Rattle.plan_psplib.proofs.GoesLemmas.{Goes, goes_append, then_ok, same_ok, number_goes, limited_goes}
-use Rattle.plan_psplib.proofs.CauseLemmas.{same_err, then_err, check_err, both_false, outside, next_is, plain_err}
+use Rattle.plan_psplib.proofs.CauseLemmas.{plain_err}
+use Rattle.plan_psplib.proofs.FailLemmas.{same_err, then_err, check_err, both_false, outside, next_is}
 use Rattle.plan_psplib.proofs.SaysLemmas.{plain_is}
 use Rattle.plan_orlib.specs.declared.steps.Step.{Step}
 use Rattle.plan_orlib.specs.Instances.{stream_of}

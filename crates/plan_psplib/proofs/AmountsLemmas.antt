@@ -12,10 +12,10 @@ use Rattle.plan_psplib.specs.Requests.{Request, Requests, amounts_at, request_ro
 use Rattle.plan_psplib.specs.Says.{Spells, IsNeeds, request_numbers}
 use Rattle.plan_psplib.proofs.GoesLemmas.{Goes, goes_append, goes_split, goes_spells, spells_goes, then_ok, ok_bind, same_ok, check_ok, ok_check, both_true, true_both, number_goes, goes_number, expect_goes, goes_expect, within_goes, goes_within, end_none, none_end}
 
-abbrev AreAmounts : List ℕ → Type 0
+abbrev pub AreAmounts : List ℕ → Type 0
 AreAmounts ns = AllByRecursion (λ n. n ≤ greatest) ns
 
-amounts_goes : (more : ℕ) (before : List ℕ) (s : Stream) (x : List ℕ × Stream) →
+pub amounts_goes : (more : ℕ) (before : List ℕ) (s : Stream) (x : List ℕ × Stream) →
     amounts_at more before s ≡ Ok x → (new : List ℕ) × (x.0 ≡ before ++ new) × (length new ≡ more)
     × Goes s new x.1 × AreAmounts new
 unfolding amounts_at
@@ -28,7 +28,7 @@ amounts_goes (suc more) before s x e =
     let rest = amounts_goes more (before ++ y.0 ∷ []) y.1 x e in
     (y.0 ∷ rest.0, rest.1 ∙ append_assoc before (y.0 ∷ []) rest.0, ap suc rest.2, goes_append s y.1 x.1 (y.0 ∷ []) rest.0 one.0 rest.3, (one.1, rest.4)))
 
-goes_amounts : (before new : List ℕ) (s t : Stream) → Goes s new t → AreAmounts new → amounts_at (length new) before s ≡ Ok (before ++ new, t)
+pub goes_amounts : (before new : List ℕ) (s t : Stream) → Goes s new t → AreAmounts new → amounts_at (length new) before s ≡ Ok (before ++ new, t)
 unfolding amounts_at
 goes_amounts before [] s t p are = ap (λ (u : Stream). Ok (before, u)) (sym p) ∙ ap (λ (xs : List ℕ). Ok (xs, t)) (sym (append-nil before))
 goes_amounts before (n ∷ ns) s t p are =
@@ -71,7 +71,7 @@ request_goes k job total s x e =
     (goes_append b d.1 ns.1 (d.0 ∷ []) needs.0 duration.0 needs.3)) in
     subst P (same_ok (record { duration = d.0; needs = ns.0 }, ns.1) x e) (subst Q (sym needs.1) (whole, duration.1, duration.2, (needs.2, needs.4)))))))
 
-goes_request : (k job total : ℕ) (r : Request) (s t : Stream) → Goes s (job ∷ 1 ∷ r.duration ∷ r.needs) t →
+pub goes_request : (k job total : ℕ) (r : Request) (s t : Stream) → Goes s (job ∷ 1 ∷ r.duration ∷ r.needs) t →
     r.duration ≤ greatest → total + r.duration ≤ greatest_total → IsNeeds k r.needs →
     request_row_at k job total s ≡ Ok (r, t)
 unfolding request_row_at
@@ -86,32 +86,32 @@ goes_request k job total r s t p small fits needs =
     (ok_bind (amounts_at k [] d.0) _ (r.needs, t) (r, t) amounts refl)))
 
 -- rows followed by other rows
-abbrev behind : Requests → List ℕ → List (List ℕ) → Requests
+abbrev pub behind : Requests → List ℕ → List (List ℕ) → Requests
 behind rows durations needs = record { durations = rows.durations ++ durations; needs = rows.needs ++ needs }
 
-sum_behind : (before : List ℕ) (d : ℕ) (ds : List ℕ) → sum (before ++ d ∷ []) + sum ds ≡ sum before + sum (d ∷ ds)
+pub sum_behind : (before : List ℕ) (d : ℕ) (ds : List ℕ) → sum (before ++ d ∷ []) + sum ds ≡ sum before + sum (d ∷ ds)
 sum_behind before d ds = let a = sum_by_push (λ n. n) before d in let b = sum_by-cons (λ n. n) d ds in omega (arith, a, b)
 
 -- the requests of rows after earlier rows
-record AreRows (k more job : ℕ) (rows : Requests) (durations : List ℕ) (needs : List (List ℕ)) (s t : Stream) : Type 0 where
-  durations_count : length durations ≡ more
-  needs_count : length needs ≡ more
-  goes : Goes s (request_numbers job durations needs) t
-  small : AreAmounts durations
-  total : sum rows.durations + sum durations ≤ greatest_total
-  each : AllByRecursion (IsNeeds k) needs
+pub record AreRows (k more job : ℕ) (rows : Requests) (durations : List ℕ) (needs : List (List ℕ)) (s t : Stream) : Type 0 where
+  pub durations_count : length durations ≡ more
+  pub needs_count : length needs ≡ more
+  pub goes : Goes s (request_numbers job durations needs) t
+  pub small : AreAmounts durations
+  pub total : sum rows.durations + sum durations ≤ greatest_total
+  pub each : AllByRecursion (IsNeeds k) needs
 
-behind-nil : (rows : Requests) → rows ≡ behind rows [] []
+pub behind-nil : (rows : Requests) → rows ≡ behind rows [] []
 behind-nil rows =
     ap (λ (ds : List ℕ). let r : Requests = record { durations = ds; needs = rows.needs } in r) (sym (append-nil rows.durations))
     ∙ ap (λ (nss : List (List ℕ)). let r : Requests = record { durations = rows.durations ++ []; needs = nss } in r) (sym (append-nil rows.needs))
 
-behind-with_row : (rows : Requests) (row : Request) (ds : List ℕ) (nss : List (List ℕ)) → behind (with_row rows row) ds nss ≡ behind rows (row.duration ∷ ds) (row.needs ∷ nss)
+pub behind-with_row : (rows : Requests) (row : Request) (ds : List ℕ) (nss : List (List ℕ)) → behind (with_row rows row) ds nss ≡ behind rows (row.duration ∷ ds) (row.needs ∷ nss)
 behind-with_row rows row ds nss =
     ap (λ (all : List ℕ). let r : Requests = record { durations = all; needs = rows.needs ++ row.needs ∷ [] ++ nss } in r) (append_assoc rows.durations (row.duration ∷ []) ds)
     ∙ ap (λ (all : List (List ℕ)). let r : Requests = record { durations = rows.durations ++ row.duration ∷ ds; needs = all } in r) (append_assoc rows.needs (row.needs ∷ []) nss)
 
-requests_goes : (k more job : ℕ) (rows : Requests) (s : Stream) (x : Requests × Stream) →
+pub requests_goes : (k more job : ℕ) (rows : Requests) (s : Stream) (x : Requests × Stream) →
     sum rows.durations ≤ greatest_total → request_rows_at k more job rows s ≡ Ok x →
     (ds : List ℕ) × (nss : List (List ℕ)) × (x.0 ≡ behind rows ds nss) × AreRows k more job rows ds nss s x.1
 unfolding request_rows_at
@@ -138,7 +138,7 @@ requests_goes k (suc more) job rows s x fits e =
       },
     ))
 
-goes_requests : (k job : ℕ) (rows : Requests) (ds : List ℕ) (nss : List (List ℕ)) (s t : Stream) →
+pub goes_requests : (k job : ℕ) (rows : Requests) (ds : List ℕ) (nss : List (List ℕ)) (s t : Stream) →
     length nss ≡ length ds → Goes s (request_numbers job ds nss) t → AreAmounts ds →
     sum rows.durations + sum ds ≤ greatest_total → AllByRecursion (IsNeeds k) nss →
     request_rows_at k (length ds) job rows s ≡ Ok (behind rows ds nss, t)
@@ -165,7 +165,7 @@ pub record SpellsRequests (n k : ℕ) (s : Stream) (r : Requests) : Type 0 where
   pub total : sum r.durations ≤ greatest_total
   pub each : AllByRecursion (IsNeeds k) r.needs
 
-abbrev none : Requests
+abbrev pub none : Requests
 none = record { durations = []; needs = [] }
 
 -- the words that were read spell the result

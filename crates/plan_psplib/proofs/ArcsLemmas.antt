@@ -40,16 +40,22 @@ successor_goes n before s x e =
     let P : ℕ × Stream → Type 0 = λ z. Goes s (z.0 ∷ []) z.1 × (1 ≤ z.0) × (z.0 ≤ n) × (is_among before z.0 ≡ false) in
     subst P (same_ok (y.0.value, y.1) x e) (job.0, job.1, job.2, new)))
 
-goes_successor : (n j : ℕ) (before : List ℕ) (s t : Stream) → Goes s (j ∷ []) t → 1 ≤ j → j ≤ n → is_among before j ≡ false → successor_at n before s ≡ Ok (j, t)
+pub goes_successor : (n j : ℕ) (before : List ℕ) (s t : Stream) → Goes s (j ∷ []) t → 1 ≤ j → j ≤ n → is_among before j ≡ false → successor_at n before s ≡ Ok (j, t)
 unfolding successor_at
 goes_successor n j before s t p low high new =
     ok_bind (job_at n s) _ (record { value = j; line = t.last }, t) (j, t) (goes_job n j s t p low high)
     (ok_bind (check (not (is_among before j)) code.Double t.last) _ tt (j, t) (ok_check _ code.Double t.last (ap not new)) refl)
 
 -- jobs of 1 to n, none of which is among the jobs before it
-abbrev AreNew : ℕ → List ℕ → List ℕ → Type 0
+abbrev pub AreNew : ℕ → List ℕ → List ℕ → Type 0
 AreNew n before [] = Unit {0}
 AreNew n before (j ∷ js) = (1 ≤ j) × (j ≤ n) × (is_among before j ≡ false) × AreNew n (before ++ j ∷ []) js
+
+-- one more successor
+pub AreNew-push : (n : ℕ) (before js : List ℕ) (j : ℕ) → AreNew n before js → 1 ≤ j → j ≤ n → is_among (before ++ js) j ≡ false → AreNew n before (js ++ j ∷ [])
+AreNew-push n before [] j h low high new = (low, high, ap (λ (xs : List ℕ). is_among xs j) (sym (append-nil before)) ∙ new, tt)
+AreNew-push n before (x ∷ js) j h low high new =
+    (h.0, h.1, h.2, AreNew-push n (before ++ x ∷ []) js j h.3 low high (ap (λ (xs : List ℕ). is_among xs j) (append_assoc before (x ∷ []) js) ∙ new))
 
 successors_goes : (n count : ℕ) (before : List ℕ) (s : Stream) (x : List ℕ × Stream) →
     successors_at n count before s ≡ Ok x → (new : List ℕ) × (x.0 ≡ before ++ new) × (length new ≡ count)
@@ -86,7 +92,7 @@ row_goes n job s x e =
     (goes_append b c.1 x.1 (c.0.value ∷ []) row.0 (number_goes b c third) row.3)) in
     subst P (sym row.1) (subst Q (sym row.2) whole, row.4))))
 
-goes_row : (n job : ℕ) (row : List ℕ) (s t : Stream) → Goes s (job ∷ 1 ∷ length row ∷ row) t → AreNew n [] row → precedence_row_at n job s ≡ Ok (row, t)
+pub goes_row : (n job : ℕ) (row : List ℕ) (s t : Stream) → Goes s (job ∷ 1 ∷ length row ∷ row) t → AreNew n [] row → precedence_row_at n job s ≡ Ok (row, t)
 unfolding precedence_row_at
 goes_row n job row s t p are =
     let a = goes_split s t (job ∷ []) (1 ∷ length row ∷ row) p in
@@ -97,7 +103,7 @@ goes_row n job row s t p are =
     (ok_bind (number_at b.0) _ (record { value = length row; line = c.0.last }, c.0) (row, t) (goes_number b.0 c.0 (length row) c.1)
     (goes_successors n [] row c.0 t c.2 are)))
 
-rows_goes : (n more job : ℕ) (arcs : List (ℕ × ℕ)) (s : Stream) (x : List (ℕ × ℕ) × Stream) →
+pub rows_goes : (n more job : ℕ) (arcs : List (ℕ × ℕ)) (s : Stream) (x : List (ℕ × ℕ) × Stream) →
     precedence_rows_at n more job arcs s ≡ Ok x → (rows : List (List ℕ)) × (length rows ≡ more)
     × AllByRecursion (AreNew n []) rows × Goes s (precedence_numbers job rows) x.1
     × (x.0 ≡ arcs ++ arcs_of_rows job rows)
@@ -118,7 +124,7 @@ rows_goes n (suc more) job arcs s x e =
       rest.4 ∙ append_assoc arcs (arcs_from job y.0) (arcs_of_rows (job + 1) rest.0),
     ))
 
-goes_rows : (n job : ℕ) (arcs : List (ℕ × ℕ)) (rows : List (List ℕ)) (s t : Stream) →
+pub goes_rows : (n job : ℕ) (arcs : List (ℕ × ℕ)) (rows : List (List ℕ)) (s t : Stream) →
     Goes s (precedence_numbers job rows) t → AllByRecursion (AreNew n []) rows →
     precedence_rows_at n (length rows) job arcs s ≡ Ok (arcs ++ arcs_of_rows job rows, t)
 unfolding precedence_rows_at
@@ -165,7 +171,7 @@ push-AllNew : (before : List ℕ) (j : ℕ) (js : List ℕ) → AllNew before js
 push-AllNew before j [] h k = tt
 push-AllNew before j (y ∷ js) h k = (among_push before j y ∙ or_both_false (is_among before y) (nat_eq j y) h.0 k.0, push-AllNew before j js h.1 k.1)
 
-new_is_row : (n : ℕ) (before row : List ℕ) → AreNew n before row → AllNew before row × IsRow n row
+pub new_is_row : (n : ℕ) (before row : List ℕ) → AreNew n before row → AllNew before row × IsRow n row
 unfolding IsDistinct
 new_is_row n before [] h = (tt, (tt, tt))
 new_is_row n before (j ∷ js) h =
@@ -173,20 +179,20 @@ new_is_row n before (j ∷ js) h =
     let parts = AllNew-push before j js rest.0 in
     ((h.2, parts.0), (((h.0, h.1), rest.1.0), (parts.1, rest.1.1)))
 
-row_is_new : (n : ℕ) (before row : List ℕ) → AllNew before row → IsRow n row → AreNew n before row
+pub row_is_new : (n : ℕ) (before row : List ℕ) → AllNew before row → IsRow n row → AreNew n before row
 unfolding IsDistinct
 row_is_new n before [] h r = tt
 row_is_new n before (j ∷ js) h r = (r.0.0.0, r.0.0.1, h.0, row_is_new n (before ++ j ∷ []) js (push-AllNew before j js h.1 r.1.0) (r.0.1, r.1.1))
 
-nothing_before : (row : List ℕ) → AllNew [] row
+pub nothing_before : (row : List ℕ) → AllNew [] row
 nothing_before [] = tt
 nothing_before (j ∷ js) = (refl, nothing_before js)
 
-rows_are : (n : ℕ) (rows : List (List ℕ)) → AllByRecursion (AreNew n []) rows → AllByRecursion (IsRow n) rows
+pub rows_are : (n : ℕ) (rows : List (List ℕ)) → AllByRecursion (AreNew n []) rows → AllByRecursion (IsRow n) rows
 rows_are n [] h = tt
 rows_are n (row ∷ rows) h = ((new_is_row n [] row h.0).1, rows_are n rows h.1)
 
-are_rows : (n : ℕ) (rows : List (List ℕ)) → AllByRecursion (IsRow n) rows → AllByRecursion (AreNew n []) rows
+pub are_rows : (n : ℕ) (rows : List (List ℕ)) → AllByRecursion (IsRow n) rows → AllByRecursion (AreNew n []) rows
 are_rows n [] h = tt
 are_rows n (row ∷ rows) h = (row_is_new n [] row (nothing_before row) h.0, are_rows n rows h.1)
 

@@ -13,4 +13,7 @@ pub mod HeadLemmas
 pub mod SaysLemmas
 pub mod NetworkLemmas
 pub mod OnceLemmas
+pub mod FailLemmas
+pub mod PrecedenceStopLemmas
+pub mod RequestStopLemmas
 pub mod CauseLemmas

@@ -1,6 +1,6 @@
 -- What each error of an `.sm` text says of the text by itself, in whatever order the checks are
 -- made (docs/definitions.md, "Files").
-use Rattle.std.specs.Prelude.{◌≡◌, ◌≢◌, ◌⊎◌, ℕ, ◌+◌, ◌<◌, true, List, [], ◌∷◌, Option, Some, None, Ok, Err, codes, count_by, get_or, length, sum, take}
+use Rattle.std.specs.Prelude.{◌≡◌, ◌≢◌, ◌⊎◌, ℕ, ◌+◌, ◌<◌, true, List, [], ◌∷◌, Some, None, Ok, Err, codes, count_by, get_or, length, sum, take}
 use Rattle.plan_net.specs.Limits.{fewest_activities, most_activities}
 use Rattle.plan_psplib.specs.declared.text.fault.FileCode.{FileCode}
 use Rattle.plan_psplib.specs.declared.text.fault.FileCode.TheVariants as code
@@ -14,6 +14,8 @@ use Rattle.plan_psplib.specs.Tokens.{greatest, greatest_total}
 use Rattle.plan_psplib.specs.Head.{most_resources}
 use Rattle.plan_psplib.specs.Precedence.{is_among}
 use Rattle.plan_psplib.specs.Document.{Document, document}
+use Rattle.plan_psplib.specs.Says.{HasValue, IsNeeds}
+use Rattle.plan_psplib.specs.Places.{IsAtJob, IsAtModes, IsAtSuccessor, IsBegunPrecedence, IsWholePrecedence, IsAtRequest, IsAtMode, IsAtDuration, IsAtNeed, AreFirstAmounts, AreBegunRequests, AreWholeRequests}
 
 -- the line of the first zero byte: one more than the line feeds before it
 abbrev pub HasZeroByte : List ℕ → ℕ → Type 0
@@ -63,33 +65,74 @@ abbrev pub NextIs : Stream → ℕ → (ℕ → Type 0) → Type 0
 NextIs t line P = (word : LineWord) × (words : List LineWord) × (t.words ≡ word ∷ words)
     × (line ≡ word.line) × (n : ℕ) × (number word.text ≡ Some n) × P n
 
--- no word is left: the line is that of the last word; or one word is left over, on this line
+-- no word is left, and the last one is on this line
 abbrev pub EndsAt : Stream → ℕ → Type 0
-EndsAt t line = ((t.words ≡ []) × (line ≡ t.last))
-    ⊎ ((word : LineWord) × (words : List LineWord) × (t.words ≡ word ∷ words) × (line ≡ word.line))
+EndsAt t line = (t.words ≡ []) × (line ≡ t.last)
 
--- The word at which a section stops, behind these numbers of it. A mode is a number other than 1. A
--- successor is named twice if it is among the numbers before. A number beyond its limit is above
--- 10,000, or the numbers up to it add up to more than 1,000,000.
-abbrev pub StopsAt : FileCode → List ℕ → Stream → ℕ → Type 0
-StopsAt code.BadNumber before t line = NextIsNoNumber t line
-StopsAt code.JobOrder before t line = NextIs t line (λ n. Unit {0})
-StopsAt code.Modes before t line = NextIs t line (λ n. n ≢ 1)
-StopsAt code.Count before t line = EndsAt t line
-StopsAt code.Limit before t line = NextIs t line (λ n. (greatest < n) ⊎ (greatest_total < sum before + n))
-StopsAt code.Double before t line = NextIs t line (λ n. is_among before n ≡ true)
-StopsAt _ before t line = ⊥
+-- a word is left, on this line
+abbrev pub GoesOnAt : Stream → ℕ → Type 0
+GoesOnAt t line = (word : LineWord) × (words : List LineWord) × (t.words ≡ word ∷ words)
+    × (line ≡ word.line)
 
--- a section stops
-abbrev pub StopsIn : Stream → FileCode → ℕ → Type 0
-StopsIn s c line = (before : List ℕ) × (t : Stream) × BeginsWith s before t × StopsAt c before t line
+-- The word at which the precedence section of n jobs stops, behind these numbers of it. A job's
+-- number is that of the row; a successor is a job, and one that its row hasn't listed before.
+abbrev pub PrecedenceStops : ℕ → FileCode → List ℕ → Stream → ℕ → Type 0
+PrecedenceStops n code.BadNumber before t line = IsBegunPrecedence n before × NextIsNoNumber t line
+PrecedenceStops n code.JobOrder before t line =
+    ((job : ℕ) × IsAtJob n before job × NextIs t line (λ m. m ≢ job))
+    ⊎ ((listed : List ℕ) × IsAtSuccessor n before listed × NextIs t line (λ m. (m < 1) ⊎ (n < m)))
+PrecedenceStops n code.Modes before t line = IsAtModes n before × NextIs t line (λ m. m ≢ 1)
+PrecedenceStops n code.Count before t line =
+    (IsBegunPrecedence n before × EndsAt t line) ⊎ (IsWholePrecedence n before × GoesOnAt t line)
+PrecedenceStops n code.Double before t line =
+    (listed : List ℕ) × IsAtSuccessor n before listed
+    × NextIs t line (λ m. is_among listed m ≡ true)
+PrecedenceStops n _ before t line = ⊥
 
--- one of the three sections stops
+-- The same for the requests section of n jobs and k resources. A number beyond its limit is a need
+-- or a duration above 10,000, or a duration with which they add up to more than 1,000,000.
+abbrev pub RequestsStop : ℕ → ℕ → FileCode → List ℕ → Stream → ℕ → Type 0
+RequestsStop n k code.BadNumber before t line = AreBegunRequests n k before × NextIsNoNumber t line
+RequestsStop n k code.JobOrder before t line =
+    (job : ℕ) × IsAtRequest n k before job × NextIs t line (λ m. m ≢ job)
+RequestsStop n k code.Modes before t line = IsAtMode n k before × NextIs t line (λ m. m ≢ 1)
+RequestsStop n k code.Count before t line =
+    (AreBegunRequests n k before × EndsAt t line) ⊎ (AreWholeRequests n k before × GoesOnAt t line)
+RequestsStop n k code.Limit before t line =
+    ((durations : List ℕ) × IsAtDuration n k before durations
+    × NextIs t line (λ m. (greatest < m) ⊎ (greatest_total < sum durations + m)))
+    ⊎ (IsAtNeed n k before × NextIs t line (λ m. greatest < m))
+RequestsStop n k _ before t line = ⊥
+
+-- the same for the availabilities of k resources
+abbrev pub AvailabilitiesStop : ℕ → FileCode → List ℕ → Stream → ℕ → Type 0
+AvailabilitiesStop k code.BadNumber before t line = AreFirstAmounts k before × NextIsNoNumber t line
+AvailabilitiesStop k code.Count before t line =
+    (AreFirstAmounts k before × EndsAt t line) ⊎ (IsNeeds k before × GoesOnAt t line)
+AvailabilitiesStop k code.Limit before t line =
+    AreFirstAmounts k before × NextIs t line (λ m. greatest < m)
+AvailabilitiesStop k _ before t line = ⊥
+
+-- a section stops behind some of its numbers
+abbrev pub StopsIn : (FileCode → List ℕ → Stream → ℕ → Type 0) → Stream → FileCode → ℕ → Type 0
+StopsIn Stops s c line = (before : List ℕ) × (t : Stream) × BeginsWith s before t
+    × Stops c before t line
+
+-- the section of a title stops
+abbrev pub SectionStops : List ℕ → List ℕ → (FileCode → List ℕ → Stream → ℕ → Type 0) → FileCode
+    → ℕ → Type 0
+SectionStops text title Stops c line =
+    (s : Stream) × (section title (kept_lines text) ≡ Some s) × StopsIn Stops s c line
+
+-- one of the three sections stops, for the number of jobs and the number of resources in the head
 abbrev pub ASectionStops : List ℕ → FileCode → ℕ → Type 0
-ASectionStops text c line = (title : List ℕ) × IsSectionTitle title
-    × (s : Stream) × (section title (kept_lines text) ≡ Some s) × StopsIn s c line
+ASectionStops text c line = (n : ℕ) × (k : ℕ) × HasValue text (codes "jobs") n
+    × HasValue text (codes "- renewable") k
+    × (SectionStops text precedence_title (PrecedenceStops n) c line
+    ⊎ SectionStops text requests_title (RequestsStop n k) c line
+    ⊎ SectionStops text availabilities_title (AvailabilitiesStop k) c line)
 
--- what an error says of the whole text or of its head: of a text that is read, none of this is true
+-- what an error says of the whole text or of its head
 abbrev pub IsWrong : FileCode → List ℕ → ℕ → Type 0
 IsWrong code.TooLong text line = (longest_text < length text) × (line ≡ 0)
 IsWrong code.NotText text line = HasZeroByte text line
@@ -114,6 +157,7 @@ Shows c text line = IsWrong c text line ⊎ ASectionStops text c line
 unfoldable pub ErrorsShow : Type 0
 ErrorsShow = (text : List ℕ) (f : Fault) → document text ≡ Err f → Shows f.code text f.line
 
--- nothing is wrong with the whole of a text that is read, or with its head
+-- nothing of this is true of a text that is read
 unfoldable pub ReadTextsAreRight : Type 0
-ReadTextsAreRight = (text : List ℕ) (d : Document) (c : FileCode) (line : ℕ) → document text ≡ Ok d → IsWrong c text line → ⊥
+ReadTextsAreRight = (text : List ℕ) (d : Document) (c : FileCode) (line : ℕ)
+    → document text ≡ Ok d → Shows c text line → ⊥

@@ -10,8 +10,9 @@ pub mod Head
 pub mod Precedence
 pub mod Requests
 pub mod Document
-pub mod Causes
 pub mod Says
+pub mod Places
+pub mod Causes
 pub mod Project
 pub use Rattle.plan_net.specs.Network
 pub use Rattle.plan_net.specs.Limits
