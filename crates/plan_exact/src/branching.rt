@@ -1,7 +1,7 @@
 //! Trait of the trees that [`search`](crate::search) explores.
 
 ghost use Rattle.std.specs.Prelude.{◌≡◌, ℕ, ◌+◌, ◌<◌, List, [], ◌∷◌, ◌++◌, length, Contains, OnOk};
-ghost use Rattle.std.specs.Prelude.{OnErr, IsTrue};
+ghost use Rattle.std.specs.Prelude.{OnErr, IsTrue, nat_lt};
 ghost use Rattle.plan_exact.specs.Words.{WordTree};
 ghost use Rattle.plan_exact.specs.Laws.{LettersRise, WordsAreFinite, BoundHolds};
 
@@ -51,6 +51,13 @@ pub trait Branching {
     /// Returns the lower bound of the word, in whole time units.
     fn bound(&self) -> u64
         ensures { result ≡ (tree self.now).bound (word self.now) };
+
+    /// Tests whether the lower bound of the word is below a limit, in whole time units.
+    fn is_open(&self, limit: u64) -> bool
+        ensures { result ≡ nat_lt ((tree self.now).bound (word self.now)) limit }
+    {
+        self.bound() < limit
+    }
 
     /// Tests whether the word is full.
     fn full(&self) -> bool

@@ -78,6 +78,11 @@ impl<'a> Branching for CountedTree<'a> {
     }
 
     #[tactic(auto, unfolding(crate::specs::ShopTrees::tree_of))]
+    fn is_open(&self, limit: u64) -> bool {
+        self.tree.is_open(limit)
+    }
+
+    #[tactic(auto, unfolding(crate::specs::ShopTrees::tree_of))]
     fn full(&self) -> bool {
         self.tree.full()
     }

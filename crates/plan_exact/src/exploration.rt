@@ -92,7 +92,7 @@ fn explore<B: Branching>(tree: &mut B, progress: &mut Progress) -> Result<(), Al
         ≡ explored_from (B.tree tree.old) (B.word tree.old) (standing_of progress.old)) }
 {
     tree.known();
-    let open = tree.bound() < progress.value;
+    let open = tree.is_open(progress.value);
     visit(tree, progress)?;
     if open {
         explore_children(tree, progress)?;

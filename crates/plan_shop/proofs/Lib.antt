@@ -19,6 +19,7 @@ pub mod ShopBound
 pub mod Earlier
 pub mod WordsReach
 pub mod CompetitorLemmas
+mod BeforeLemmas
 mod ChoiceLemmas
 mod RuleLemmas
 mod CheckLemmas

@@ -1,6 +1,6 @@
 //! Lower bound of a word.
 
-ghost use Rattle.std.specs.Prelude.{◌≡◌, ◌+◌, ◌*◌, ◌<◌, suc, cond, nat_eq};
+ghost use Rattle.std.specs.Prelude.{◌≡◌, ◌+◌, ◌*◌, ◌<◌, suc, cond, nat_eq, nat_lt};
 ghost use Rattle.plan_sgs.specs.Problem.{greatest_below};
 ghost use Rattle.plan_shop.specs.Bound as bounds;
 ghost use Rattle.plan_shop.specs.Trees as spec;
@@ -67,15 +67,20 @@ impl<'a> ShopTree<'a> {
         }
     }
 
-    // Adds the pending steps of all jobs to their machines.
-    fn gather_all(&self, pending: &mut Pending)
-        requires { spec.IsGathered self.now 0 pending.old }
+    // Returns the pending steps of all jobs.
+    fn gather_all(&self) -> Pending
         ensures { spec.IsGathered self.now
-            (self.now.shop.jobs * self.now.shop.machines) pending.new }
+            (self.now.shop.jobs * self.now.shop.machines) result }
     {
+        let mut pending = Pending {
+            heads: [FAR; MOST_MACHINES],
+            times: [0; MOST_MACHINES],
+            tails: [FAR; MOST_MACHINES],
+        };
         for job in 0..self.shop.jobs() {
-            self.gather(job, pending);
+            self.gather(job, &mut pending);
         }
+        pending
     }
 
     // Returns the greatest bound of a job.
@@ -99,12 +104,7 @@ impl<'a> ShopTree<'a> {
         ensures { result ≡ bounds.bound_of self.now.shop (spec.placed self.now) }
     {
         let machines = self.shop.machines();
-        let mut pending = Pending {
-            heads: [FAR; MOST_MACHINES],
-            times: [0; MOST_MACHINES],
-            tails: [FAR; MOST_MACHINES],
-        };
-        self.gather_all(&mut pending);
+        let pending = self.gather_all();
         let mut greatest: u64 = self.greatest_job_bound();
         for machine in 0..machines {
             let m = machine as usize;
@@ -115,5 +115,52 @@ impl<'a> ShopTree<'a> {
             ));
         }
         greatest
+    }
+
+    // Tests whether the bound of each job is below a limit.
+    fn jobs_end_before(&self, limit: u64) -> bool
+        requires { 0 < limit }
+        ensures { result ≡ nat_lt (greatest_below self.now.shop.jobs
+            (bounds.job_bound self.now.shop (spec.placed self.now))) limit }
+    {
+        for job in 0..self.shop.jobs() {
+            if self.job_bound(job) >= limit {
+                return false;
+            }
+        }
+        true
+    }
+
+    // Tests whether the bound of each machine is below a limit.
+    fn machines_end_before(&self, limit: u64) -> bool
+        requires { 0 < limit }
+        ensures { result ≡ nat_lt (greatest_below self.now.shop.machines (λ m.
+            bounds.bound_of_pending self.now.shop (spec.placed self.now)
+            (bounds.pending self.now.shop (spec.placed self.now) m))) limit }
+    {
+        let pending = self.gather_all();
+        for machine in 0..self.shop.machines() {
+            let m = machine as usize;
+            let bound = machine_bound(pending.heads[m], pending.times[m], pending.tails[m]);
+            if bound >= limit {
+                return false;
+            }
+        }
+        true
+    }
+
+    /// Tests whether the lower bound of the word is below a limit, in whole time units. Stops at
+    /// the first job or machine whose bound isn't.
+    pub fn is_open(&self, limit: u64) -> bool
+        ensures { result
+            ≡ nat_lt (bounds.bound_of self.now.shop (spec.placed self.now)) limit }
+    {
+        if limit == 0 {
+            return false;
+        }
+        if !self.jobs_end_before(limit) {
+            return false;
+        }
+        self.machines_end_before(limit)
     }
 }

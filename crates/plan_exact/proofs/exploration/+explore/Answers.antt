@@ -1,4 +1,5 @@
-use Rattle.std.proofs.Common.{◌<◌, rules, arith}
+use Rattle.std.proofs.Common.{◌<◌, ◌∙◌, sym, rules}
+use Rattle.std.proofs.lemmas.Bool.{ltb-true}
 use Rattle.plan_exact.specs.Explored.{standing_of}
 use Rattle.plan_exact.proofs.StepLemmas.{explored_step, pushed}
 use Rattle.plan_exact.proofs.exploration.+explore.Goals as goal
@@ -8,7 +9,7 @@ pub explore-returns-in_ok-explore_children-clause-ok :
 explore-returns-in_ok-explore_children-clause-ok g t c =
     let tree = g.B.Branching.tree c.args.tree.now in
     let word = g.B.Branching.word c.args.tree.now in
-    let under : tree.bound word < c.args.progress.now.value = omega (arith, c.bound.ensures, c.if-open.true) in
+    let under : tree.bound word < c.args.progress.now.value = ltb-true (tree.bound word) c.args.progress.now.value (sym c.is_open-open.ensures ∙ c.if-open.true) in
     explored_step tree (g.met.B.Branching.words_are_finite c.args.tree.now c.known.ensures) word c.requires.word
     (standing_of c.args.progress.now) (standing_of c.visit.new.progress) (standing_of c.explore_children.new.progress)
     c.requires.left under c.in_ok-visit.ensures.ok c.in_ok-explore_children.ensures.ok
