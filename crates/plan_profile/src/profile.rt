@@ -6,7 +6,7 @@ ghost use Rattle.plan_profile.specs.Steps.{lists, amount, AreRows, IsSteps, AreC
 ghost use Rattle.plan_profile.specs.declared.profile.TheConstants.{END};
 
 use crate::row::{has_room, row_is_within, zeros};
-use crate::rows::{copy_with_room, row};
+use crate::rows::{copy_with_room, refill, row};
 use crate::steps::{place_between, segment};
 use std::alloc::{AllocError, Global};
 
@@ -16,8 +16,8 @@ pub const END: u64 = 10_000_000;
 /// The amount of each resource in use at each instant, with the constant capacities of the
 /// resources (the resource profiles of Kolisch and Hartmann 1999). Resources are numbered from 1;
 /// instants are whole time units from 0 on. The cost of a call depends on the number of changes of
-/// usage, not on the length of an interval. Only `new`, `place` and `copy` allocate; their only
-/// error is out of memory.
+/// usage, not on the length of an interval. Only `new`, `place`, `copy` and `copy_into` allocate;
+/// their only error is out of memory.
 #[derive(Debug, Drop)]
 pub struct Profile {
     caps: Vec<u64>,
@@ -172,6 +172,27 @@ impl Profile {
         let caps = Vec::from_slice(alloc, &self.caps)?;
         let changes = copy_with_room(alloc, &self.changes, 2)?;
         let rows = copy_with_room(alloc, &self.rows, 2 * self.caps.len())?;
+        Ok(Profile {
+            caps,
+            changes,
+            rows,
+        })
+    }
+
+    /// Returns a copy as [`Profile::copy`] does, in the memory of a profile that is no longer
+    /// needed. Allocates only if that memory doesn't suffice.
+    pub fn copy_into(&self, spare: Profile) -> Result<Profile, AllocError>
+        ensures caps { IfOk result (λ p. capacities p ≡ capacities self.now) }
+        ensures same { IfOk result (λ p. in_use p ≡ in_use self.now) }
+    {
+        let Profile {
+            mut caps,
+            mut changes,
+            mut rows,
+        } = spare;
+        refill(&mut caps, &self.caps)?;
+        refill(&mut changes, &self.changes)?;
+        refill(&mut rows, &self.rows)?;
         Ok(Profile {
             caps,
             changes,

@@ -1,6 +1,6 @@
 //! Rows of amounts, one after another in one list. Each row contains an amount for each resource.
 ghost use Rattle.std.specs.Prelude.{◌≡◌, ℕ, ◌+◌, ◌*◌, ◌^◌, ◌≤◌, ◌<◌, ◌++◌, length, take, drop};
-ghost use Rattle.std.specs.Prelude.{vec_len, vec_capacity, IfOk};
+ghost use Rattle.std.specs.Prelude.{vec_len, vec_capacity, IfOk, OnOk};
 ghost use Rattle.plan_profile.specs.Steps.{row_at};
 ghost use Rattle.plan_profile.specs.Changes.{AreRaised, HaveSums};
 
@@ -28,6 +28,14 @@ pub(crate) fn copy_with_room(
     let mut copy = Vec::with_capacity(alloc, items.len() + more)?;
     copy.extend_from_slice(items)?;
     Ok(copy)
+}
+
+// Replaces the numbers of a list by others.
+pub(crate) fn refill(items: &mut Vec<u64>, from: &[u64]) -> Result<(), AllocError>
+    ensures { OnOk result (items.new.items ≡ from.now) }
+{
+    items.clear();
+    items.extend_from_slice(from)
 }
 
 // Inserts a copy of a row after it. The spare capacity must suffice.

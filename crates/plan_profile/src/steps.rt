@@ -28,8 +28,9 @@ fn insert_reserved(items: &mut Vec<u64>, i: usize, item: u64)
     let _ = items.insert(i, item);
 }
 
-// Inserts an instant into the changes unless it is one of them. The amounts stay the same.
-fn cut(changes: &mut Vec<u64>, rows: &mut Vec<u64>, width: usize, at: u64)
+// Inserts an instant into the changes unless it is one of them. The amounts stay the same. Returns
+// the index of the row in force at the instant.
+fn cut(changes: &mut Vec<u64>, rows: &mut Vec<u64>, width: usize, at: u64) -> usize
     requires whole { AreRows width changes.old.items rows.old.items }
     requires steps { IsSteps changes.old.items (lists width changes.old.items rows.old.items) }
     requires room { vec_len changes.old < vec_capacity changes.old }
@@ -37,6 +38,9 @@ fn cut(changes: &mut Vec<u64>, rows: &mut Vec<u64>, width: usize, at: u64)
     ensures whole { AreRows width changes.new.items rows.new.items }
     ensures cut { IsCut changes.old.items (lists width changes.old.items rows.old.items) at
         changes.new.items (lists width changes.new.items rows.new.items) }
+    ensures place { result ≡ changes_until changes.new.items at }
+    ensures before { (t : ℕ) → t < at
+        → changes_until changes.new.items t ≡ changes_until changes.old.items t }
     ensures len { vec_len changes.new ≤ vec_len changes.old + 1 }
     ensures rows_len { vec_len rows.new ≤ vec_len rows.old + width }
     ensures capacity { vec_capacity changes.old ≤ vec_capacity changes.new }
@@ -44,10 +48,11 @@ fn cut(changes: &mut Vec<u64>, rows: &mut Vec<u64>, width: usize, at: u64)
 {
     let i = segment(changes, at);
     if i > 0 && changes[i - 1] == at {
-        return;
+        return i;
     }
     insert_reserved(changes, i, at);
     repeat_row(rows, width, i);
+    i + 1
 }
 
 // Removes an instant from the changes if no amount changes there.
@@ -92,10 +97,8 @@ pub(crate) fn place_between(
     let width = needs.len();
     changes.reserve(2)?;
     rows.reserve(2 * width)?;
-    cut(changes, rows, width, start);
-    cut(changes, rows, width, end);
-    let from = segment(changes, start);
-    let to = segment(changes, end);
+    let from = cut(changes, rows, width, start);
+    let to = cut(changes, rows, width, end);
     raise(rows, from, to, needs);
     merge(changes, rows, width, end);
     merge(changes, rows, width, start);

@@ -3,7 +3,7 @@ use Rattle.std.proofs.Common.{◌≢◌, ◌-◌, ◌≤◌, ◌<◌, length, ge
 use Rattle.std.specs.Prelude.{insert}
 use Rattle.std.proofs.lemmas.List.{get_or_default}
 use Rattle.std.proofs.lemmas.List.Edits.{length-insert}
-use Rattle.plan_profile.proofs.SegmentLemmas.{until_within}
+use Rattle.plan_profile.proofs.SegmentLemmas.{until_within, until_insert, come_yes, come_no}
 use Rattle.plan_profile.specs.Steps.{row_at, lists}
 use Rattle.plan_profile.proofs.CutLemmas.{cut_new}
 use Rattle.plan_profile.proofs.FlatLemmas.{length_lists, list_at, lists_repeated, whole_repeated}
@@ -44,3 +44,16 @@ returns-clause-cut c =
     c.requires.steps is (omega arith) (list_at c.args.width c.args.changes.now.items c.args.rows.now.items c.segment-i.result inside) in
     rw (c.insert_reserved.ensures.items, c.repeat_row.ensures.items, rows)
     (cut_new c.args.changes.now.items old c.args.at c.segment-i.result row c.requires.steps copy is new)
+
+pub returns-clause-place : goal.returns-clause-place
+returns-clause-place c =
+    let is = rw c.deref.ensures.value at c.segment-i.ensures in
+    let more = until_insert c.args.changes.now.items c.segment-i.result c.args.at c.args.at in
+    let one = come_yes c.args.at c.args.at (omega arith) in
+    rw c.insert_reserved.ensures.items (omega arith)
+
+pub returns-clause-before : goal.returns-clause-before
+returns-clause-before c t below =
+    let more = until_insert c.args.changes.now.items c.segment-i.result c.args.at t in
+    let none = come_no t c.args.at below in
+    rw c.insert_reserved.ensures.items (omega arith)
