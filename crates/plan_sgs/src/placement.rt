@@ -3,6 +3,7 @@
 ghost use Rattle.std.specs.Prelude.{◌≡◌, ◌+◌, ◌-◌, ◌≤◌, length, get_or, set, map, None, Some};
 ghost use Rattle.std.specs.Prelude.{IfOk, OnOk};
 ghost use Rattle.plan_net.specs.Network.{IsActivity};
+ghost use Rattle.plan_profile.specs.InUse.{capacities, in_use};
 ghost use Rattle.plan_profile.specs.Usage.{IsInTime};
 ghost use Rattle.plan_sgs.specs.Problem as problem;
 ghost use Rattle.plan_sgs.specs.Serial as spec;
@@ -85,10 +86,23 @@ fn place_next(
     Ok(())
 }
 
-// Returns the profile of all placed activities, made from that of all but the last placed one.
+// Returns a copy of a profile, in the memory of a spare one if there is one.
+fn copy_of(profile: &Profile, spare: Option<Profile>) -> Result<Profile, AllocError>
+    ensures caps { IfOk result (λ p. capacities p ≡ capacities profile.now) }
+    ensures same { IfOk result (λ p. in_use p ≡ in_use profile.now) }
+{
+    match spare {
+        Some(spare) => profile.copy_into(spare),
+        None => profile.copy(),
+    }
+}
+
+// Returns the profile of all placed activities, made from that of all but the last placed one, in
+// the memory of a spare profile if there is one.
 pub(crate) fn profile_with(
     instance: &Instance,
     profile: &Profile,
+    spare: Option<Profile>,
     placed: &[Option<u64>],
     j: u32,
 ) -> Result<Profile, AllocError>
@@ -104,7 +118,7 @@ pub(crate) fn profile_with(
     };
     let needs = instance.needs(j);
     let duration = instance.network().duration(j);
-    let mut made = profile.copy()?;
+    let mut made = copy_of(profile, spare)?;
     made.place(start, duration, needs)?;
     Ok(made)
 }

@@ -1,6 +1,6 @@
 //! Tree of a project's words.
 
-ghost use Rattle.std.specs.Prelude.{◌≡◌, ◌+◌, ◌-◌, length, Contains, IfOk, OnOk};
+ghost use Rattle.std.specs.Prelude.{◌≡◌, ◌+◌, ◌-◌, length, take, Contains, IfOk, OnOk};
 ghost use Rattle.plan_profile.specs.Usage.{IsInTime};
 ghost use Rattle.plan_sgs.specs.Instances.{IsInstance, problem_of};
 ghost use Rattle.plan_sgs.specs.Serial.{earliest};
@@ -34,7 +34,8 @@ struct Turn {
 /// placed. The full words are the activity lists.
 ///
 /// The profile of a word is computed from that of the shorter word when a letter is first pushed
-/// after it, and a pop drops it. A word at which a search turns back needs no profile.
+/// after it. A word at which a search turns back needs no profile. A pop sets the profile aside, so
+/// that the next one is made in its memory.
 #[derive(Drop)]
 pub struct ProjectTree<'a> {
     instance: &'a Instance<'a>,
@@ -43,6 +44,7 @@ pub struct ProjectTree<'a> {
     placed: Vec<Option<u64>>,
     waits: Vec<usize>,
     profiles: Vec<Profile>,
+    spare: Vec<Profile>,
     turns: Vec<Turn>,
 }
 
@@ -61,6 +63,7 @@ impl<'a> Model for ProjectTree<'a> {
 fn start_of(
     instance: &Instance,
     profiles: &mut Vec<Profile>,
+    spare: &mut Vec<Profile>,
     placed: &[Option<u64>],
     turns: &[Turn],
     activity: u32,
@@ -79,10 +82,28 @@ fn start_of(
 {
     let at = turns.len();
     if profiles.len() == at {
-        let made = profile_with(instance, &profiles[at - 1], placed, turns[at - 1].letter)?;
+        let made = profile_with(
+            instance,
+            &profiles[at - 1],
+            spare.pop(),
+            placed,
+            turns[at - 1].letter,
+        )?;
         profiles.push(made)?;
     }
     Ok(earliest_start(instance, &profiles[at], placed, activity))
+}
+
+// Removes the profiles from an index on, and sets the last one aside if there is memory for it.
+fn set_aside(profiles: &mut Vec<Profile>, spare: &mut Vec<Profile>, count: usize)
+    ensures { profiles.new.items ≡ take count profiles.old.items }
+{
+    if profiles.len() > count {
+        if let Some(profile) = profiles.pop() {
+            let _ = spare.push(profile);
+        }
+    }
+    profiles.truncate(count);
 }
 
 impl<'a> ProjectTree<'a> {
@@ -106,6 +127,7 @@ impl<'a> ProjectTree<'a> {
         profiles.push(Profile::new(alloc, caps)?)?;
         let placed = vec![in alloc; None; instance.network().len()]?;
         let waits = first_waits(alloc, instance.network())?;
+        let spare = Vec::with_capacity(alloc, instance.network().len())?;
         let turns = Vec::with_capacity(alloc, instance.network().len())?;
         Ok(ProjectTree {
             instance,
@@ -114,6 +136,7 @@ impl<'a> ProjectTree<'a> {
             placed,
             waits,
             profiles,
+            spare,
             turns,
         })
     }
@@ -151,6 +174,7 @@ impl<'a> ProjectTree<'a> {
         let start = start_of(
             self.instance,
             &mut self.profiles,
+            &mut self.spare,
             &self.placed,
             &self.turns,
             activity,
@@ -177,7 +201,7 @@ impl<'a> ProjectTree<'a> {
         let Some(turn) = self.turns.pop() else {
             return;
         };
-        self.profiles.truncate(self.turns.len() + 1);
+        set_aside(&mut self.profiles, &mut self.spare, self.turns.len() + 1);
         self.placed[turn.letter as usize - 1] = None;
         raise_each(self.instance.network(), turn.letter, &mut self.waits);
     }

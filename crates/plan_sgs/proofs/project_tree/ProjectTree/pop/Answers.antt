@@ -31,9 +31,9 @@ raise_each-requires-clause-limit c k within =
     )
 
 pub invariant_of-self-2 : goal.invariant_of-self-2
-invariant_of-self-2 c = tree_pop _ _ _ _ _ c.truncate.new.self.items c.pop.new.self.items _ c.in-Some.turn _
+invariant_of-self-2 c = tree_pop _ _ _ _ _ c.set_aside.new.profiles.items c.pop.new.self.items _ c.in-Some.turn _
     c.self.inside.waits.items c.raise_each.new.waits.items c.self.invariant c.in-Some.ensures.items
-    (omega (arith, c.len.ensures, c.pop.new.self.ok.0)) c.truncate.ensures.items
+    (omega (arith, c.len.ensures, c.pop.new.self.ok.0)) c.set_aside.ensures
     (subst (λ (n : Net). Lowers n c.in-Some.turn.letter c.raise_each.new.waits.items c.self.inside.waits.items) c.network.ensures.network c.raise_each.ensures)
 
 pub returns-clause-word : goal.returns-clause-word
