@@ -98,18 +98,6 @@ gathered-none t pending small is = record {
   few = λ m below. omega (arith, ap (λ (p : Pending). slice_index p.times m) is ∙ get_or-replicate {A = ℕ} 20 m 0 0 (omega (arith, below, small.few_machines)));
 }
 
-pub gathered-first : (t : Standing) (pending : Pending) → IsSmallShop t.shop →
-    pending ≡ record {
-      heads = replicate 20 1000000000;
-      times = replicate 20 0;
-      tails =
-          replicate 20 1000000000;
-    } → IsGathered t (0 * t.shop.machines) pending
-gathered-first t pending small is =
-    let Q : ℕ → Type 0 = λ n. IsGathered t n pending in
-    let none : 0 ≡ 0 * t.shop.machines = omega arith in
-    subst Q none (gathered-none t pending small is)
-
 -- a step that is placed, or has time 0
 pub gathered-skips : (t : Standing) (x : ℕ) (pending : Pending) → IsGathered t x pending → ((m : ℕ) → is_pending t m x ≡ false) → IsGathered t (suc x) pending
 gathered-skips t x pending g none = record {

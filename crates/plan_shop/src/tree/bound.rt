@@ -67,20 +67,15 @@ impl<'a> ShopTree<'a> {
         }
     }
 
-    // Returns the pending steps of all jobs.
-    fn gather_all(&self) -> Pending
+    // Adds the pending steps of all jobs to their machines.
+    fn gather_all(&self, pending: &mut Pending)
+        requires { spec.IsGathered self.now 0 pending.old }
         ensures { spec.IsGathered self.now
-            (self.now.shop.jobs * self.now.shop.machines) result }
+            (self.now.shop.jobs * self.now.shop.machines) pending.new }
     {
-        let mut pending = Pending {
-            heads: [FAR; MOST_MACHINES],
-            times: [0; MOST_MACHINES],
-            tails: [FAR; MOST_MACHINES],
-        };
         for job in 0..self.shop.jobs() {
-            self.gather(job, &mut pending);
+            self.gather(job, pending);
         }
-        pending
     }
 
     // Returns the greatest bound of a job.
@@ -104,7 +99,12 @@ impl<'a> ShopTree<'a> {
         ensures { result ≡ bounds.bound_of self.now.shop (spec.placed self.now) }
     {
         let machines = self.shop.machines();
-        let pending = self.gather_all();
+        let mut pending = Pending {
+            heads: [FAR; MOST_MACHINES],
+            times: [0; MOST_MACHINES],
+            tails: [FAR; MOST_MACHINES],
+        };
+        self.gather_all(&mut pending);
         let mut greatest: u64 = self.greatest_job_bound();
         for machine in 0..machines {
             let m = machine as usize;
@@ -138,8 +138,14 @@ impl<'a> ShopTree<'a> {
             bounds.bound_of_pending self.now.shop (spec.placed self.now)
             (bounds.pending self.now.shop (spec.placed self.now) m))) limit }
     {
-        let pending = self.gather_all();
-        for machine in 0..self.shop.machines() {
+        let machines = self.shop.machines();
+        let mut pending = Pending {
+            heads: [FAR; MOST_MACHINES],
+            times: [0; MOST_MACHINES],
+            tails: [FAR; MOST_MACHINES],
+        };
+        self.gather_all(&mut pending);
+        for machine in 0..machines {
             let m = machine as usize;
             let bound = machine_bound(pending.heads[m], pending.times[m], pending.tails[m]);
             if bound >= limit {
