@@ -10,7 +10,7 @@ ghost use Rattle.plan_net.specs.Refusals.{IsFirstFault, IsLagFault, NamesCycle};
 use super::checks::{first_bad_arc, first_bad_duration};
 use super::fault::NetFault;
 use super::limits::{FEWEST_ACTIVITIES, LONGEST_DURATION, LONGEST_LAG, MOST_ACTIVITIES};
-use super::rows::{arcs_of_rows, rows_by_end, turned};
+use super::rows::{arcs_of_rows, rising_rows, rows_by_end, turned};
 use super::tables::{first_double_arc, no_lags, no_marks, place_in};
 use std::alloc::{AllocError, Global};
 use std::marker::Model;
@@ -93,18 +93,18 @@ impl Arcs {
     pub fn of_rows(
         alloc: Global,
         durations: Vec<u64>,
-        rows: &[Vec<u32>],
+        rows: Vec<Vec<u32>>,
     ) -> Result<Self, AllocError>
         requires size { HasGoodSize (unlagged durations.items []) }
         requires durations { HasGoodDurations (unlagged durations.items []) }
-        requires rows { AreRows (length durations.items) (rows_in rows.now) }
+        requires rows { AreRows (length durations.items) (rows_in rows.items) }
         ensures made { IfOk result (λ made. made ≡ unlagged durations.items
-            (arcs_of_rows 1 (rows_in rows.now))) }
+            (arcs_of_rows 1 (rows_in rows.items))) }
         ensures limits { IfOk result IsWithinLimits }
     {
-        let arcs = arcs_of_rows(alloc, rows)?;
-        let preds = turned(alloc, rows)?;
-        let succs = turned(alloc, &preds)?;
+        let arcs = arcs_of_rows(alloc, &rows)?;
+        let preds = turned(alloc, &rows)?;
+        let succs = rising_rows(alloc, rows, &preds)?;
         let lags = no_lags(alloc, &preds)?;
         Ok(Arcs {
             durations,

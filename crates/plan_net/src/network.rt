@@ -76,16 +76,20 @@ impl Network {
     ///
     /// The caller must keep the limits, so the only errors are [`NetFault::Cycle`] and
     /// [`NetFault::NoMemory`].
-    pub fn of_rows(alloc: Global, durations: Vec<u64>, rows: &[Vec<u32>]) -> Result<Self, NetFault>
+    pub fn of_rows(
+        alloc: Global,
+        durations: Vec<u64>,
+        rows: Vec<Vec<u32>>,
+    ) -> Result<Self, NetFault>
         requires size { HasGoodSize (unlagged durations.items []) }
         requires durations { HasGoodDurations (unlagged durations.items []) }
-        requires rows { AreRows (length durations.items) (rows_in rows.now) }
+        requires rows { AreRows (length durations.items) (rows_in rows.items) }
         ensures accepted { IfOk result (λ net.
-            (net ≡ unlagged durations.items (arcs_of_rows 1 (rows_in rows.now))) × IsSound net) }
+            (net ≡ unlagged durations.items (arcs_of_rows 1 (rows_in rows.items))) × IsSound net) }
         ensures refused { IfErr result (IsFirstFault
-            (unlagged durations.items (arcs_of_rows 1 (rows_in rows.now)))) }
+            (unlagged durations.items (arcs_of_rows 1 (rows_in rows.items)))) }
         ensures cycle { IfErr result (NamesCycle
-            (unlagged durations.items (arcs_of_rows 1 (rows_in rows.now)))) }
+            (unlagged durations.items (arcs_of_rows 1 (rows_in rows.items)))) }
         ensures only { IfErr result IsCycleOrMemory }
     {
         let arcs = Arcs::of_rows(alloc, durations, rows)?;

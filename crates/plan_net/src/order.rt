@@ -56,7 +56,11 @@ fn next_from(arcs: &Arcs, j: u32, placed: &[bool]) -> u32
     ensures below { IsStuckBelow arcs.now placed.now result }
 {
     for &k in arcs.succs(j) {
-        if k < j && open_pred(arcs, k, placed).is_none() {
+        // so are all successors after it
+        if k >= j {
+            return j + 1;
+        }
+        if open_pred(arcs, k, placed).is_none() {
             return k;
         }
     }

@@ -60,7 +60,7 @@ kept_piece [] pieces l = absurd (omega (arith, l))
 kept_piece (byte ∷ piece) pieces l = refl
 
 -- the words after a blank
-words-blank : (byte : ℕ) (text : List ℕ) → is_blank byte ≡ true → words (byte ∷ text) ≡ words text
+pub words-blank : (byte : ℕ) (text : List ℕ) → is_blank byte ≡ true → words (byte ∷ text) ≡ words text
 words-blank byte text e = ap (filter is_nonempty) (slice_split-cons_yes is_blank byte text e)
 
 -- blanks in front of the first word don't matter

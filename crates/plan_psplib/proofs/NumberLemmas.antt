@@ -1,5 +1,5 @@
 -- Numbers by the digits at the front of a text.
-use Rattle.std.proofs.Common.{◌≡◌, ◌<◌, ◌≤◌, ◌||◌, ◌&&◌, ◌⊎◌, inl, inr, ℕ, Bool, true, false, List, [], ◌∷◌, ◌++◌, Ok, Option, Some, None, nat_eq, length, take, drop, get_or, sym, ap, ◌∙◌, arith, cond}
+use Rattle.std.proofs.Common.{◌≡◌, ◌<◌, ◌≤◌, ◌||◌, ◌&&◌, ◌⊎◌, ◌+◌, inl, inr, ℕ, zero, suc, Bool, true, false, List, [], ◌∷◌, ◌++◌, Ok, Option, Some, None, nat_eq, length, take, drop, get_or, sym, ap, ◌∙◌, subst, arith, cond}
 use Rattle.std.proofs.lemmas.Bool.{lt-ltb, le-ltb, leb-true, ne_eqb, cases_lt, cases_Bool, false≢true, false_from_ne_true}
 use Rattle.std.proofs.lemmas.List.{length-take-le, take_all, length-drop, get_or-take}
 use Rattle.std.proofs.lemmas.List.Folds.{list_all_at}
@@ -10,7 +10,7 @@ use Rattle.plan_psplib.specs.Lines.{is_blank, trim_start, words}
 use Rattle.plan_psplib.specs.Streams.{LineWord, words_at}
 use Rattle.plan_psplib.specs.Tokens.{number_at, as_number, number_of_words}
 use Rattle.plan_psplib.specs.Numbers.{is_digit, is_number, decimal, number, BeginsWithNumber}
-use Rattle.plan_psplib.proofs.CutLemmas.{words-Some, words-None, no_words, words-trim_start, trim_start-trim_start}
+use Rattle.plan_psplib.proofs.CutLemmas.{words-Some, words-None, words-blank, no_words, words-trim_start, trim_start-trim_start}
 use Rattle.plan_psplib.proofs.GoesLemmas.{both_true, true_both, between_true, true_between}
 
 neither : (a b : Bool) → a ≡ false → b ≡ false → (a || b) ≡ false
@@ -76,6 +76,17 @@ module _ (text : List ℕ) (n : ℕ) (trimmed : trim_start text ≡ text) (some 
         let front : take n text ≡ text = take_all n text l in
         let behind : words (drop n text) ≡ [] = no_words (drop n text) (omega (arith, size, l)) in
         one ∙ ap (λ (w : List ℕ). w ∷ []) (sym front) ∙ ap (λ (ws : List (List ℕ)). take n text ∷ ws) (sym behind)
+
+words_behind : (text : List ℕ) (n : ℕ) → n < length text → is_blank (get_or text n 0) ≡ true → words (drop (suc n) text) ≡ words (drop n text)
+words_behind [] n within blank = absurd (omega arith)
+words_behind (byte ∷ text) zero within blank = sym (words-blank byte text blank)
+words_behind (byte ∷ text) (suc n) within blank = words_behind text n (omega arith) blank
+
+-- the words behind a blank are those from the blank on
+pub words_behind_blank : (text : List ℕ) (n : ℕ) → n < length text → is_blank (get_or text n 0) ≡ true → words (drop (n + 1) text) ≡ words (drop n text)
+words_behind_blank text n within blank =
+    let next : suc n ≡ n + 1 = omega arith in
+    subst (λ (m : ℕ). words (drop m text) ≡ words (drop n text)) next (words_behind text n within blank)
 
 -- the words of a text begin with the number of its first digits
 pub digits_first : (rest text : List ℕ) (n value : ℕ) → text ≡ trim_start rest → 0 < n → n ≤ 9 → n ≤ length text → list_all is_digit (take n text) ≡ true → value ≡ decimal (take n text) → (n < length text → is_blank (get_or text n 0) ≡ true) → BeginsWithNumber (words rest) value (words (drop n text))

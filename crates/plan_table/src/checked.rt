@@ -62,6 +62,6 @@ pub fn check(alloc: Global, activities: &[Activity], resources: &[Resource]) -> 
     let jobs = all_jobs(alloc, activities, resources)?;
     let durations = durations(alloc, &jobs)?;
     let rows = rows(alloc, &jobs)?;
-    Network::of_rows(alloc, durations, &rows)?;
+    Network::of_rows(alloc, durations, rows)?;
     Ok(())
 }

@@ -8,7 +8,7 @@ ghost use Rattle.plan_psplib.specs.Sections as sections;
 ghost use Rattle.plan_psplib.specs.Head as spec;
 ghost use Rattle.plan_psplib.specs.Noted.{noted};
 
-use crate::sm::sections::Section;
+use crate::sm::sections::{Section, begins_with};
 use crate::text::{Fault, FileCode, Line, LineNumber, Lines, Words, limited, next_row, number};
 use plan_net::{FEWEST_ACTIVITIES, MOST_ACTIVITIES};
 
@@ -77,7 +77,7 @@ fn note<'a>(first: &mut Option<Line<'a>>, key: &[u8], line: Line<'a>)
         ≡ noted (sections.begins_with line.entry.text.now key.now)
         (option_map spec.numbered_line first.old) (spec.numbered_line line.entry) }
 {
-    if first.is_none() && line.text.starts_with(key) {
+    if first.is_none() && begins_with(line.text, key) {
         *first = Some(line);
     }
 }

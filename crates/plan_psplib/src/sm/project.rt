@@ -134,7 +134,7 @@ fn project_of(alloc: Global, document: Document) -> Result<ProjectDoc, FileFault
         available,
         precedence_line,
     } = document;
-    let network = Network::of_rows(alloc, requests.durations, &rows).map_err(|fault| refusal(
+    let network = Network::of_rows(alloc, requests.durations, rows).map_err(|fault| refusal(
         alloc,
         fault,
         precedence_line,

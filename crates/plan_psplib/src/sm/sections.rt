@@ -45,10 +45,22 @@ fn is_rule(line: &[u8]) -> bool
 pub fn is_title(line: &[u8]) -> bool
     ensures { result ≡ spec.is_title line.now }
 {
-    line.starts_with(b"PROJECT INFORMATION")
-        || line.starts_with(b"PRECEDENCE RELATIONS")
-        || line.starts_with(b"REQUESTS/DURATIONS")
-        || line.starts_with(b"RESOURCEAVAILABILITIES")
+    begins_with(line, b"PROJECT INFORMATION")
+        || begins_with(line, b"PRECEDENCE RELATIONS")
+        || begins_with(line, b"REQUESTS/DURATIONS")
+        || begins_with(line, b"RESOURCEAVAILABILITIES")
+}
+
+/// Tests whether a line begins with these bytes. Compares the first byte before the call that
+/// compares all, since most lines differ there.
+#[inline]
+pub fn begins_with(line: &[u8], front: &[u8]) -> bool
+    ensures { result ≡ spec.begins_with line.now front.now }
+{
+    match (line, front) {
+        ([first, ..], [wanted, ..]) if *first != *wanted => false,
+        _ => line.starts_with(front),
+    }
 }
 
 /// The results of one walk over a text: the number of its last line, and the three sections that
@@ -104,7 +116,7 @@ fn note<'a>(
     ensures { section.new ≡ noted (spec.begins_with line.entry.text.now title.now) section.old
         (spec.section_from line.entry.number (filter (λ line. spec.is_kept line.text) behind.now)) }
 {
-    if section.is_none() && line.text.starts_with(title) {
+    if section.is_none() && begins_with(line.text, title) {
         *section = Some(section_words(line.number, behind.again()));
     }
 }

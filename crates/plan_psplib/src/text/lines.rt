@@ -61,6 +61,7 @@ impl<'a> Lines<'a> {
     }
 
     /// Returns the next line, if there is one.
+    #[inline]
     pub fn next_line(&mut self) -> Option<Line<'a>>
         ensures { MatchOption result ((self.old ≡ []) × (self.new ≡ []))
             (λ line. self.old ≡ record { number = line.number; text = line.text.now } ∷ self.new) }
@@ -104,17 +105,29 @@ fn first_line_feed(text: &[u8]) -> Option<usize>
 pub fn is_blank(byte: u8) -> bool
     ensures { result ≡ spec.is_blank byte }
 {
-    matches!(byte, b'\t' | 0x0b | 0x0c | b'\r' | 0x1a | b' ')
+    byte <= b' ' && matches!(byte, b'\t' | 0x0b | 0x0c | b'\r' | 0x1a | b' ')
 }
 
 /// A text without the blanks at its ends.
 pub fn trim(text: &[u8]) -> &[u8]
     ensures { result.now ≡ spec.trim text.now }
 {
-    trim_end(trim_start(text))
+    trim_end(trim_start(after_spaces(text)))
+}
+
+// Drops spaces at the front of a text, eight at a time, while there are so many.
+fn after_spaces(text: &[u8]) -> &[u8]
+    ensures { spec.trim_start result.now ≡ spec.trim_start text.now }
+{
+    let mut left = text;
+    while let [b' ', b' ', b' ', b' ', b' ', b' ', b' ', b' ', rest @ ..] = left {
+        left = rest;
+    }
+    left
 }
 
 /// A text without the blanks at its front.
+#[inline(never)]
 pub fn trim_start(text: &[u8]) -> &[u8]
     ensures { result.now ≡ spec.trim_start text.now }
 {

@@ -1,6 +1,6 @@
 //! Lines of a text as one stream of words.
 
-ghost use Rattle.std.specs.Prelude.{◌≡◌, Bool, List, ℕ, [], ◌∷◌, Ok, MatchOption};
+ghost use Rattle.std.specs.Prelude.{◌≡◌, Bool, List, ℕ, [], ◌∷◌, ◌++◌, Ok, MatchOption};
 ghost use Rattle.plan_psplib.specs.Streams as spec;
 ghost use Rattle.plan_psplib.specs.Tokens.{number_at};
 
@@ -103,15 +103,41 @@ impl<'a, L: Layout> StreamWords<'a, L> {
         }
     }
 
-    /// Returns the next word of the current line as a number, and sets `last` to this line. If the
-    /// line has no word left or the word isn't a number, returns `None` and takes no word.
-    pub fn next_number_of_line(&mut self) -> Option<u64>
+    /// Returns the next word as a number, and sets `last` to its line. If no word is left or the
+    /// word isn't a number, returns `None` and takes no word.
+    #[inline]
+    pub fn take_number(&mut self) -> Option<u64>
         ensures { MatchOption result (self.new ≡ self.old)
             (λ n. number_at self.old ≡ Ok (record { value = n; line = self.new.last }, self.new)) }
     {
+        open_row::<L>(&mut self.line, &mut self.words, &mut self.lines);
         let value = self.words.next_number()?;
         self.last = self.line;
         Some(value)
+    }
+}
+
+// Goes to the next line that counts if the current line is at its end.
+#[inline]
+fn open_row<'a, L: Layout>(line: &mut u64, words: &mut Words<'a>, lines: &mut Lines<'a>)
+    ensures { spec.words_at line.new words.new ++ spec.words_of (spec.rows L.takes L.ends lines.new)
+        ≡ spec.words_at line.old words.old ++ spec.words_of (spec.rows L.takes L.ends lines.old) }
+{
+    if words.is_at_end() {
+        open_next::<L>(line, words, lines);
+    }
+}
+
+// Goes to the next line that counts. A call of its own, so that the usual case is short.
+#[inline(never)]
+fn open_next<'a, L: Layout>(line: &mut u64, words: &mut Words<'a>, lines: &mut Lines<'a>)
+    requires { words.old ≡ [] }
+    ensures { spec.words_at line.new words.new ++ spec.words_of (spec.rows L.takes L.ends lines.new)
+        ≡ spec.words_of (spec.rows L.takes L.ends lines.old) }
+{
+    if let Some(row) = next_row::<L>(lines) {
+        *line = row.number;
+        *words = Words::new(row.text);
     }
 }
 

@@ -18,16 +18,26 @@ pub struct LineNumber {
 
 /// Reads the next word, which must be a number. The error is `BadNumber` if it isn't one, and
 /// `Count` if no word is left.
+#[inline(always)]
 #[tactic(auto, unfolding(crate::specs::Tokens::number_at))]
 pub fn next_number<L: Layout>(words: &mut StreamWords<'_, L>) -> Result<LineNumber, Fault>
     ensures { Reads (λ n. (line_number n, words.new)) result (number_at words.old) }
 {
-    if let Some(value) = words.next_number_of_line() {
-        return Ok(LineNumber {
+    match words.take_number() {
+        Some(value) => Ok(LineNumber {
             value,
             line: words.last(),
-        });
+        }),
+        None => number_of_word(words),
     }
+}
+
+// Reads the next word as `next_number` does. A call of its own, so that the usual case is short.
+#[inline(never)]
+#[tactic(auto, unfolding(crate::specs::Tokens::number_at))]
+fn number_of_word<L: Layout>(words: &mut StreamWords<'_, L>) -> Result<LineNumber, Fault>
+    ensures { Reads (λ n. (line_number n, words.new)) result (number_at words.old) }
+{
     let Some(word) = words.next_word() else {
         return Err(Fault::new(FileCode::Count, words.last()));
     };

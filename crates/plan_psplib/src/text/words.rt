@@ -1,6 +1,6 @@
 //! Words of a line.
 
-ghost use Rattle.std.specs.Prelude.{◌≡◌, ◌<◌, [], ◌∷◌, length, MatchOption};
+ghost use Rattle.std.specs.Prelude.{◌≡◌, ◌<◌, ◌≤◌, true, [], ◌∷◌, length, drop, slice_index, IsTrue, IfSome, MatchOption};
 ghost use Rattle.std.specs.List.{position};
 ghost use Rattle.plan_psplib.specs.Lines as spec;
 ghost use Rattle.plan_psplib.specs.Numbers.{BeginsWithNumber};
@@ -32,6 +32,13 @@ impl<'a> Words<'a> {
         Words { rest: line }
     }
 
+    /// Tests whether no byte of the line is left, and so no word.
+    pub fn is_at_end(&self) -> bool
+        ensures { IsTrue result → self.now ≡ [] }
+    {
+        self.rest.is_empty()
+    }
+
     /// Returns the next word, if there is one.
     #[tactic(auto, using(crate::proofs::CutLemmas::word_starts))]
     pub fn next_word(&mut self) -> Option<&'a [u8]>
@@ -48,18 +55,50 @@ impl<'a> Words<'a> {
     }
 
     /// Returns the next word as a number. If it isn't one, returns `None` and takes no word.
+    #[inline]
     pub fn next_number(&mut self) -> Option<u64>
         ensures { MatchOption result (self.new ≡ self.old)
             (λ n. BeginsWithNumber self.old n self.new) }
     {
-        let text = trim_start(self.rest);
+        let text = from_word(self.rest);
         let (count, value) = leading_digits(text);
-        if count == 0 || (count < text.len() && !is_blank(text[count])) {
+        if count == 0 {
             return None;
         }
-        let (_, rest) = text.split_at(count);
+        let rest = after_word(text, count)?;
         self.rest = rest;
         Some(value)
+    }
+}
+
+// A text without the blanks at its front. Most texts have none, and then this calls nothing.
+#[inline]
+fn from_word(text: &[u8]) -> &[u8]
+    ensures { result.now ≡ spec.trim_start text.now }
+{
+    match text {
+        [first, ..] if !is_blank(*first) => text,
+        _ => trim_start(text),
+    }
+}
+
+// Returns the text after a word that ends at this index, without the blank there. If another byte
+// is there, returns `None`.
+#[inline]
+#[tactic(auto, using(crate::proofs::NumberLemmas::words_behind_blank))]
+fn after_word(text: &[u8], end: usize) -> Option<&[u8]>
+    requires { end ≤ length text.now }
+    ensures rest { IfSome result (λ rest. spec.words rest.now ≡ spec.words (drop end text.now)) }
+    ensures blank { IfSome result (λ _. end < length text.now →
+        spec.is_blank (slice_index text.now end) ≡ true) }
+{
+    if end == text.len() {
+        return Some(&[]);
+    }
+    if is_blank(text[end]) {
+        Some(&text[end + 1..])
+    } else {
+        None
     }
 }
 

@@ -23,6 +23,6 @@ pub of_rows-requires-clause-rows : goal.of_rows-requires-clause-rows
 of_rows-requires-clause-rows c =
     let t = table_of c.args.activities.now c.args.resources.now in
     let is = c.in_ok-durations.ensures ∙ ap (λ js. durations_of (map job_in js)) c.deref.ensures.value ∙ ap durations_of c.in_ok-jobs.ensures in
-    let rows = ap rows_in c.deref-3.ensures.value ∙ c.in_ok-rows.ensures ∙ ap (λ js. rows_of (map job_in js)) c.deref-2.ensures.value ∙ ap rows_of c.in_ok-jobs.ensures in
+    let rows = c.in_ok-rows.ensures ∙ ap (λ js. rows_of (map job_in js)) c.deref-2.ensures.value ∙ ap rows_of c.in_ok-jobs.ensures in
     subst (λ (rs : List (List ℕ)). AreRows (length c.in_ok-durations.durations.items) rs) (sym rows)
     (subst (λ (ds : List ℕ). AreRows (length ds) (rows_of (table_jobs t))) (sym is) (table_rows t c.requires))
