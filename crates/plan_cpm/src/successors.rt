@@ -49,18 +49,18 @@ fn reach_of(
     Ok(row)
 }
 
-// Returns the number of marks that are set.
+// Returns the number of marks that are set. A short counter, so that more are added at once.
 fn marks_set(row: &[bool]) -> u32
     requires { length row.now ≤ MOST_ACTIVITIES }
     ensures { IsCountOf (λ k. (1 ≤ k) × (k ≤ length row.now) × IsPlaced row.now k) result }
 {
-    let mut count = 0;
+    let mut count = 0u16;
     for &mark in row {
         if mark {
             count += 1;
         }
     }
-    count
+    u32::from(count)
 }
 
 // Returns `count` empty rows.

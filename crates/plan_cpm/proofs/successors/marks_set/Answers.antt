@@ -37,5 +37,5 @@ returns c =
     record {
       members = c.loop-mark.invariant.counted.0;
       lists = subst (λ (n : ℕ). ListsRising (λ k. (1 ≤ k) × (k ≤ n) × IsPlaced c.args.row.now k) c.loop-mark.invariant.counted.0) all c.loop-mark.invariant.counted.1;
-      long = c.loop-mark.invariant.counted.2;
+      long = omega (arith, c.loop-mark.invariant.counted.2, c.from.ensures);
     }
