@@ -1,0 +1,122 @@
+"""What requests and starts of an office take, in instructions of `plan replay`."""
+
+import hashlib
+import os
+import sqlite3
+import subprocess
+
+import files
+
+KEY = "desk-key-1"
+SILENT = [(os.POSIX_SPAWN_OPEN, 1, os.devnull, os.O_WRONLY, 0)]
+# The more answers of a request; one of them has nothing in memory.
+MORE = 10
+
+
+def small():
+    """A project of 32 activities on 4 resources."""
+    return files.project(*files.made(32, 77, 10, 6, 9, 10))
+
+
+def large():
+    """A project of 502 activities and all arcs, 0.5 MB."""
+    return files.projects(all_later=True)
+
+
+def get(route):
+    """A request for a page of the first desk."""
+    return f"GET /desks/d0/{route} HTTP/1.0\r\nDesk-Key: {KEY}\r\n\r\n"
+
+
+def post(route, body):
+    """A command of the first desk."""
+    head = f"POST /desks/d0/{route} HTTP/1.0\r\nDesk-Key: {KEY}\r\n"
+    return f"{head}Content-Length: {len(body)}\r\n\r\n{body}"
+
+
+LAG = post("plans/1/lag", '{"from":2,"to":3,"lag":1}')
+
+# name, body of the plans, number of plans, request, most instructions of one answer (thousands)
+REQUESTS = [
+    ("request: dates, 32 activities", small, 1, get("plans/1/dates"), 180),
+    ("request: schedule lft, 32 activities", small, 1, get("plans/1/schedule/lft"), 210),
+    ("request: lag, 32 activities", small, 1, LAG, 265),
+    ("request: dates, 0.5 MB", large, 1, get("plans/1/dates"), 6000),
+    ("request: list of 50 small plans", small, 50, get("plans"), 94),
+    ("request: list of 50 plans of 0.5 MB", large, 50, get("plans"), 94),
+]
+
+# name, body of the plans, number of plans, most instructions for a byte of the file, most memory by
+# the length of the file, besides 20 MB
+STARTS = [("start: 100 plans of 0.5 MB", large, 100, 200, 1.1)]
+
+
+def office(plan, folder, count, body):
+    """The file of an office with one desk, which has so many plans."""
+    path = os.path.join(folder, "office.db")
+    for suffix in ("", "-wal"):
+        if os.path.exists(path + suffix):
+            os.remove(path + suffix)
+    subprocess.run([plan, "init", path], input=b"office-key-1\n", check=True)
+    digest, text = hashlib.sha256(KEY.encode()).hexdigest(), body.encode()
+    tables = sqlite3.connect(path)
+    tables.execute("INSERT INTO desks VALUES ('d0', ?, ?)", (digest, count + 1))
+    rows = [("d0", n, "project", "", text, "", "") for n in range(1, count + 1)]
+    tables.executemany("INSERT INTO plans VALUES (?, ?, ?, ?, ?, ?, ?)", rows)
+    tables.commit()
+    tables.execute("PRAGMA wal_checkpoint(TRUNCATE)")
+    tables.close()
+    return path
+
+
+def request_file(folder, text):
+    """The file of a request."""
+    path = os.path.join(folder, "request")
+    with open(path, "w", encoding="ascii", newline="") as file:
+        file.write(text)
+    return path
+
+
+def of_request(plan, instructions, folder, case):
+    """Thousands of instructions of one answer: those of eleven less those of one, by ten."""
+    _, body, count, text, _ = case
+    path, request = office(plan, folder, count, body()), request_file(folder, text)
+    words = [plan, "replay", path, request]
+    one, more = (instructions(words + [request] * n) for n in (0, MORE))
+    return (more - one) * 1000 / MORE
+
+
+def of_start(plan, instructions, folder, case):
+    """The length of the file, instructions for each of its bytes, and memory by its length."""
+    _, body, count, _, _ = case
+    path, request = office(plan, folder, count, body()), request_file(folder, get("plans"))
+    size, words = os.path.getsize(path), [plan, "replay", path, request]
+    pid = os.posix_spawn(words[0], words, os.environ, file_actions=SILENT)
+    _, status, usage = os.wait4(pid, 0)
+    if status != 0:
+        raise SystemExit(f"bench/run: {' '.join(words)} ended with status {status}")
+    return size, instructions(words) * 1e6 / size, (usage.ru_maxrss * 1024 - 20e6) / size
+
+
+def shown(value, target, form):
+    """A figure, with a mark where it is more than a tenth above its target, and the target."""
+    return [f"{value:{form}}" + ("!" if value > target * 1.1 else ""), f"{target}"]
+
+
+def tables(plan, instructions, folder, line, is_chosen):
+    """The lines of the tables of requests and of starts."""
+    requests = [case for case in REQUESTS if is_chosen(case[0])]
+    if requests:
+        yield line(["Request", "k instr", "at most"])
+        yield "|---|---|---|"
+    for case in requests:
+        taken = of_request(plan, instructions, folder, case)
+        yield line([case[0], *shown(taken, case[4], ".0f")])
+    starts = [case for case in STARTS if is_chosen(case[0])]
+    if starts:
+        yield line(["Start", "bytes", "instr a byte", "at most", "memory by length", "at most"])
+        yield "|---|---|---|---|---|---|"
+    for case in starts:
+        size, taken, memory = of_start(plan, instructions, folder, case)
+        cells = [*shown(taken, case[3], ".0f"), *shown(memory, case[4], ".2f")]
+        yield line([case[0], str(size), *cells])
