@@ -1,6 +1,5 @@
 -- Lists of the numbers that pass a test, and the letters that may follow.
 use Rattle.std.proofs.Common.{◌≡◌, ℕ, zero, suc, ◌<◌, ◌&&◌, inl, inr, Bool, true, false, cond, List, [], ◌∷◌, ◌++◌, Option, Some, None, map, refl, sym, ap, ◌∙◌, subst, append-nil, append_assoc, arith}
-use Rattle.std.specs.Option.{IfSome, IfNone}
 use Rattle.std.proofs.lemmas.List.{map-append}
 use Rattle.std.specs.Prelude.{Contains, nat_eq, nat_lt}
 use Rattle.std.proofs.lemmas.Bool.{cases_eq, cond-true, cond-false, lt-ltb, le-ltb}
@@ -18,6 +17,13 @@ those-no n f fails = ap (λ xs. those_below n f ++ xs) (cond-false (f n) (n ∷ 
 pub those-none : (n : ℕ) (f : ℕ → Bool) → ((i : ℕ) → i < n → f i ≡ false) → those_below n f ≡ []
 those-none zero f none = refl
 those-none (suc n) f none = those-no n f (none n (omega arith)) ∙ those-none n f (λ i below. none i (omega (arith, below)))
+
+-- one more fails
+pub none-more : (n : ℕ) (f : ℕ → Bool) → ((i : ℕ) → i < n → f i ≡ false) → f n ≡ false → (i : ℕ) → i < suc n → f i ≡ false
+none-more n f none fails i below = elim (cases_eq i n) [
+  | inl same ↦ ap f same ∙ fails
+  | inr other ↦ none i (omega (arith, below, other))
+]
 
 -- the first that passes
 pub those-first : (n : ℕ) (f : ℕ → Bool) (j : ℕ) → j < n → ((i : ℕ) → i < j → f i ≡ false) → f j ≡ true → (zs : List ℕ) × (those_below n f ≡ j ∷ zs)
@@ -127,14 +133,6 @@ letters-rivals t first machine zeros is machine_is =
     ∙ ap (λ b. map letter_of (rivals t.shop (placed t) b)) (sym is.job)
     ∙ ap (λ m. map letter_of (those_below t.shop.jobs (is_rival t m (next_end t.shop (placed t) first.0)))) (sym machine_is)
     ∙ ap (λ e. map letter_of (those_below t.shop.jobs (is_rival t machine e))) (sym is.end)
-
-pub if-some : (t : Standing) (n : ℕ) (first : Option (ℕ × ℕ)) → IsSoFar t n first → n ≡ t.shop.jobs → IfSome first (IsFirstToEnd t)
-if-some t n None is all = tt
-if-some t n (Some first) is all = so_far-some t n first is all
-
-pub if-none : (t : Standing) (n : ℕ) (first : Option (ℕ × ℕ)) → IsSoFar t n first → n ≡ t.shop.jobs → IfNone first (with_next t.shop (placed t) ≡ [])
-if-none t n None is all = so_far-empty t n is all
-if-none t n (Some first) is all = tt
 
 -- one more job among the rivals
 pub rivals-yes : (t : Standing) (machine end n : ℕ) (old list new : List ℕ) →

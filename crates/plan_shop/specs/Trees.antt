@@ -3,12 +3,14 @@
 use Rattle.std.specs.Prelude.{◌≡◌, ℕ, ◌≤◌, ◌<◌, ◌⊎◌, Bool, ◌&&◌, ◌*◌, not, nat_lt, nat_eq, List, [], ◌∷◌, Option, Some, None, length, map, slice_index, Contains}
 use Rattle.std.specs.List.{sum_by}
 use Rattle.plan_shop.specs.Shop.{JobShop, count_steps, time_of, machine_of, job_of, place_of, those_below}
-use Rattle.plan_shop.specs.Words.{least_of, first_least, Placed, steps_done, has_next, is_placed, job_end, machine_free, next_step, next_end, ready, place, job_of_letter, with_next, letters_after, start_in}
+use Rattle.plan_shop.specs.Words.{least_of, first_least, Placed, steps_done, has_next, is_placed, job_end, machine_free, next_step, next_end, ready, place, job_of_letter, with_next, with_zero, jobs_after, letters_after, start_in}
 use Rattle.plan_shop.specs.Bound.{tail_of, head_of}
 use Rattle.plan_shop.specs.Laws.{placed_in}
 use Rattle.plan_shop.specs.Docs.{IsSmallShop}
 use Rattle.plan_shop.specs.declared.tree.Turn.{Turn}
 use Rattle.plan_shop.specs.declared.tree.bound.Pending.{Pending}
+use Rattle.plan_shop.specs.declared.tree.letters.Front.{Front}
+use Rattle.plan_shop.specs.declared.tree.letters.Front.TheVariants.{AtOnce, ToEnd, Full}
 
 -- a shop and the current word of its tree
 pub record Standing : Type 0 where
@@ -89,6 +91,14 @@ pub record IsFirstIn (t : Standing) (js : List ℕ) (first : ℕ × ℕ) : Type 
 -- the first of all jobs whose next step would end first, and that end
 abbrev pub IsFirstToEnd : Standing → ℕ × ℕ → Type 0
 IsFirstToEnd t first = IsFirstIn t (with_next t.shop (placed t)) first
+
+-- what decides the letters that may follow
+abbrev pub IsFront : Standing → Front → Type 0
+IsFront t (AtOnce job) =
+    (jobs_after t.shop (placed t) ≡ job ∷ []) × (job < t.shop.jobs)
+IsFront t (ToEnd first end) =
+    (with_zero t.shop (placed t) ≡ []) × IsFirstToEnd t (first, end)
+IsFront t Full = letters_after t.shop (placed t) ≡ []
 
 -- the one of two jobs that ends first, with its end; the first one if both end together
 abbrev pub IsSooner : Option (ℕ × ℕ) → ℕ × ℕ → ℕ × ℕ → Type 0

@@ -1,42 +1,43 @@
 //! Letters that may follow a word.
 
-ghost use Rattle.std.specs.Prelude.{◌≡◌, ◌<◌, [], ◌∷◌, ◌++◌, IfSome, IfNone, OnOk};
+ghost use Rattle.std.specs.Prelude.{◌≡◌, ◌<◌, [], ◌++◌, OnOk};
 ghost use Rattle.plan_shop.specs.Words as words;
 ghost use Rattle.plan_shop.specs.Trees as spec;
 
 use crate::tree::ShopTree;
 use std::alloc::AllocError;
 
-impl<'a> ShopTree<'a> {
-    // Returns the first job whose next step takes no time.
-    fn first_at_once(&self) -> Option<u32>
-        ensures some { IfSome result (λ job.
-            words.jobs_after self.now.shop (spec.placed self.now) ≡ job ∷ []) }
-        ensures inside { IfSome result (λ job. job < self.now.shop.jobs) }
-        ensures none { IfNone result (words.with_zero self.now.shop (spec.placed self.now) ≡ []) }
-        ensures few { self.now.shop.jobs < 100 }
-    {
-        for job in 0..self.shop.jobs() {
-            if self.has_next(job) && self.next_step(job).time == 0 {
-                return Some(job);
-            }
-        }
-        None
-    }
+// What decides the letters that may follow a word: a job whose next step takes no time, or else the
+// job whose next step would end first, with that end.
+#[derive(Drop)]
+enum Front {
+    AtOnce(u32),
+    ToEnd(u32, u64),
+    /// All steps are placed.
+    Full,
+}
 
-    // Returns the job whose next step would end first, and that end.
-    fn first_to_end(&self) -> Option<(u32, u64)>
-        ensures some { IfSome result (spec.IsFirstToEnd self.now) }
-        ensures none { IfNone result (words.with_next self.now.shop (spec.placed self.now) ≡ []) }
+impl<'a> ShopTree<'a> {
+    // Returns what decides the letters that may follow.
+    fn front(&self) -> Front
+        ensures front { spec.IsFront self.now result }
+        ensures few { self.now.shop.jobs < 100 }
     {
         let mut first: Option<(u32, u64)> = None;
         for job in 0..self.shop.jobs() {
             if self.has_next(job) {
-                let end = self.ready(job) + self.next_step(job).time;
+                let time = self.next_step(job).time;
+                if time == 0 {
+                    return Front::AtOnce(job);
+                }
+                let end = self.ready(job) + time;
                 first = Some(sooner(first, (job, end)));
             }
         }
-        first
+        match first {
+            Some((job, end)) => Front::ToEnd(job, end),
+            None => Front::Full,
+        }
     }
 
     // Tests whether the next step of a job is on a machine and could start before an instant.
@@ -47,19 +48,14 @@ impl<'a> ShopTree<'a> {
         self.has_next(job) && self.next_step(job).machine == machine && self.ready(job) < end
     }
 
-    /// Appends the letters that may follow to the list, so that one list can serve all words of a
-    /// search. If memory runs out, only some of them may have been appended.
-    pub fn letters(&self, list: &mut Vec<u32>) -> Result<(), AllocError>
+    // Appends the letters of the jobs that compete with the one that would end first.
+    fn rivals(&self, first: u32, end: u64, list: &mut Vec<u32>) -> Result<(), AllocError>
+        requires zeros { words.with_zero self.now.shop (spec.placed self.now) ≡ [] }
+        requires first { spec.IsFirstToEnd self.now (first, end) }
+        requires few { self.now.shop.jobs < 100 }
         ensures { OnOk result (list.new.items ≡ list.old.items
             ++ words.letters_after self.now.shop (spec.placed self.now)) }
     {
-        if let Some(job) = self.first_at_once() {
-            list.push(job + 1)?;
-            return Ok(());
-        }
-        let Some((first, end)) = self.first_to_end() else {
-            return Ok(());
-        };
         let machine = self.next_step(first).machine;
         for job in 0..self.shop.jobs() {
             if self.is_rival(job, machine, end) {
@@ -67,6 +63,22 @@ impl<'a> ShopTree<'a> {
             }
         }
         Ok(())
+    }
+
+    /// Appends the letters that may follow to the list, so that one list can serve all words of a
+    /// search. If memory runs out, only some of them may have been appended.
+    pub fn letters(&self, list: &mut Vec<u32>) -> Result<(), AllocError>
+        ensures { OnOk result (list.new.items ≡ list.old.items
+            ++ words.letters_after self.now.shop (spec.placed self.now)) }
+    {
+        match self.front() {
+            Front::AtOnce(job) => {
+                list.push(job + 1)?;
+                Ok(())
+            }
+            Front::ToEnd(first, end) => self.rivals(first, end, list),
+            Front::Full => Ok(()),
+        }
     }
 }
 
