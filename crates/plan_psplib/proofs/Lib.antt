@@ -17,3 +17,4 @@ pub mod FailLemmas
 pub mod PrecedenceStopLemmas
 pub mod RequestStopLemmas
 pub mod CauseLemmas
+mod StampLemmas

@@ -1,6 +1,5 @@
 -- The loops over the successors of a row, and over the rows of the precedence section.
-use Rattle.std.proofs.Common.{◌≡◌, ℕ, suc, Bool, ◌-◌, ◌+◌, ◌≤◌, ◌<◌, List, [], ◌∷◌, ◌++◌, Result, Ok, length, take, drop, refl, sym, ap, ◌∙◌, arith, Vec}
-use Rattle.std.proofs.lemmas.Grind.{common_steps}
+use Rattle.std.proofs.Common.{◌≡◌, ℕ, suc, ◌-◌, ◌+◌, ◌≤◌, ◌<◌, List, [], ◌∷◌, ◌++◌, Result, Ok, length, refl, sym, ap, ◌∙◌, arith, Vec}
 use Rattle.plan_psplib.specs.declared.text.fault.Fault.{Fault}
 use Rattle.plan_psplib.specs.declared.text.fault.ReadError.{ReadError}
 use Rattle.plan_psplib.specs.Streams.{Stream}
@@ -11,10 +10,6 @@ use Rattle.std.specs.declared.alloc.Global.{Global}
 use Rattle.plan_net.specs.Successors.{arcs_from, arcs_of_rows, IsRow, rows_in}
 use Rattle.plan_net.proofs.SuccessorLemmas.{arcs_of_rows-push}
 use Rattle.plan_psplib.proofs.LoopLemmas.{goes_on, fails, is_done}
-
--- a slice of a whole `Vec` is returned unchanged
-pub written_back : (new old : List Bool) (n : ℕ) → length new ≡ n → take n (new ++ drop (length new) old) ≡ new
-written_back new old n e = grind (arith, common_steps)
 
 module _ (n : ℕ) where
   abbrev Before : Type 0

@@ -1,5 +1,5 @@
 -- The precedence section (docs/definitions.md, "Files").
-use Rattle.std.specs.Prelude.{◌≡◌, ℕ, zero, suc, ◌+◌, ◌<◌, ◌==◌, ◌&&◌, Bool, false, length, slice_index_or, List, [], ◌∷◌, ◌++◌, Result, Ok, nat_le, not}
+use Rattle.std.specs.Prelude.{◌≡◌, ℕ, zero, suc, ◌+◌, ◌<◌, ◌==◌, ◌&&◌, Bool, length, slice_index, List, [], ◌∷◌, ◌++◌, Result, Ok, nat_le, not}
 use Rattle.std.specs.List.{list_any}
 use Rattle.plan_net.specs.Successors.{arcs_from}
 use Rattle.plan_psplib.specs.declared.text.fault.FileCode.TheVariants as code
@@ -54,6 +54,10 @@ precedence n s = do
   nothing_left ← end_at rows.1
   Ok rows.0
 
--- marks, by job, of the jobs that a row has named
-abbrev pub AreMarks : List Bool → List ℕ → Type 0
-AreMarks marks jobs = (job : ℕ) → job < length marks → slice_index_or marks job false ≡ is_among jobs job
+-- marks by job: those of the jobs that a row has named are the number of the row, no other mark is
+abbrev pub AreMarks : ℕ → List ℕ → List ℕ → Type 0
+AreMarks row marks jobs = (job : ℕ) → job < length marks → (slice_index marks job == row) ≡ is_among jobs job
+
+-- each mark is less than n
+abbrev pub AreBelow : ℕ → List ℕ → Type 0
+AreBelow n marks = (job : ℕ) → job < length marks → slice_index marks job < n
