@@ -106,7 +106,7 @@ fn amounts(
 ) -> Result<Vec<u64>, ReadError>
     ensures { Gives (λ v. (v.items, words.new)) result (spec.amounts_at count [] words.old) }
 {
-    let mut amounts = Vec::new(alloc);
+    let mut amounts = Vec::with_capacity(alloc, count as usize)?;
     for _ in 0..count {
         let amount = within(words, GREATEST_AMOUNT)?;
         amounts.push(amount)?;

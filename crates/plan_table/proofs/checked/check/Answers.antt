@@ -1,7 +1,7 @@
 use Rattle.std.proofs.Common.{ℕ, List, [], length, map, sym, ap, ◌∙◌, subst}
 use Rattle.plan_net.specs.Network.{unlagged}
 use Rattle.plan_net.specs.Limits.{HasGoodSize, HasGoodDurations}
-use Rattle.plan_net.specs.Successors.{AreRows, rows_in}
+use Rattle.plan_net.specs.Successors.{AreRows}
 use Rattle.plan_table.specs.Table.{table_of}
 use Rattle.plan_table.specs.Jobs.{job_in, table_jobs, durations_of, rows_of}
 use Rattle.plan_table.proofs.NetworkLemmas.{table_size, table_durations, table_rows}

@@ -5,7 +5,7 @@ use Rattle.plan_psplib.proofs.sm.requests.amounts.Goals as goal
 
 pub returns-in_err-amount : goal.returns-in_err-amount
 returns-in_err-amount c =
-    let error = err_from_is_err_and c.from_residual.result c.from_residual.ensures.1 in
+    let error = err_from_is_err_and c.from_residual-in_err-amount.result c.from_residual-in_err-amount.ensures.1 in
     rw (error.1, error.2) (amounts_fail (errors.Fault c.in_err-amount.field-0.0) c.args.count c.loop.counter
     c.loop.amounts.items c.loop.words _ c.loop-test.true c.in_err-amount.ensures.exact c.loop.invariant)
 
