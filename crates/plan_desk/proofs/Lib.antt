@@ -35,6 +35,7 @@ pub mod PageLemmas
 pub mod BestLemmas
 pub mod DaysLemmas
 pub mod PagedLemmas
+pub mod KeptLemmas
 pub mod SomeFileLemmas
 pub mod SomeShopLemmas
 pub mod SomeBestLemmas

@@ -28,3 +28,5 @@ pub mod Promises
 pub mod Scheduled
 pub mod BestOf
 pub mod FoundFiles
+pub mod HeldDocuments
+pub mod KeptFiles

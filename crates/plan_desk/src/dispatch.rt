@@ -7,6 +7,7 @@ ghost use Rattle.plan_desk.specs.Requests.{call_in, request_in, path_of, subject
 
 use crate::admission::admit;
 use crate::change::{Decision, without_change};
+use crate::files::Files;
 use crate::pages::RulePage;
 use crate::reply::no_key;
 use crate::request::{Call, Request};
@@ -20,6 +21,7 @@ fn decide<'r, B: Book>(
     book: &mut B,
     alloc: Global,
     memo: &mut Memo,
+    files: &mut Files,
     call: &'r Call,
     row: Option<DeskRow>,
 ) -> Result<Decision<'r>, BookFault>
@@ -44,31 +46,58 @@ fn decide<'r, B: Book>(
         } => imports::import_shop(book, alloc, desk.as_str(), row, instance.as_str(), body),
         Call::Remove { desk, n } => plans::remove_plan(book, alloc, desk.as_str(), n.as_str()),
         Call::Bind { desk, n, body } => {
-            binds::bind_code(book, alloc, desk.as_str(), n.as_str(), body)
+            binds::bind_code(book, alloc, files, desk.as_str(), n.as_str(), body)
         }
         Call::SetCalendar { desk, n, body } => {
             binds::set_calendar(book, alloc, desk.as_str(), n.as_str(), body)
         }
         Call::SetLag { desk, n, body } => {
-            binds::set_lag(book, alloc, desk.as_str(), n.as_str(), body)
+            binds::set_lag(book, alloc, files, desk.as_str(), n.as_str(), body)
         }
-        Call::Dates { desk, n } => queries::show_dates(book, alloc, desk.as_str(), n.as_str()),
+        Call::Dates { desk, n } => {
+            queries::show_dates(book, alloc, files, desk.as_str(), n.as_str())
+        }
         Call::Schedule { desk, n, rule } => {
             let page = RulePage::Schedule;
-            queries::show_by_rule(book, alloc, desk.as_str(), n.as_str(), page, rule.as_str())
+            queries::show_by_rule(
+                book,
+                alloc,
+                files,
+                desk.as_str(),
+                n.as_str(),
+                page,
+                rule.as_str(),
+            )
         }
         Call::Chart { desk, n, rule } => {
             let page = RulePage::Chart;
-            queries::show_by_rule(book, alloc, desk.as_str(), n.as_str(), page, rule.as_str())
+            queries::show_by_rule(
+                book,
+                alloc,
+                files,
+                desk.as_str(),
+                n.as_str(),
+                page,
+                rule.as_str(),
+            )
         }
         Call::Days { desk, n, rule } => {
             let page = RulePage::Days;
-            queries::show_by_rule(book, alloc, desk.as_str(), n.as_str(), page, rule.as_str())
+            queries::show_by_rule(
+                book,
+                alloc,
+                files,
+                desk.as_str(),
+                n.as_str(),
+                page,
+                rule.as_str(),
+            )
         }
         Call::Best { desk, n, budget } => queries::show_best(
             book,
             alloc,
             memo,
+            files,
             desk.as_str(),
             n.as_str(),
             budget.as_str(),
@@ -81,6 +110,7 @@ pub(crate) fn judge<'r, B: Book>(
     book: &mut B,
     alloc: Global,
     memo: &mut Memo,
+    files: &mut Files,
     request: &'r Request,
 ) -> Result<Decision<'r>, BookFault>
     ensures found { Decides B.shelf book.old book.new
@@ -90,7 +120,7 @@ pub(crate) fn judge<'r, B: Book>(
 {
     let admission = admit(book, request)?;
     if admission.is_admitted {
-        decide(book, alloc, memo, &request.call, admission.row)
+        decide(book, alloc, memo, files, &request.call, admission.row)
     } else {
         Ok(without_change(no_key()))
     }

@@ -8,7 +8,10 @@ mod bodies;
 mod bound;
 mod change;
 mod dispatch;
+mod document_refs;
 mod execution;
+mod file_keys;
+mod files;
 mod laws;
 mod lookup;
 mod mem_book;
@@ -19,6 +22,7 @@ mod reply;
 mod request;
 mod route_refusals;
 mod routes;
+mod stored_files;
 
 pub use laws::{
     desks_are_apart, one_decision, order_is_unseen, outside_is_unseen, pages_are_promised,

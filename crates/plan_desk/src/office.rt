@@ -7,6 +7,7 @@ ghost use Rattle.plan_desk.specs.Requests.{request_in};
 
 use crate::dispatch::judge;
 use crate::execution::carry_out;
+use crate::files::Files;
 use crate::reply::{Reply, no_memory, store_refused};
 use crate::request::Request;
 use plan_exact::Memo;
@@ -15,12 +16,13 @@ use std::alloc::Global;
 use std::marker::Model;
 
 /// An office over a book: it answers the requests of all desks. Contracts see its book. It caches
-/// best schedules for all desks together. No reply depends on the cache.
+/// best schedules and the documents of files, for all desks together. No reply depends on a cache.
 #[derive(Drop)]
 pub struct Office<B: Book> {
     alloc: Global,
     book: B,
     memo: Memo,
+    files: Files,
 }
 
 impl<B: Book> Model for Office<B> {
@@ -34,13 +36,14 @@ fn answer<B: Book>(
     book: &mut B,
     alloc: Global,
     memo: &mut Memo,
+    files: &mut Files,
     request: &Request,
 ) -> Result<Reply, BookFault>
     ensures { MatchResult result
         (λ reply. Handled B.shelf book.old book.new (request_in request.now) (reply_of reply))
         (λ fault. Handled B.shelf book.old book.new (request_in request.now) (want_of fault)) }
 {
-    let decision = judge(book, alloc, memo, request)?;
+    let decision = judge(book, alloc, memo, files, request)?;
     carry_out(book, request.call.path(), decision.change)?;
     Ok(decision.reply)
 }
@@ -53,7 +56,15 @@ impl<B: Book> Office<B> {
         let Ok(memo) = Memo::new(alloc) else {
             return Err(book);
         };
-        Ok(Office { alloc, book, memo })
+        let Ok(files) = Files::new(alloc) else {
+            return Err(book);
+        };
+        Ok(Office {
+            alloc,
+            book,
+            memo,
+            files,
+        })
     }
 
     /// Returns the book of the office.
@@ -70,7 +81,13 @@ impl<B: Book> Office<B> {
     pub fn handle(&mut self, request: &Request) -> Reply
         ensures { Handled B.shelf self.old self.new (request_in request.now) (reply_of result) }
     {
-        match answer(&mut self.book, self.alloc, &mut self.memo, request) {
+        match answer(
+            &mut self.book,
+            self.alloc,
+            &mut self.memo,
+            &mut self.files,
+            request,
+        ) {
             Ok(reply) => reply,
             Err(BookFault::NoMemory) => no_memory(),
             Err(BookFault::Store) => store_refused(),

@@ -1,18 +1,24 @@
-//! The files of plans, read from the stored bodies.
+//! The files of plans: kept, or read from the stored bodies.
 
-ghost use Rattle.std.specs.Prelude.{◌≡◌, IfOk, IfErr, OnOk, map};
+ghost use Rattle.std.specs.Prelude.{◌≡◌, ℕ, IfOk, IfErr, IfSome, IfNone, OnOk, OnErr, map, take};
 ghost use Rattle.plan_psplib.specs.Faults.{IsWantOfMemory};
-ghost use Rattle.plan_psplib.specs.Project as files;
+ghost use Rattle.plan_psplib.specs.Project.{Project, SaysProject};
 ghost use Rattle.plan_orlib.specs.Shop as docs;
 ghost use Rattle.plan_orlib.specs.Says.{Says};
 ghost use Rattle.plan_rows.specs.Plans.{lagged_by};
 ghost use Rattle.plan_rows.specs.Books.{lag_in};
 ghost use Rattle.plan_desk.specs.PlanValues.{IsProjectIn, HasProject, TakesLags};
+ghost use Rattle.plan_desk.specs.KeptFiles.{IsLagged, IsReadable, IsReading, IsReadingOfFirst};
+ghost use Rattle.plan_desk.specs.KeptFiles.{Remembers, StartsWith, TakesProject, stored_in};
 ghost use Rattle.plan_rows.specs.declared.fault.BookFault.TheVariants.{NoMemory, Store};
 
+use crate::document_refs::{ProjectRef, ShopRef};
+use crate::file_keys::FileKey;
+use crate::files::{Document, Files};
+use crate::stored_files::StoredFile;
 use plan_orlib::{ShopDoc, read_shop};
 use plan_psplib::{FileCode, FileFault, ProjectDoc, read_sm};
-use plan_rows::{BookFault, LagEntry, PlanRow};
+use plan_rows::{BookFault, LagEntry, PlanKind, PlanRow};
 use std::alloc::Global;
 
 // Returns the fault of a book for a stored body that fails a check. If memory didn't run out, it is
@@ -28,18 +34,18 @@ fn book_fault(fault: FileFault) -> BookFault
     }
 }
 
-// Reads the project in the body of a plan.
-pub(crate) fn read_project_file(alloc: Global, body: &[u8]) -> Result<ProjectDoc, BookFault>
-    ensures said { IfOk result (files.SaysProject body.now) }
+// Reads the project in a body.
+fn project_of_body(alloc: Global, body: &[u8]) -> Result<ProjectDoc, BookFault>
+    ensures said { IfOk result (SaysProject body.now) }
     ensures blamed { IfErr result (λ fault. fault ≡ Store →
-        (p : files.Project) → files.SaysProject body.now p → ⊥) }
+        (p : Project) → SaysProject body.now p → ⊥) }
 {
     read_sm(alloc, body).map_err(book_fault)
 }
 
-// Reads the shop in the body of a plan, by the name of its instance.
+// Reads the shop in a body, by the name of its instance.
 #[tactic(auto, using(plan_orlib::proofs::OnceLemmas::said_fails_none))]
-pub(crate) fn read_shop_file(alloc: Global, name: &str, body: &[u8]) -> Result<ShopDoc, BookFault>
+fn shop_of_body(alloc: Global, name: &str, body: &[u8]) -> Result<ShopDoc, BookFault>
     ensures said { IfOk result (Says name.now body.now) }
     ensures blamed { IfErr result (λ fault. fault ≡ Store →
         (shop : docs.Shop) → Says name.now body.now shop → ⊥) }
@@ -61,12 +67,148 @@ fn set_lags(project: &mut ProjectDoc, lags: &[LagEntry]) -> Result<(), BookFault
     Ok(())
 }
 
+// Reads the project in a body, with these lags.
+fn lagged_body(alloc: Global, body: &[u8], lags: &[LagEntry]) -> Result<ProjectDoc, BookFault>
+    ensures said { IfOk result (IsLagged body.now lags.now) }
+    ensures blamed { IfErr result (λ fault. fault ≡ Store → TakesProject body.now lags.now → ⊥) }
+{
+    let mut project = project_of_body(alloc, body)?;
+    set_lags(&mut project, lags)?;
+    Ok(project)
+}
+
+// Reads the document of a stored file.
+fn read_document(alloc: Global, file: &StoredFile<'_>) -> Result<Document, BookFault>
+    ensures said { IfOk result (IsReading (stored_in file.now)) }
+    ensures blamed { IfErr result (λ fault. fault ≡ Store → IsReadable (stored_in file.now) → ⊥) }
+{
+    match file.kind {
+        PlanKind::Project => {
+            let project = lagged_body(alloc, file.body, file.lags)?;
+            Ok(Document::Project(project))
+        }
+        PlanKind::Shop => {
+            let shop = shop_of_body(alloc, file.name, file.body)?;
+            Ok(Document::Shop(shop))
+        }
+    }
+}
+
+// Makes a stored file the first of the cache, and reads its document if it isn't kept. Returns the
+// document if it can't be kept.
+fn hold(
+    alloc: Global,
+    files: &mut Files,
+    file: &StoredFile<'_>,
+) -> Result<Option<Document>, BookFault>
+    ensures kept { IfOk result (λ new.
+        IfNone new (Remembers files.old (stored_in file.now) files.new)) }
+    ensures unkept { IfOk result (λ new. IfSome new (IsReading (stored_in file.now))) }
+    ensures dropped { IfOk result (λ new. IfSome new (λ _.
+        (k : ℕ) × (files.new ≡ take k files.old))) }
+    ensures unchanged { OnErr result (files.new ≡ files.old) }
+    ensures blamed { IfErr result (λ fault. fault ≡ Store → IsReadable (stored_in file.now) → ⊥) }
+{
+    let Ok(key) = FileKey::of(alloc, file) else {
+        return Ok(Some(read_document(alloc, file)?));
+    };
+    if files.promote(&key) {
+        return Ok(None);
+    }
+    let document = read_document(alloc, file)?;
+    Ok(files.keep(key, document))
+}
+
+// Returns the project of the first file of the cache.
+fn first_project(files: &Files) -> ProjectRef<'_>
+    requires { StartsWith PlanKind.Project files.now }
+    ensures { IsReadingOfFirst files.now (Document.Project result) }
+{
+    match files.latest() {
+        Some(Document::Project(project)) => ProjectRef::kept(project),
+        _ => unreachable!(),
+    }
+}
+
+// Returns the shop of the first file of the cache.
+fn first_shop(files: &Files) -> ShopRef<'_>
+    requires { StartsWith PlanKind.Shop files.now }
+    ensures { IsReadingOfFirst files.now (Document.Shop result) }
+{
+    match files.latest() {
+        Some(Document::Shop(shop)) => ShopRef::kept(shop),
+        _ => unreachable!(),
+    }
+}
+
+// The project in a body, with these lags.
+fn stored_project<'f>(
+    alloc: Global,
+    files: &'f mut Files,
+    body: &[u8],
+    lags: &[LagEntry],
+) -> Result<ProjectRef<'f>, BookFault>
+    ensures said { IfOk result (IsLagged body.now lags.now) }
+    ensures blamed { IfErr result (λ fault. fault ≡ Store → TakesProject body.now lags.now → ⊥) }
+{
+    let file = StoredFile {
+        kind: PlanKind::Project,
+        name: "",
+        body,
+        lags,
+    };
+    match hold(alloc, files, &file)? {
+        Some(Document::Project(project)) => Ok(ProjectRef::new(project)),
+        Some(Document::Shop(_)) => unreachable!(),
+        None => Ok(first_project(files)),
+    }
+}
+
+// The project in the body of a plan, without the lags of the desk.
+pub(crate) fn read_project_file<'f>(
+    alloc: Global,
+    files: &'f mut Files,
+    body: &[u8],
+) -> Result<ProjectRef<'f>, BookFault>
+    ensures said { IfOk result (SaysProject body.now) }
+    ensures blamed { IfErr result (λ fault. fault ≡ Store →
+        (p : Project) → SaysProject body.now p → ⊥) }
+{
+    stored_project(alloc, files, body, &[])
+}
+
+// The shop in the body of a plan, by the name of its instance.
+pub(crate) fn read_shop_file<'f>(
+    alloc: Global,
+    files: &'f mut Files,
+    name: &str,
+    body: &[u8],
+) -> Result<ShopRef<'f>, BookFault>
+    ensures said { IfOk result (Says name.now body.now) }
+    ensures blamed { IfErr result (λ fault. fault ≡ Store →
+        (shop : docs.Shop) → Says name.now body.now shop → ⊥) }
+{
+    let file = StoredFile {
+        kind: PlanKind::Shop,
+        name,
+        body,
+        lags: &[],
+    };
+    match hold(alloc, files, &file)? {
+        Some(Document::Shop(shop)) => Ok(ShopRef::new(shop)),
+        Some(Document::Project(_)) => unreachable!(),
+        None => Ok(first_shop(files)),
+    }
+}
+
 // The project of a plan, with the lags of the desk.
-pub(crate) fn lagged_project(alloc: Global, plan: &PlanRow) -> Result<ProjectDoc, BookFault>
+pub(crate) fn lagged_project<'f>(
+    alloc: Global,
+    files: &'f mut Files,
+    plan: &PlanRow,
+) -> Result<ProjectRef<'f>, BookFault>
     ensures ok { IfOk result (IsProjectIn plan.now) }
     ensures blamed { IfErr result (λ fault. fault ≡ Store → HasProject plan.now → ⊥) }
 {
-    let mut project = read_project_file(alloc, plan.body.as_slice())?;
-    set_lags(&mut project, plan.lags.as_slice())?;
-    Ok(project)
+    stored_project(alloc, files, plan.body.as_slice(), plan.lags.as_slice())
 }

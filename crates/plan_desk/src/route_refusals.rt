@@ -9,13 +9,14 @@ ghost use Rattle.plan_desk.specs.Replies.{reply_of};
 ghost use Rattle.plan_desk.specs.RouteRefusals as spec;
 
 use crate::bodies::LagBody;
+use crate::document_refs::ProjectRef;
 use crate::reply::{
     Reply, bad_body, bad_file, kind_differs, many_plans, numbers_spent, other_kind, unpublished,
 };
 use plan_gantt::file_fault_text;
 use plan_net::Network;
 use plan_orlib::read_shop;
-use plan_psplib::{FileCode, FileFault, ProjectDoc, read_sm};
+use plan_psplib::{FileCode, FileFault, read_sm};
 use plan_rows::{GREATEST_NUMBER, Kind, MOST_PLANS, PlanKind};
 use std::alloc::{AllocError, Global};
 
@@ -103,7 +104,7 @@ fn has_arc(network: &Network, from: u32, to: u32) -> bool
 }
 
 // The refusal of a lag, if there is one, by its body and the project of the plan: None for a shop.
-pub(crate) fn lag_refusal(body: LagBody, project: Option<&ProjectDoc>) -> Option<Reply>
+pub(crate) fn lag_refusal(body: LagBody, project: Option<&ProjectRef<'_>>) -> Option<Reply>
     ensures { option_map reply_of result
         ≡ spec.lag_refusal_of (lag_body_in body) (option_map (λ p. p.now) project.entry) }
 {

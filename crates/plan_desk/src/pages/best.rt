@@ -15,14 +15,14 @@ ghost use Rattle.plan_desk.specs.PlanValues.{HasProject, HasShop, IsSoundPlan};
 ghost use Rattle.plan_desk.specs.BestOf as spec;
 
 use crate::bound::BoundPlan;
+use crate::document_refs::{ProjectRef, ShopRef};
+use crate::files::Files;
 use crate::pages::capacities::{capacities, open_machines};
 use crate::pages::scheduled::shop_fault_line;
 use crate::plan_files::{lagged_project, read_shop_file};
 use crate::reply::{Reply, bad_schedule, page};
 use plan_exact::{ExactFault, Memo, parse_budget};
 use plan_gantt::{best_project_text, best_text, exact_fault_text, schedule_fault_text};
-use plan_orlib::ShopDoc;
-use plan_psplib::ProjectDoc;
 use plan_rows::{BookFault, PlanKind};
 use plan_sgs::Instance;
 use plan_shop::Shop;
@@ -73,7 +73,7 @@ fn of_instance(
 fn best_of_project(
     alloc: Global,
     memo: &mut Memo,
-    project: &ProjectDoc,
+    project: &ProjectRef<'_>,
     caps: &[u64],
     budget: &str,
 ) -> Result<Result<String, String>, AllocError>
@@ -82,7 +82,7 @@ fn best_of_project(
         (λ text. IsBestProjectTextOf budget.now i (string_bytes text))
         (λ line. TellsBestProjectRefusal budget.now i (string_bytes line))) }
 {
-    match Instance::of_project(project, caps) {
+    match Instance::of_project(project.document(), caps) {
         Ok(instance) => of_instance(alloc, memo, &instance, budget),
         Err(fault) => Ok(Err(schedule_fault_text(alloc, &fault)?)),
     }
@@ -111,7 +111,7 @@ fn of_open_shop(
 fn best_of_shop(
     alloc: Global,
     memo: &mut Memo,
-    doc: &ShopDoc,
+    doc: &ShopRef<'_>,
     usable: &[bool],
     budget: &str,
 ) -> Result<Result<String, String>, AllocError>
@@ -120,7 +120,7 @@ fn best_of_shop(
         (λ text. spec.IsOpenBest budget.now (shop_of doc.now) usable.now (string_bytes text))
         (λ line. TellsNoShopBest budget.now (shop_of doc.now) usable.now (string_bytes line))) }
 {
-    match Shop::of_doc(alloc, doc, usable) {
+    match Shop::of_doc(alloc, doc.document(), usable) {
         Ok(shop) => of_open_shop(alloc, memo, &shop, budget),
         Err(fault) => Ok(Err(shop_fault_line(alloc, &fault)?)),
     }
@@ -130,6 +130,7 @@ fn best_of_shop(
 fn of_project(
     alloc: Global,
     memo: &mut Memo,
+    files: &mut Files,
     bound: &BoundPlan,
     budget: &str,
 ) -> Result<Result<String, String>, BookFault>
@@ -140,7 +141,7 @@ fn of_project(
     ensures blamed { IfErr result
         (λ fault. fault ≡ Store → HasProject bound.now.plan → ⊥) }
 {
-    let project = lagged_project(alloc, &bound.plan)?;
+    let project = lagged_project(alloc, files, &bound.plan)?;
     let caps = capacities(alloc, &bound.places, project.avail())?;
     Ok(best_of_project(alloc, memo, &project, &caps, budget)?)
 }
@@ -149,6 +150,7 @@ fn of_project(
 fn of_shop(
     alloc: Global,
     memo: &mut Memo,
+    files: &mut Files,
     bound: &BoundPlan,
     budget: &str,
 ) -> Result<Result<String, String>, BookFault>
@@ -158,7 +160,7 @@ fn of_shop(
         (λ line. spec.TellsNoBest bound.now budget.now (string_bytes line))) }
     ensures blamed { IfErr result (λ fault. fault ≡ Store → HasShop bound.now.plan → ⊥) }
 {
-    let doc = read_shop_file(alloc, bound.plan.name.as_str(), &bound.plan.body)?;
+    let doc = read_shop_file(alloc, files, bound.plan.name.as_str(), &bound.plan.body)?;
     let usable = open_machines(alloc, &bound.places, doc.machines())?;
     Ok(best_of_shop(alloc, memo, &doc, &usable, budget)?)
 }
@@ -167,6 +169,7 @@ fn of_shop(
 fn best_of(
     alloc: Global,
     memo: &mut Memo,
+    files: &mut Files,
     bound: &BoundPlan,
     budget: &str,
 ) -> Result<Result<String, String>, BookFault>
@@ -177,8 +180,8 @@ fn best_of(
         (λ fault. fault ≡ Store → IsSoundPlan bound.now.plan → ⊥) }
 {
     match bound.plan.kind {
-        PlanKind::Project => of_project(alloc, memo, bound, budget),
-        PlanKind::Shop => of_shop(alloc, memo, bound, budget),
+        PlanKind::Project => of_project(alloc, memo, files, bound, budget),
+        PlanKind::Shop => of_shop(alloc, memo, files, bound, budget),
     }
 }
 
@@ -186,12 +189,13 @@ fn best_of(
 pub(crate) fn best_page(
     alloc: Global,
     memo: &mut Memo,
+    files: &mut Files,
     bound: &BoundPlan,
     budget: &str,
 ) -> Result<Reply, BookFault>
     ensures { MakesPage (λ v n. IsBound v n bound.now) (λ v n. Best v n budget.now) result }
 {
-    match best_of(alloc, memo, bound, budget)? {
+    match best_of(alloc, memo, files, bound, budget)? {
         Ok(text) => Ok(page(text)),
         Err(line) => Ok(bad_schedule(alloc, line.as_str())?),
     }

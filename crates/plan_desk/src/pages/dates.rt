@@ -5,6 +5,7 @@ ghost use Rattle.plan_gantt.specs.DateTable.{IsDateText};
 ghost use Rattle.plan_desk.specs.PageRoutes.{Dates};
 ghost use Rattle.plan_desk.specs.Pages.{IsFound, MakesPage};
 
+use crate::files::Files;
 use crate::plan_files::lagged_project;
 use crate::reply::{Reply, other_kind, page};
 use plan_cpm::dates;
@@ -22,12 +23,16 @@ fn date_text(alloc: Global, network: &Network) -> Result<String, AllocError>
 }
 
 /// Returns the dates of a project. They ignore its resources.
-pub(crate) fn dates_page(alloc: Global, plan: &PlanRow) -> Result<Reply, BookFault>
+pub(crate) fn dates_page(
+    alloc: Global,
+    files: &mut Files,
+    plan: &PlanRow,
+) -> Result<Reply, BookFault>
     ensures { MakesPage (λ v n. IsFound v n plan.now) Dates result }
 {
     match plan.kind {
         PlanKind::Project => {
-            let project = lagged_project(alloc, plan)?;
+            let project = lagged_project(alloc, files, plan)?;
             Ok(page(date_text(alloc, project.network())?))
         }
         PlanKind::Shop => Ok(other_kind()),

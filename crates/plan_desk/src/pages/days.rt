@@ -11,6 +11,7 @@ ghost use Rattle.plan_desk.specs.PlanValues.{row_in};
 ghost use Rattle.plan_desk.specs.Scheduled.{ScheduleFits, IsDaysTableOf, HasDayBeyondOf};
 
 use crate::bound::BoundPlan;
+use crate::files::Files;
 use crate::pages::scheduled::{Scheduled, schedule_of};
 use crate::reply::{Reply, bad_calendar, bad_schedule, page};
 use plan_gantt::{
@@ -21,7 +22,7 @@ use plan_rows::{BookFault, PlanRow};
 use std::alloc::Global;
 
 // The table of a schedule's working days.
-fn days_table(alloc: Global, made: &Scheduled, calendar: &Calendar) -> Result<String, DaysFault>
+fn days_table(alloc: Global, made: &Scheduled<'_>, calendar: &Calendar) -> Result<String, DaysFault>
     requires { ScheduleFits made.now }
     ensures text { IfOk result (λ text. IsDaysTableOf made.now calendar.now (string_bytes text)) }
     ensures beyond { IsErrOf result DaysFault.BeyondCalendar →
@@ -38,7 +39,7 @@ fn days_table(alloc: Global, made: &Scheduled, calendar: &Calendar) -> Result<St
 }
 
 // The working days of a schedule in the calendar of its plan.
-fn days_of(alloc: Global, plan: &PlanRow, made: &Scheduled) -> Result<Reply, BookFault>
+fn days_of(alloc: Global, plan: &PlanRow, made: &Scheduled<'_>) -> Result<Reply, BookFault>
     requires { ScheduleFits made.now }
     ensures shown { IfOk result (λ reply. OfCalendar (row_in plan.now)
         (IsDaysTableOf made.now) (HasDayBeyondOf made.now) (reply_of reply) Keep) }
@@ -62,10 +63,15 @@ fn days_of(alloc: Global, plan: &PlanRow, made: &Scheduled) -> Result<Reply, Boo
 }
 
 /// Returns the working days of a plan's schedule by the rule of this name.
-pub(crate) fn days_page(alloc: Global, bound: &BoundPlan, rule: &str) -> Result<Reply, BookFault>
+pub(crate) fn days_page(
+    alloc: Global,
+    files: &mut Files,
+    bound: &BoundPlan,
+    rule: &str,
+) -> Result<Reply, BookFault>
     ensures { MakesPage (λ v n. IsBound v n bound.now) (λ v n. Days v n rule.now) result }
 {
-    match schedule_of(alloc, bound, rule)? {
+    match schedule_of(alloc, files, bound, rule)? {
         Ok(made) => days_of(alloc, &bound.plan, &made),
         Err(line) => Ok(bad_schedule(alloc, line.as_str())?),
     }

@@ -11,11 +11,11 @@ ghost use Rattle.plan_desk.specs.PlanValues.{HasProject, HasShop, IsSoundPlan};
 ghost use Rattle.plan_desk.specs.Scheduled as spec;
 
 use crate::bound::BoundPlan;
+use crate::document_refs::{ProjectRef, ShopRef};
+use crate::files::Files;
 use crate::pages::capacities::{capacities, open_machines};
 use crate::plan_files::{lagged_project, read_shop_file};
 use plan_gantt::{schedule_fault_text, shop_fault_text};
-use plan_orlib::ShopDoc;
-use plan_psplib::ProjectDoc;
 use plan_rows::{BookFault, PlanKind};
 use plan_sgs::{Instance, Rule, Schedule, SgsFault, serial};
 use plan_shop::{Shop, ShopFault, ShopRule, giffler};
@@ -23,15 +23,15 @@ use std::alloc::{AllocError, Global};
 
 /// A schedule with its project or shop.
 #[derive(Drop)]
-pub(crate) enum Scheduled {
-    Project(ProjectDoc, Schedule),
+pub(crate) enum Scheduled<'f> {
+    Project(ProjectRef<'f>, Schedule),
     Shop(Shop, Schedule),
 }
 
 // Returns the schedule of a project with these capacities, by the rule of this name.
 fn project_schedule(
     alloc: Global,
-    project: &ProjectDoc,
+    project: &ProjectRef<'_>,
     caps: &[u64],
     rule: &str,
 ) -> Result<Schedule, SgsFault>
@@ -40,7 +40,7 @@ fn project_schedule(
     ensures refused { IfErr result (λ fault. (fault ≡ SgsFault.NoMemory)
         ⊎ RefusesSchedule rule.now (planned project.now caps.now) fault) }
 {
-    let instance = Instance::of_project(project, caps)?;
+    let instance = Instance::of_project(project.document(), caps)?;
     let rule = Rule::parse(rule)?;
     serial(alloc, &instance, rule)
 }
@@ -48,7 +48,7 @@ fn project_schedule(
 // Returns the schedule of a shop with these usable machines, by the rule of this name.
 fn shop_schedule(
     alloc: Global,
-    doc: &ShopDoc,
+    doc: &ShopRef<'_>,
     usable: &[bool],
     rule: &str,
 ) -> Result<(Shop, Schedule), ShopFault>
@@ -60,7 +60,7 @@ fn shop_schedule(
         ⊎ TellsShopRefusal rule.now (shop_of doc.now) usable.now (shop_fault_text_of fault)) }
 {
     let rule = ShopRule::parse(rule)?;
-    let shop = Shop::of_doc(alloc, doc, usable)?;
+    let shop = Shop::of_doc(alloc, doc.document(), usable)?;
     // the shop's facts, on which the proof rests
     let _machines = shop.machines();
     let schedule = giffler(alloc, &shop, rule)?;
@@ -68,18 +68,19 @@ fn shop_schedule(
 }
 
 // Returns the schedule of a project's plan, or the line of its refusal.
-fn of_project(
+fn of_project<'f>(
     alloc: Global,
+    files: &'f mut Files,
     bound: &BoundPlan,
     rule: &str,
-) -> Result<Result<Scheduled, String>, BookFault>
+) -> Result<Result<Scheduled<'f>, String>, BookFault>
     requires { bound.now.plan.kind ≡ PlanKind.Project }
     ensures made { IfOk result (λ r. MatchResult r (spec.IsScheduled bound.now rule.now)
         (λ line. spec.TellsUnscheduled bound.now rule.now (string_bytes line))) }
     ensures blamed { IfErr result
         (λ fault. fault ≡ Store → HasProject bound.now.plan → ⊥) }
 {
-    let project = lagged_project(alloc, &bound.plan)?;
+    let project = lagged_project(alloc, files, &bound.plan)?;
     let caps = capacities(alloc, &bound.places, project.avail())?;
     match project_schedule(alloc, &project, &caps, rule) {
         Ok(schedule) => Ok(Ok(Scheduled::Project(project, schedule))),
@@ -100,17 +101,18 @@ pub(crate) fn shop_fault_line(alloc: Global, fault: &ShopFault) -> Result<String
 }
 
 // Returns the schedule of a shop's plan, or the line of its refusal.
-fn of_shop(
+fn of_shop<'f>(
     alloc: Global,
+    files: &'f mut Files,
     bound: &BoundPlan,
     rule: &str,
-) -> Result<Result<Scheduled, String>, BookFault>
+) -> Result<Result<Scheduled<'f>, String>, BookFault>
     requires { bound.now.plan.kind ≡ PlanKind.Shop }
     ensures made { IfOk result (λ r. MatchResult r (spec.IsScheduled bound.now rule.now)
         (λ line. spec.TellsUnscheduled bound.now rule.now (string_bytes line))) }
     ensures blamed { IfErr result (λ fault. fault ≡ Store → HasShop bound.now.plan → ⊥) }
 {
-    let doc = read_shop_file(alloc, bound.plan.name.as_str(), &bound.plan.body)?;
+    let doc = read_shop_file(alloc, files, bound.plan.name.as_str(), &bound.plan.body)?;
     let usable = open_machines(alloc, &bound.places, doc.machines())?;
     match shop_schedule(alloc, &doc, &usable, rule) {
         Ok((shop, schedule)) => Ok(Ok(Scheduled::Shop(shop, schedule))),
@@ -119,18 +121,19 @@ fn of_shop(
 }
 
 /// Returns the schedule of a plan by the rule of this name, or the line of its refusal.
-pub(crate) fn schedule_of(
+pub(crate) fn schedule_of<'f>(
     alloc: Global,
+    files: &'f mut Files,
     bound: &BoundPlan,
     rule: &str,
-) -> Result<Result<Scheduled, String>, BookFault>
+) -> Result<Result<Scheduled<'f>, String>, BookFault>
     ensures made { IfOk result (λ r. MatchResult r (spec.IsScheduled bound.now rule.now)
         (λ line. spec.TellsUnscheduled bound.now rule.now (string_bytes line))) }
     ensures blamed { IfErr result
         (λ fault. fault ≡ Store → IsSoundPlan bound.now.plan → ⊥) }
 {
     match bound.plan.kind {
-        PlanKind::Project => of_project(alloc, bound, rule),
-        PlanKind::Shop => of_shop(alloc, bound, rule),
+        PlanKind::Project => of_project(alloc, files, bound, rule),
+        PlanKind::Shop => of_shop(alloc, files, bound, rule),
     }
 }

@@ -10,38 +10,46 @@ ghost use Rattle.plan_desk.specs.BookSteps.{Decides};
 use crate::answers::{bind_answer, calendar_answer, lag_answer};
 use crate::bodies::{bind_body, calendar_body, lag_body};
 use crate::change::{Change, Decision, without_change};
+use crate::document_refs::ProjectRef;
+use crate::files::Files;
 use crate::lookup::find_plan;
 use crate::plan_files::{read_project_file, read_shop_file};
 use crate::reply::{bad_body, bad_calendar, not_found};
 use crate::route_refusals::{bind_refusal, lag_refusal};
 use plan_gantt::{Calendar, calendar_fault_text};
-use plan_psplib::ProjectDoc;
 use plan_rows::{Book, BookFault, Kind, PlanKind, PlanRow};
 use std::alloc::Global;
 
 // The number of places of a plan: the resources of a project, the machines of a shop.
-fn places_of(alloc: Global, plan: &PlanRow) -> Result<u64, BookFault>
+fn places_of(alloc: Global, files: &mut Files, plan: &PlanRow) -> Result<u64, BookFault>
     ensures said { IfOk result (RowHasPlaces plan.now) }
     ensures blamed { IfErr result (λ fault. fault ≡ Store
         → (count : ℕ) → RowHasPlaces plan.now count → ⊥) }
 {
     match plan.kind {
-        PlanKind::Project => Ok(read_project_file(alloc, &plan.body)?.avail().len() as u64),
+        PlanKind::Project => {
+            let project = read_project_file(alloc, files, &plan.body)?;
+            Ok(project.avail().len() as u64)
+        }
         PlanKind::Shop => {
-            let shop = read_shop_file(alloc, plan.name.as_str(), &plan.body)?;
+            let shop = read_shop_file(alloc, files, plan.name.as_str(), &plan.body)?;
             Ok(shop.machines() as u64)
         }
     }
 }
 
 // The project in the file of a plan, without the lags of the desk. None for a shop.
-fn file_project(alloc: Global, plan: &PlanRow) -> Result<Option<ProjectDoc>, BookFault>
+fn file_project<'f>(
+    alloc: Global,
+    files: &'f mut Files,
+    plan: &PlanRow,
+) -> Result<Option<ProjectRef<'f>>, BookFault>
     ensures said { IfOk result (IsProjectOfRow plan.now) }
     ensures blamed { IfErr result (λ fault. fault ≡ Store
         → (count : ℕ) → RowHasPlaces plan.now count → ⊥) }
 {
     match plan.kind {
-        PlanKind::Project => Ok(Some(read_project_file(alloc, &plan.body)?)),
+        PlanKind::Project => Ok(Some(read_project_file(alloc, files, &plan.body)?)),
         PlanKind::Shop => Ok(None),
     }
 }
@@ -67,6 +75,7 @@ fn kind_alone(row: Option<(Kind, u64)>) -> Option<Kind>
 pub(crate) fn bind_code<B: Book>(
     book: &mut B,
     alloc: Global,
+    files: &mut Files,
     desk: &str,
     number: &str,
     body: &[u8],
@@ -77,7 +86,7 @@ pub(crate) fn bind_code<B: Book>(
     let Some(found) = find_plan(book, desk, number)? else {
         return Ok(without_change(not_found()));
     };
-    let count = places_of(alloc, &found.plan)?;
+    let count = places_of(alloc, files, &found.plan)?;
     let Some(body) = bind_body(alloc, found.plan.kind, count, body)? else {
         return Ok(without_change(bad_body()));
     };
@@ -129,6 +138,7 @@ pub(crate) fn set_calendar<B: Book>(
 pub(crate) fn set_lag<B: Book>(
     book: &mut B,
     alloc: Global,
+    files: &mut Files,
     desk: &str,
     number: &str,
     body: &[u8],
@@ -142,7 +152,7 @@ pub(crate) fn set_lag<B: Book>(
     let Some(body) = lag_body(alloc, body)? else {
         return Ok(without_change(bad_body()));
     };
-    let project = file_project(alloc, &found.plan)?;
+    let project = file_project(alloc, files, &found.plan)?;
     if let Some(refusal) = lag_refusal(body, project.as_ref()) {
         return Ok(without_change(refusal));
     }

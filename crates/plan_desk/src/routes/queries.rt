@@ -6,6 +6,7 @@ ghost use Rattle.plan_desk.specs.RulePages.{ByRule};
 ghost use Rattle.plan_desk.specs.BookSteps.{Decides};
 
 use crate::change::{Decision, without_change};
+use crate::files::Files;
 use crate::lookup::{find_bound, find_plan};
 use crate::pages::{RulePage, best_page, dates_page, rule_page};
 use crate::reply::not_found;
@@ -17,6 +18,7 @@ use std::alloc::Global;
 pub(crate) fn show_dates<B: Book>(
     book: &mut B,
     alloc: Global,
+    files: &mut Files,
     desk: &str,
     number: &str,
 ) -> Result<Decision<'static>, BookFault>
@@ -26,7 +28,7 @@ pub(crate) fn show_dates<B: Book>(
     let Some(found) = find_plan(book, desk, number)? else {
         return Ok(without_change(not_found()));
     };
-    let reply = dates_page(alloc, &found.plan)?;
+    let reply = dates_page(alloc, files, &found.plan)?;
     Ok(without_change(reply))
 }
 
@@ -34,6 +36,7 @@ pub(crate) fn show_dates<B: Book>(
 pub(crate) fn show_by_rule<B: Book>(
     book: &mut B,
     alloc: Global,
+    files: &mut Files,
     desk: &str,
     number: &str,
     page: RulePage,
@@ -45,7 +48,7 @@ pub(crate) fn show_by_rule<B: Book>(
     let Some(bound) = find_bound(book, alloc, desk, number)? else {
         return Ok(without_change(not_found()));
     };
-    let reply = rule_page(alloc, &bound, page, rule)?;
+    let reply = rule_page(alloc, files, &bound, page, rule)?;
     Ok(without_change(reply))
 }
 
@@ -54,6 +57,7 @@ pub(crate) fn show_best<B: Book>(
     book: &mut B,
     alloc: Global,
     memo: &mut Memo,
+    files: &mut Files,
     desk: &str,
     number: &str,
     budget: &str,
@@ -64,6 +68,6 @@ pub(crate) fn show_best<B: Book>(
     let Some(bound) = find_bound(book, alloc, desk, number)? else {
         return Ok(without_change(not_found()));
     };
-    let reply = best_page(alloc, memo, &bound, budget)?;
+    let reply = best_page(alloc, memo, files, &bound, budget)?;
     Ok(without_change(reply))
 }

@@ -4,7 +4,7 @@ use Rattle.plan_psplib.specs.Project as files
 use Rattle.plan_orlib.proofs.NameLemmas.{mapped}
 use Rattle.plan_rows.specs.declared.fault.BookFault.TheVariants.{Store}
 use Rattle.plan_desk.proofs.FileLemmas.{refused_for_memory}
-use Rattle.plan_desk.proofs.plan_files.read_project_file.Goals as goal
+use Rattle.plan_desk.proofs.plan_files.project_of_body.Goals as goal
 
 pub returns-clause-blamed : goal.returns-clause-blamed
 returns-clause-blamed c =
