@@ -1,20 +1,15 @@
 //! How much of a request has arrived on a connection. Nothing is read.
 
-ghost use Rattle.std.specs.Prelude.{◌≤◌, length};
-
-use libc::net::{POLLRDHUP, poll};
-use libc::types::pollfd;
 use plan_http::request_size;
 use std::io::{Error, ErrorKind};
 use std::net::TcpStream;
-use std::os::fd::AsRawFd;
 
 // The greatest number of bytes of a head.
 const HEAD_LIMIT: usize = 8192;
 
-// The number of bytes of a longer request that are awaited. The system stores as many for each
-// connection.
-const MOST_AWAITED: usize = 49_152;
+/// The number of bytes of a longer request that are awaited. The system stores as many for each
+/// connection.
+pub(crate) const MOST_AWAITED: usize = 49_152;
 
 /// How much of a request has arrived.
 #[derive(Clone, Copy, PartialEq, Eq)]
@@ -38,46 +33,35 @@ fn without_bytes(error: &Error) -> Arrival {
 }
 
 // Whether this many bytes have arrived.
-fn has_arrived(stream: &TcpStream, count: usize) -> bool {
-    let mut bytes = [0; MOST_AWAITED];
-    match stream.peek(&mut bytes) {
+fn has_arrived(stream: &TcpStream, room: &mut [u8], count: usize) -> bool {
+    match stream.peek(room) {
         Ok(arrived) => arrived >= count,
         Err(_) => false,
     }
 }
 
-// Whether the client sends no more: it has closed its side, or the connection failed.
-fn has_ended(stream: &TcpStream) -> bool {
-    let mut polled = [pollfd {
-        fd: stream.as_raw_fd(),
-        events: POLLRDHUP,
-        revents: 0,
-    }];
-    poll(&mut polled, 0) > 0
-}
-
-// How much has arrived of a request that begins with these bytes.
-fn arrival_behind(stream: &TcpStream, front: &[u8]) -> Arrival
-    requires { length front.now ≤ 8192 }
-{
-    match request_size(front) {
-        Some(size) if size <= front.len() => Arrival::Whole,
-        Some(size) if size <= MOST_AWAITED && has_arrived(stream, size) => Arrival::Whole,
-        Some(size) if size > MOST_AWAITED && has_arrived(stream, MOST_AWAITED) => Arrival::Enough,
+// How much has arrived of a request of this size, if it is known. The first bytes are there.
+fn arrival_of(stream: &TcpStream, room: &mut [u8], front: usize, size: Option<usize>) -> Arrival {
+    match size {
+        Some(size) if size <= front => Arrival::Whole,
+        Some(size) if size <= MOST_AWAITED && has_arrived(stream, room, size) => Arrival::Whole,
+        Some(size) if size > MOST_AWAITED && has_arrived(stream, room, MOST_AWAITED) => {
+            Arrival::Enough
+        }
         _ => Arrival::Part,
     }
 }
 
-/// Returns how much has arrived on a connection whose reads don't block.
-pub(crate) fn arrival_on(stream: &TcpStream) -> Arrival {
-    let mut front = [0; HEAD_LIMIT];
-    let arrival = match stream.peek(&mut front) {
+/// Returns how much has arrived on a connection with an event, so that a peek doesn't wait. `room`
+/// is for the bytes, and has MOST_AWAITED.
+pub(crate) fn arrival_on(stream: &TcpStream, room: &mut [u8]) -> Arrival {
+    let most = HEAD_LIMIT.min(room.len());
+    match stream.peek(&mut room[..most]) {
         Ok(0) => Arrival::Whole,
-        Ok(count) => arrival_behind(stream, &front[..count]),
+        Ok(count) => {
+            let size = request_size(&room[..count]);
+            arrival_of(stream, room, count, size)
+        }
         Err(error) => without_bytes(&error),
-    };
-    if arrival == Arrival::Part && has_ended(stream) {
-        return Arrival::Whole;
     }
-    arrival
 }

@@ -16,8 +16,8 @@ const LONGEST_TIME: u64 = 5;
 
 const MOST_READS: u32 = 4096;
 
-// The number of reads of one connection before the next one.
-const READS: u32 = 16;
+// The number of bytes of a read.
+const PIECE: usize = 8192;
 
 /// A connection after its response. What its client sends is read and discarded for a while, because
 /// closing a connection with unread bytes could destroy the response.
@@ -27,19 +27,21 @@ pub(crate) struct Answered {
     since: Instant,
     heard: Instant,
     reads: u32,
+    // Whether a read doesn't wait.
+    is_ready: bool,
 }
 
 impl Answered {
     // Ends the response.
     fn new(rt: &HostRuntime, stream: TcpStream) -> io::Result<Answered> {
         stream.shutdown(Shutdown::Write)?;
-        stream.set_nonblocking(true)?;
         let now = Instant::now(rt)?;
         Ok(Answered {
             stream,
             since: now,
             heard: now,
             reads: 0,
+            is_ready: false,
         })
     }
 
@@ -55,19 +57,22 @@ impl Answered {
             || self.reads >= MOST_READS
     }
 
-    // Reads and discards bytes. Returns whether the connection is to be closed.
-    fn is_done(&mut self, now: Instant) -> bool {
-        let mut rest = [0; 8192];
-        for _ in 0..READS {
-            let mut reader = &self.stream;
-            match reader.read(&mut rest) {
-                Ok(0) => return true,
-                Ok(_) => self.heard = now,
-                Err(error) if error.kind() == ErrorKind::WouldBlock => return self.is_over(now),
-                Err(_) => return true,
-            }
-            self.reads = self.reads.saturating_add(1);
+    // Reads and discards bytes, and returns whether their end or a limit is reached. `room` is for
+    // the bytes.
+    fn is_done(&mut self, now: Instant, room: &mut [u8]) -> bool {
+        if !self.is_ready {
+            return self.is_over(now);
         }
+        self.is_ready = false;
+        let most = PIECE.min(room.len());
+        let mut reader = &self.stream;
+        match reader.read(&mut room[..most]) {
+            Ok(0) => return true,
+            Ok(_) => self.heard = now,
+            Err(error) if error.kind() == ErrorKind::WouldBlock => {}
+            Err(_) => return true,
+        }
+        self.reads = self.reads.saturating_add(1);
         self.is_over(now)
     }
 }
@@ -90,6 +95,10 @@ impl Closing {
         self.answered.is_empty()
     }
 
+    pub(crate) fn len(&self) -> usize {
+        self.answered.len()
+    }
+
     /// Returns the connections.
     pub(crate) fn list(&self) -> &[Answered] {
         &self.answered
@@ -104,13 +113,9 @@ impl Closing {
         true
     }
 
-    /// Ends the response on a connection, and closes it if its client has closed it.
+    /// Ends the response on a connection.
     pub(crate) fn push(&mut self, rt: &HostRuntime, stream: TcpStream) -> io::Result<()> {
-        let mut connection = Answered::new(rt, stream)?;
-        let now = connection.since;
-        if connection.is_done(now) {
-            return Ok(());
-        }
+        let connection = Answered::new(rt, stream)?;
         if self.answered.len() >= MOST_CLOSING {
             let _oldest = self.answered.remove(0);
         }
@@ -120,19 +125,26 @@ impl Closing {
         }
     }
 
+    /// Notes whether the connection at this place has an event.
+    pub(crate) fn note(&mut self, place: usize, is_ready: bool) {
+        if let Some(connection) = self.answered.get_mut(place) {
+            connection.is_ready = is_ready;
+        }
+    }
+
     // Reads and discards bytes of the connection at this place, and returns whether it stays open.
-    fn is_kept(&mut self, place: usize, now: Instant) -> bool {
+    fn is_kept(&mut self, place: usize, now: Instant, room: &mut [u8]) -> bool {
         match self.answered.get_mut(place) {
-            Some(connection) => !connection.is_done(now),
+            Some(connection) => !connection.is_done(now, room),
             None => true,
         }
     }
 
     /// Reads and discards bytes, and closes the connections that are done.
-    pub(crate) fn drain(&mut self, now: Instant) {
+    pub(crate) fn drain(&mut self, now: Instant, room: &mut [u8]) {
         let mut place = 0;
         for _ in 0..self.answered.len() {
-            if self.is_kept(place, now) {
+            if self.is_kept(place, now, room) {
                 place = place.saturating_add(1);
             } else if place < self.answered.len() {
                 let _done = self.answered.remove(place);

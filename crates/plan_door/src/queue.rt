@@ -1,8 +1,8 @@
 //! The queue of accepted connections, until their requests have arrived.
 
-use crate::arrival::{Arrival, arrival_on};
+use crate::arrival::{Arrival, MOST_AWAITED, arrival_on};
 use crate::closing::Closing;
-use libc::net::{POLLIN, POLLRDHUP, poll};
+use libc::net::{POLLERR, POLLHUP, POLLIN, POLLRDHUP, poll};
 use libc::types::pollfd;
 use std::alloc::{AllocError, Global};
 use std::io;
@@ -16,16 +16,22 @@ const MOST_PENDING: usize = 64;
 // How long a connection may send nothing before it is closed, in seconds.
 const LONGEST_SILENCE: u64 = 10;
 
-// How long a wait lasts at most, in milliseconds: if a request has arrived in part, and otherwise.
-const SHORT_WAIT: i32 = 2;
+// How long a wait lasts at most, in milliseconds, if there are connections; else it has no limit.
+const LONGEST_WAIT: u64 = 100;
 
-const LONG_WAIT: i32 = 100;
+const NO_LIMIT: i32 = -1;
 
-// The number of sockets that are polled: the queued connections, those after their responses, and
-// the listener.
+// How often a part of a request is looked at again: after a part of the time since its first byte,
+// between these times in milliseconds.
+const LOOKS: u64 = 8;
+
+const SHORTEST_PAUSE: u64 = 1;
+
+const LONGEST_PAUSE: u64 = 50;
+
+// The number of sockets that are polled: the listener, the queued connections and those after their
+// responses.
 const MOST_POLLED: usize = 129;
-
-const LISTENER: usize = 128;
 
 // How long a request may be read that didn't arrive in time, in milliseconds.
 const LEAST_LEFT: u64 = 10;
@@ -67,28 +73,73 @@ struct Pending {
     stream: TcpStream,
     since: Instant,
     arrival: Arrival,
-    // The time when data was first seen.
+    // The time when data was first seen, and the time of the last look.
     begun: Option<Instant>,
+    looked: Instant,
+    // Its events: whether a look doesn't wait, and whether its client sends no more.
+    is_ready: bool,
+    is_ended: bool,
+}
+
+// The pause after a look at a part of a request that then began so long ago, in milliseconds.
+fn pause(age: Duration) -> u64 {
+    match u64::try_from(age.as_millis()) {
+        Ok(age) => (age / LOOKS).clamp(SHORTEST_PAUSE, LONGEST_PAUSE),
+        Err(_) => LONGEST_PAUSE,
+    }
 }
 
 impl Pending {
-    // Prepares a connection for the queue: reads on it don't block.
+    // A connection for the queue.
     fn new(rt: &HostRuntime, stream: TcpStream) -> io::Result<Pending> {
-        stream.set_nonblocking(true)?;
+        let now = Instant::now(rt)?;
         Ok(Pending {
             stream,
-            since: Instant::now(rt)?,
+            since: now,
             arrival: Arrival::Nothing,
             begun: None,
+            looked: now,
+            is_ready: false,
+            is_ended: false,
         })
     }
 
+    // Whether enough has arrived.
+    fn has_enough(&self) -> bool {
+        self.arrival == Arrival::Whole || self.arrival == Arrival::Enough
+    }
+
+    // How long its next look can wait, in milliseconds.
+    fn wait(&self, now: Instant) -> u64 {
+        let Some(begun) = self.begun else {
+            return LONGEST_WAIT;
+        };
+        if self.has_enough() {
+            return 0;
+        }
+        let pause = Duration::from_millis(pause(self.looked.duration_since(begun)));
+        let left = pause.saturating_sub(now.duration_since(self.looked));
+        u64::try_from(left.as_micros().div_ceil(1000)).unwrap_or(LONGEST_WAIT)
+    }
+
+    // What has arrived.
+    fn arrived(&self, room: &mut [u8]) -> Arrival {
+        let arrival = arrival_on(&self.stream, room);
+        if arrival == Arrival::Part && self.is_ended {
+            return Arrival::Whole;
+        }
+        arrival
+    }
+
     // Looks at what has arrived, unless it is enough.
-    fn look(&mut self, now: Instant) {
-        if self.arrival == Arrival::Whole || self.arrival == Arrival::Enough {
+    fn look(&mut self, now: Instant, room: &mut [u8]) {
+        let is_due = self.begun.is_some() && self.wait(now) == 0;
+        if self.has_enough() || !(self.is_ready || is_due) {
             return;
         }
-        self.arrival = arrival_on(&self.stream);
+        self.is_ready = false;
+        self.looked = now;
+        self.arrival = self.arrived(room);
         if self.begun.is_none() && self.arrival != Arrival::Nothing {
             self.begun = Some(now);
         }
@@ -128,13 +179,23 @@ impl Pending {
         }
     }
 
+    // The events to poll for: the first bytes, or the end behind a part.
     fn polled(&self) -> pollfd {
+        if self.has_enough() {
+            return polled(-1, 0);
+        }
         let events = if self.begun.is_none() {
-            POLLIN
+            POLLIN | POLLRDHUP
         } else {
             POLLRDHUP
         };
         polled(self.stream.as_raw_fd(), events)
+    }
+
+    // Notes its events.
+    fn note(&mut self, events: i16) {
+        self.is_ready = events != 0;
+        self.is_ended = events & (POLLRDHUP | POLLHUP | POLLERR) != 0;
     }
 }
 
@@ -152,19 +213,22 @@ fn polled(fd: RawFd, events: i16) -> pollfd {
 pub(crate) struct Queue {
     pending: Vec<Pending>,
     closing: Closing,
+    // The polled sockets, and the bytes of the last look.
+    sockets: Vec<pollfd>,
+    room: Vec<u8>,
 }
 
 impl Queue {
     /// Returns an empty queue with capacity for all connections.
     pub(crate) fn new(alloc: Global) -> Result<Queue, AllocError> {
+        let mut room = Vec::new(alloc);
+        room.resize(MOST_AWAITED, 0)?;
         Ok(Queue {
             pending: Vec::with_capacity(alloc, MOST_PENDING)?,
             closing: Closing::new(alloc)?,
+            sockets: Vec::with_capacity(alloc, MOST_POLLED)?,
+            room,
         })
-    }
-
-    pub(crate) fn is_empty(&self) -> bool {
-        self.pending.is_empty() && self.closing.is_empty()
     }
 
     // The oldest connection that has sent nothing.
@@ -177,43 +241,40 @@ impl Queue {
         None
     }
 
-    // Closes the oldest connection that has sent nothing, else the oldest one.
-    fn close_oldest(&mut self) {
+    // Closes the oldest connection that has sent nothing, else the oldest one, and returns whether
+    // there was one.
+    fn close_oldest(&mut self) -> bool {
         let place = self.oldest_silent().unwrap_or(0);
-        let _oldest = self.take(place);
+        self.take(place).is_some()
     }
 
-    // Keeps a descriptor free for the next connection. Returns whether no queued connection was
-    // closed.
-    fn has_spare(&mut self) -> bool {
-        let Some(newest) = self.pending.last() else {
-            return true;
-        };
-        if newest.stream.try_clone().is_ok() || self.closing.close_oldest() {
-            return true;
+    /// Frees a descriptor: closes a connection after its response, else one that waits. Returns None
+    /// if there is none, else whether none is lost.
+    pub(crate) fn free(&mut self) -> Option<bool> {
+        if self.closing.close_oldest() {
+            return Some(true);
         }
-        self.close_oldest();
-        false
+        if self.close_oldest() {
+            return Some(false);
+        }
+        None
     }
 
-    /// Queues a connection, and returns whether no connection was lost. If the queue is full, or no
-    /// descriptor is left, the oldest one that has sent nothing is closed, else the oldest one.
+    /// Queues a connection, and returns whether no connection was lost. If the queue is full, the
+    /// oldest one that has sent nothing is closed, else the oldest one.
     pub(crate) fn push(&mut self, rt: &HostRuntime, stream: TcpStream) -> bool {
         let Ok(connection) = Pending::new(rt, stream) else {
             return false;
         };
-        let is_full = self.is_full();
-        if is_full {
-            self.close_oldest();
-        }
-        self.pending.push(connection).is_ok() && self.has_spare() && !is_full
+        let is_lost = self.is_full() && self.close_oldest();
+        self.pending.push(connection).is_ok() && !is_lost
     }
 
     // Looks at what has arrived on each connection.
     fn look(&mut self, now: Instant) {
         for place in 0..self.pending.len() {
             if let Some(connection) = self.pending.get_mut(place) {
-                connection.look(now);
+                connection.look(now, &mut self.room);
             }
         }
     }
@@ -254,7 +315,7 @@ impl Queue {
     /// oldest one with the first bytes of a long request. It also reads what clients send after
     /// their responses.
     pub(crate) fn pop(&mut self, now: Instant, patience: u32) -> Option<Next> {
-        self.closing.drain(now);
+        self.closing.drain(now, &mut self.room);
         self.look(now);
         let place = match self.oldest(Rank::Whole, now, patience) {
             Some(place) => place,
@@ -300,36 +361,79 @@ impl Queue {
     }
 
     // How long a wait lasts at most, in milliseconds.
-    fn longest_wait(&self) -> i32 {
+    fn longest_wait(&self, now: Instant) -> i32 {
+        if self.pending.is_empty() && self.closing.is_empty() {
+            return NO_LIMIT;
+        }
+        let mut wait = LONGEST_WAIT;
         for connection in &self.pending {
-            if connection.begun.is_some() {
-                return SHORT_WAIT;
-            }
+            wait = wait.min(connection.wait(now));
         }
-        LONG_WAIT
+        i32::try_from(wait).unwrap_or(0)
     }
 
-    // Waits until a socket has an event.
-    fn poll(&self, listener: RawFd) {
-        let none = polled(-1, 0);
-        let mut sockets = [none; MOST_POLLED];
-        for (place, connection) in self.pending.iter().enumerate() {
-            if let Some(socket) = sockets.get_mut(place) {
-                *socket = connection.polled();
-            }
+    // Lists the sockets to poll: the listener, the queued connections,
+    fn list(&mut self, listener: RawFd) -> Result<(), AllocError> {
+        self.sockets.clear();
+        self.sockets.push(polled(listener, POLLIN))?;
+        for connection in &self.pending {
+            self.sockets.push(connection.polled())?;
         }
-        for (place, connection) in self.closing.list().iter().enumerate() {
-            if let Some(socket) = sockets.get_mut(place.saturating_add(MOST_PENDING)) {
-                *socket = polled(connection.stream().as_raw_fd(), POLLIN);
-            }
-        }
-        sockets[LISTENER] = polled(listener, POLLIN);
-        let _events = poll(&mut sockets, self.longest_wait());
+        self.list_closing()
     }
 
-    /// Waits until a client connects or sends, for a moment at most.
-    pub(crate) fn wait(&self, listener: &TcpListener) {
-        self.poll(listener.as_raw_fd());
+    // and those after their responses.
+    fn list_closing(&mut self) -> Result<(), AllocError> {
+        for connection in self.closing.list() {
+            let socket = polled(connection.stream().as_raw_fd(), POLLIN);
+            self.sockets.push(socket)?;
+        }
+        Ok(())
+    }
+
+    // The events of the socket at this place.
+    fn events_at(&self, place: usize) -> i16 {
+        match self.sockets.get(place) {
+            Some(socket) => socket.revents,
+            None => 0,
+        }
+    }
+
+    // Notes the events of the queued connections,
+    fn note(&mut self) {
+        for place in 0..self.pending.len() {
+            let events = self.events_at(place.saturating_add(1));
+            if let Some(connection) = self.pending.get_mut(place) {
+                connection.note(events);
+            }
+        }
+        let first = self.pending.len().saturating_add(1);
+        self.note_closing(first);
+    }
+
+    // and of those after their responses, from this place on.
+    fn note_closing(&mut self, first: usize) {
+        for place in 0..self.closing.len() {
+            let events = self.events_at(first.saturating_add(place));
+            self.closing.note(place, events != 0);
+        }
+    }
+
+    // Waits until a socket has an event, for so many milliseconds at most, and notes the events.
+    // Returns whether the listener has one.
+    fn poll(&mut self, listener: RawFd, wait: i32) -> bool {
+        if self.list(listener).is_err() || poll(&mut self.sockets, wait) < 0 {
+            return false;
+        }
+        self.note();
+        self.events_at(0) != 0
+    }
+
+    /// Waits until a client connects, sends or closes, for a moment at most. Returns whether one
+    /// connects.
+    pub(crate) fn wait(&mut self, listener: &TcpListener, now: Instant) -> bool {
+        let wait = self.longest_wait(now);
+        self.poll(listener.as_raw_fd(), wait)
     }
 
     /// Closes all connections: those after their responses once their clients have closed them, or
@@ -340,11 +444,12 @@ impl Queue {
             let Ok(now) = Instant::now(rt) else {
                 return;
             };
-            self.closing.drain(now);
+            self.closing.drain(now, &mut self.room);
             if self.closing.is_empty() {
                 return;
             }
-            self.poll(-1);
+            let wait = self.longest_wait(now);
+            let _client = self.poll(-1, wait);
         }
     }
 }

@@ -8,6 +8,7 @@ use crate::first_line::FirstLine;
 use crate::queue::Next;
 use plan_http::{Client, Trace};
 use plan_io::{DeviceFault, Sink, Tally};
+use std::cell::Cell;
 use std::io::{self, ErrorKind, Read, Write};
 use std::net::TcpStream;
 use std::time::{Duration, Instant};
@@ -22,6 +23,8 @@ struct Timer<'a> {
     rt: &'a HostRuntime,
     patience: u32,
     start: Option<Instant>,
+    // The timeout of the socket for its calls, if it is known.
+    set: Option<Duration>,
 }
 
 impl<'a> Timer<'a> {
@@ -31,6 +34,7 @@ impl<'a> Timer<'a> {
             (λ left. as_nanos left ≤ self.old.patience * 1_000_000_000) }
         ensures some { IfOk result (λ left. 1_000_000 ≤ as_nanos left) }
         ensures same { self.new.patience ≡ self.old.patience }
+        ensures set { self.new.set ≡ self.old.set }
         ensures begun { IfSome self.old.start (λ start. self.new.start ≡ Some start) }
     {
         let now = Instant::now(self.rt)?;
@@ -45,10 +49,13 @@ impl<'a> Timer<'a> {
     }
 }
 
+/// The socket of the connection that is served. Both of its sides use it.
+pub(crate) type Socket = Cell<Option<TcpStream>>;
+
 /// One side of a connection: the reads from a client, or the writes to it.
 #[derive(Drop)]
 pub struct Side<'a> {
-    stream: TcpStream,
+    socket: &'a Socket,
     timer: Timer<'a>,
     tally: Tally,
     // The bytes that its reads returned, and whether their end was seen.
@@ -68,7 +75,10 @@ fn read_in_time(timer: &mut Timer<'_>, stream: &TcpStream, buf: &mut [u8]) -> io
     ensures { ReadsAtMost result buf.new }
 {
     let left = timer.left()?;
-    stream.set_read_timeout(Some(left))?;
+    if timer.set != Some(left) {
+        stream.set_read_timeout(Some(left))?;
+        timer.set = Some(left);
+    }
     let mut reader = stream;
     reader.read(buf)
 }
@@ -78,9 +88,36 @@ fn write_in_time(timer: &mut Timer<'_>, stream: &TcpStream, bytes: &[u8]) -> io:
     ensures { WritesAtMost result bytes.now }
 {
     let left = timer.left()?;
-    stream.set_write_timeout(Some(left))?;
+    if timer.set != Some(left) {
+        stream.set_write_timeout(Some(left))?;
+        timer.set = Some(left);
+    }
     let mut writer = stream;
     writer.write(bytes)
+}
+
+// Reads from the socket before the deadline.
+fn read_on(timer: &mut Timer<'_>, socket: &Socket, buf: &mut [u8]) -> io::Result<usize>
+    ensures { ReadsAtMost result buf.new }
+{
+    let Some(stream) = socket.take() else {
+        return Err(io::Error::from(ErrorKind::NotConnected));
+    };
+    let outcome = read_in_time(timer, &stream, buf);
+    socket.set(Some(stream));
+    outcome
+}
+
+// Writes to the socket before the deadline.
+fn write_on(timer: &mut Timer<'_>, socket: &Socket, bytes: &[u8]) -> io::Result<usize>
+    ensures { WritesAtMost result bytes.now }
+{
+    let Some(stream) = socket.take() else {
+        return Err(io::Error::from(ErrorKind::NotConnected));
+    };
+    let outcome = write_in_time(timer, &stream, bytes);
+    socket.set(Some(stream));
+    outcome
 }
 
 impl<'a> Client for Side<'a> {
@@ -102,7 +139,7 @@ impl<'a> Client for Side<'a> {
         if self.is_ended {
             return self.tally.count(Ok::<usize, DeviceFault>(0));
         }
-        let outcome = read_in_time(&mut self.timer, &self.stream, buf);
+        let outcome = read_on(&mut self.timer, self.socket, buf);
         self.heard = Instant::now(self.timer.rt).unwrap_or(self.heard);
         match outcome {
             Ok(count) => {
@@ -128,7 +165,7 @@ impl<'a> Sink for Side<'a> {
     ghost taken = { λ side. Some side.sent.bytes };
 
     fn write(&mut self, bytes: &[u8]) -> Result<usize, DeviceFault> {
-        match write_in_time(&mut self.timer, &self.stream, bytes) {
+        match write_on(&mut self.timer, self.socket, bytes) {
             Ok(count) => {
                 self.bytes = self.bytes.saturating_add(count as u64);
                 self.sent = self.sent.with(&bytes[..count]);
@@ -139,24 +176,35 @@ impl<'a> Sink for Side<'a> {
     }
 }
 
-fn side_of(
-    rt: &HostRuntime,
-    stream: TcpStream,
-    patience: u32,
-    turn: Instant,
-    start: Option<Instant>,
-) -> Side<'_>
+/// What the sides of each connection have in common.
+#[derive(Clone, Copy)]
+pub(crate) struct Terms<'a> {
+    pub(crate) rt: &'a HostRuntime,
+    pub(crate) socket: &'a Socket,
+    /// The timeout that the connections have from the listener, if it could be set.
+    pub(crate) set: Option<Duration>,
+}
+
+impl<'a> Terms<'a> {
+    pub(crate) fn new(rt: &'a HostRuntime, socket: &'a Socket, set: Option<Duration>) -> Terms<'a> {
+        Terms { rt, socket, set }
+    }
+}
+
+fn side_of(terms: Terms<'_>, patience: u32, turn: Instant, start: Option<Instant>) -> Side<'_>
     ensures untouched { result.tally.calls ≡ 0 }
     ensures fresh { (result.received.bytes ≡ []) × (result.is_ended ≡ false)
         × (result.sent.bytes ≡ []) }
     ensures timed { result.timer.patience ≡ patience }
+    ensures set { result.timer.set ≡ terms.entry.set }
 {
     Side {
-        stream,
+        socket: terms.socket,
         timer: Timer {
-            rt,
+            rt: terms.rt,
             patience,
             start,
+            set: terms.set,
         },
         tally: Tally::new(),
         received: Trace::new(),
@@ -172,7 +220,7 @@ fn side_of(
 // Returns the two sides of the next connection before their first calls, each with a deadline of
 // `patience` seconds: the reader and the writer. The time of the reader may have begun before.
 pub(crate) fn both_sides(
-    rt: &HostRuntime,
+    terms: Terms<'_>,
     next: Next,
     patience: u32,
 ) -> io::Result<(Side<'_>, Side<'_>)>
@@ -183,14 +231,16 @@ pub(crate) fn both_sides(
         × (sides.1.sent.bytes ≡ [])) }
     ensures timed { IfOk result
         (λ sides. (sides.0.timer.patience ≡ patience) × (sides.1.timer.patience ≡ patience)) }
+    ensures set { IfOk result
+        (λ sides. (sides.0.timer.set ≡ terms.entry.set)
+        × (sides.1.timer.set ≡ terms.entry.set)) }
 {
-    let turn = Instant::now(rt)?;
+    let turn = Instant::now(terms.rt)?;
     let start = next.start(turn, patience);
-    next.stream.set_nonblocking(false)?;
-    let writer = next.stream.try_clone()?;
+    terms.socket.set(Some(next.stream));
     Ok((
-        side_of(rt, next.stream, patience, turn, start),
-        side_of(rt, writer, patience, turn, None),
+        side_of(terms, patience, turn, start),
+        side_of(terms, patience, turn, None),
     ))
 }
 
@@ -219,10 +269,5 @@ impl<'a> Side<'a> {
             Ok(time) => time,
             Err(_) => Duration::from_secs(0),
         }
-    }
-
-    // Returns the socket.
-    pub(crate) fn into_stream(self) -> TcpStream {
-        self.stream
     }
 }

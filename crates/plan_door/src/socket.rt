@@ -1,6 +1,7 @@
 //! The connections of a socket.
 
-ghost use Rattle.std.specs.Prelude.{◌≡◌, ◌⊎◌, ◌↔◌, ◌+◌, ◌<◌, ◌≤◌, [], false, List, length, IsTrue, IfOk, OnOk, IsErrOf, IfErr};
+ghost use Rattle.std.specs.Prelude.{◌≡◌, ◌⊎◌, ◌↔◌, ◌+◌, ◌*◌, ◌<◌, ◌≤◌, [], false, List, length, IsTrue, IfOk, IfSome, OnOk, IsErrOf, IfErr};
+ghost use Rattle.std.specs.Duration.{as_nanos};
 ghost use Rattle.plan_http.specs.Answers.{Decision};
 ghost use Rattle.plan_door.specs.Serve.{MovedBy};
 ghost use Rattle.plan_door.specs.Turns.{Turn, misses_in, Runs};
@@ -9,13 +10,16 @@ use crate::fault::ServeFault;
 use crate::log::Log;
 use crate::queue::{Next, Queue};
 use crate::service::Service;
-use crate::side::{Side, both_sides};
+use crate::side::{Side, Socket, Terms, both_sides};
 use crate::visitors::{Visitors, serve_visitors};
+use libc::EMFILE;
 use plan_desk::{Book, Office};
 use plan_http::ConnEnd;
 use plan_io::{DeviceFault, Tally};
+use std::cell::Cell;
 use std::io::{self, ErrorKind};
 use std::net::{TcpListener, TcpStream};
+use std::os::fd::OwnedFd;
 use std::thread;
 use std::time::{Duration, Instant};
 
@@ -30,17 +34,15 @@ const MOST_DOUBLINGS: u32 = 10;
 // The listener and the queue, and the number of consecutive failed accepts.
 #[derive(Drop)]
 struct Acceptor<'a> {
-    rt: &'a HostRuntime,
+    terms: Terms<'a>,
     listener: &'a TcpListener,
     queue: Queue,
     failures: u32,
 }
 
 impl<'a> Acceptor<'a> {
-    // Accepts a connection. It blocks if the queue is empty; else it returns None if no client
-    // connects.
+    // Accepts a connection. It returns None if no client connects.
     fn accept(&self) -> io::Result<Option<TcpStream>> {
-        self.listener.set_nonblocking(!self.queue.is_empty())?;
         match self.listener.accept() {
             Err(error) if error.kind() == ErrorKind::WouldBlock => Ok(None),
             accepted => accepted.map(|(stream, _)| Some(stream)),
@@ -61,7 +63,7 @@ impl<'a> Acceptor<'a> {
             → self.new.failures ≡ self.old.failures + 1 }
     {
         let pause = PAUSE << self.failures.min(MOST_DOUBLINGS);
-        thread::sleep(self.rt, Duration::from_millis(pause));
+        thread::sleep(self.terms.rt, Duration::from_millis(pause));
         self.failures = self.failures.saturating_add(1);
     }
 
@@ -70,10 +72,27 @@ impl<'a> Acceptor<'a> {
         ensures again { self.new.failures ≡ 0 }
     {
         self.failures = 0;
-        if self.queue.push(self.rt, stream) {
+        if self.queue.push(self.terms.rt, stream) {
             return Ok(());
         }
         Err(io::Error::from(ErrorKind::TimedOut))
+    }
+
+    // Frees a descriptor, if none is left for a new connection. It fails if a connection is lost, or
+    // if the accept failed for another cause.
+    fn recover(&mut self, error: io::Error) -> io::Result<bool>
+        ensures counted { self.new.failures ≤ self.old.failures + 1 }
+        ensures accepted { OnOk result (self.new.failures ≤ self.old.failures) }
+    {
+        if error.raw_os_error() == Some(EMFILE) {
+            match self.queue.free() {
+                Some(true) => return Ok(true),
+                Some(false) => return Err(error),
+                None => {}
+            }
+        }
+        self.pause();
+        Err(error)
     }
 
     // Accepts and queues a connection, and returns whether there was one. It fails if one is lost or
@@ -88,29 +107,27 @@ impl<'a> Acceptor<'a> {
                 Ok(true)
             }
             Ok(None) => Ok(false),
-            Err(error) => {
-                self.pause();
-                Err(error)
-            }
+            Err(error) => self.recover(error),
         }
     }
 
-    // Polls the listener and the queue once: all clients that connect are queued before a turn, so
-    // that their time runs; if the queue is full or the last accept failed, after it. It returns
-    // None if no connection is ready yet, and fails if one is lost or an accept fails.
+    // Waits for an event once: all clients that connect are queued before a turn, so that their time
+    // runs; if the queue is full or the last accept failed, after it. It returns None if no
+    // connection is ready yet, and fails if one is lost or an accept fails.
     fn poll(&mut self, patience: u32) -> io::Result<Option<Next>>
         ensures counted { self.new.failures ≤ self.old.failures + 1 }
         ensures accepted { OnOk result (self.new.failures ≤ self.old.failures) }
     {
+        let is_called = self.queue.wait(self.listener, Instant::now(self.terms.rt)?);
         let is_deferred = self.failures > 0 || self.queue.is_full();
-        if !is_deferred && self.admit_one()? {
+        if is_called && !is_deferred && self.admit_one()? {
             return Ok(None);
         }
-        let now = Instant::now(self.rt)?;
+        let now = Instant::now(self.terms.rt)?;
         if let Some(next) = self.queue.pop(now, patience) {
             return Ok(Some(next));
         }
-        if is_deferred && self.admit_one()? {
+        if is_called && is_deferred && self.admit_one()? {
             return Ok(None);
         }
         if let Some(next) = self.queue.pop_late(now, patience) {
@@ -119,7 +136,6 @@ impl<'a> Acceptor<'a> {
         if self.queue.drop_silent(now) {
             return Err(io::Error::from(ErrorKind::TimedOut));
         }
-        self.queue.wait(self.listener);
         Ok(None)
     }
 
@@ -139,14 +155,14 @@ impl<'a> Acceptor<'a> {
 
     // Closes a connection that was served; after a response, once its client has closed it. The
     // time since its last read doesn't count for the queued connections.
-    fn release(&mut self, reader: Side<'_>, is_answered: bool) -> io::Result<()>
+    fn release(&mut self, since: Duration, is_answered: bool) -> io::Result<()>
         ensures { self.new.failures ≡ self.old.failures }
     {
-        self.queue.forgive(reader.since_heard());
-        if is_answered {
-            return self.queue.close(self.rt, reader.into_stream());
+        self.queue.forgive(since);
+        match self.terms.socket.take() {
+            Some(stream) if is_answered => self.queue.close(self.terms.rt, stream),
+            _ => Ok(()),
         }
-        Ok(())
     }
 
     // Returns the two sides of the next connection, each with a deadline of `patience` seconds.
@@ -163,7 +179,7 @@ impl<'a> Acceptor<'a> {
         ensures accepted { OnOk result (self.new.failures ≤ self.old.failures) }
     {
         let next = self.next(patience)?;
-        both_sides(self.rt, next, patience)
+        both_sides(self.terms, next, patience)
     }
 }
 
@@ -216,7 +232,7 @@ impl<'a> Visitors for SocketVisitors<'a> {
     fn dismiss(&mut self, reader: Side<'a>, writer: Side<'a>, end: ConnEnd) {
         self.log.write(&reader, &writer, end);
         let is_answered = matches!(end, ConnEnd::Replied(_));
-        let released = self.acceptor.release(reader, is_answered);
+        let released = self.acceptor.release(reader.since_heard(), is_answered);
         let _ended = self.ended.count(released);
     }
 
@@ -225,9 +241,29 @@ impl<'a> Visitors for SocketVisitors<'a> {
     }
 }
 
+// Sets the timeouts that each connection has from the listener.
+fn set_timeouts(listener: &TcpListener, time: Duration) -> io::Result<()> {
+    let socket = TcpStream::from(OwnedFd::from(listener.try_clone()?));
+    socket.set_read_timeout(Some(time))?;
+    socket.set_write_timeout(Some(time))
+}
+
+// Prepares a listener, whose accepts then don't wait. Returns the timeout that each connection has
+// from it, if it could be set.
+fn prepare(listener: &TcpListener, patience: u32) -> Option<Duration>
+    ensures { IfSome result (λ time. as_nanos time ≡ patience * 1_000_000_000) }
+{
+    let _waits = listener.set_nonblocking(true);
+    let time = Duration::from_secs(u64::from(patience));
+    match set_timeouts(listener, time) {
+        Ok(()) => Some(time),
+        Err(_) => None,
+    }
+}
+
 // The connections of a socket before the first accept, with the service's deadline.
 fn socket_visitors<'a>(
-    rt: &'a HostRuntime,
+    terms: Terms<'a>,
     listener: &'a TcpListener,
     queue: Queue,
     log: Log<'a>,
@@ -238,7 +274,7 @@ fn socket_visitors<'a>(
 {
     SocketVisitors {
         acceptor: Acceptor {
-            rt,
+            terms,
             listener,
             queue,
             failures: 0,
@@ -248,6 +284,39 @@ fn socket_visitors<'a>(
         tally: Tally::new(),
         ended: Tally::new(),
     }
+}
+
+// Serves the connections of a listener. The socket of each is kept in `socket` during its turn.
+fn serve_on<'a, B: Book>(
+    rt: &'a HostRuntime,
+    office: &mut Office<B>,
+    listener: &'a TcpListener,
+    socket: &'a Socket,
+    queue: Queue,
+    service: &Service<'_>,
+) -> Result<(), ServeFault>
+    ensures turns { OnOk result
+        ((turns : List Turn) × (length turns ≡ service.now.count)
+        × Runs B.shelf office.old office.new turns) }
+    ensures moves { OnOk result
+        ((decisions : List Decision) × (length decisions ≤ service.now.count)
+        × MovedBy B.shelf office.old decisions office.new) }
+    // It fails for one of two causes. Memory runs out before the first connection;
+    ensures memory { IsErrOf result ServeFault.Memory → office.new ≡ office.old }
+    // or 100 consecutive accepts fail, each in a turn of its own.
+    ensures closed { IsErrOf result ServeFault.Socket
+        → (turns : List Turn) × (length turns ≤ service.now.count)
+        × (MOST_FAILURES ≤ misses_in turns) × Runs B.shelf office.old office.new turns }
+    ensures which { IfErr result (λ e. (e ≡ ServeFault.Memory) ⊎ (e ≡ ServeFault.Socket)) }
+{
+    let Ok(log) = Log::new(rt, service.is_logged) else {
+        return Err(ServeFault::Memory);
+    };
+    let terms = Terms::new(rt, socket, prepare(listener, service.patience));
+    let mut visitors = socket_visitors(terms, listener, queue, log, service);
+    let served = serve_visitors(rt.alloc(), office, &mut visitors, service.count);
+    visitors.acceptor.queue.finish(rt);
+    served
 }
 
 /// Serves `service.count` connections of a socket, one after another: the oldest queued connection
@@ -277,11 +346,8 @@ pub fn serve_listener<'a, B: Book>(
     let Ok(queue) = Queue::new(rt.alloc()) else {
         return Err(ServeFault::Memory);
     };
-    let Ok(log) = Log::new(rt, service.is_logged) else {
-        return Err(ServeFault::Memory);
-    };
-    let mut visitors = socket_visitors(rt, listener, queue, log, service);
-    let served = serve_visitors(rt.alloc(), office, &mut visitors, service.count);
-    visitors.acceptor.queue.finish(rt);
+    let socket = Cell::new(None);
+    let served = serve_on(rt, office, listener, &socket, queue, service);
+    let _unserved = socket.into_inner();
     served
 }

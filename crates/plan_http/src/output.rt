@@ -9,16 +9,24 @@ use plan_io::{MOST_CALLS, OutputError, Sink};
 // The number of bytes of the first write: most responses fit.
 const ROOM: usize = 4096;
 
+// The same for short responses, because a buffer is set to zero first.
+const SHORT_ROOM: usize = 512;
+
+// The longest second text of a short response.
+const SHORT: usize = 256;
+
 // Copies a text and the part of a second text that fits, and returns the length of that part.
-fn join(room: &mut [u8; 4096], first: &[u8], second: &[u8]) -> usize
-    requires { length first.now ≤ 256 }
+fn join(room: &mut [u8], first: &[u8], second: &[u8]) -> usize
+    requires head { length first.now ≤ 256 }
+    requires room { 256 ≤ length room.old }
     ensures within { result ≤ length second.now }
-    ensures fits { length first.now + result ≤ 4096 }
+    ensures fits { length first.now + result ≤ length room.new }
+    ensures same { length room.new ≡ length room.old }
     ensures joined { take (length first.now + result) room.new ≡ first.now
         ++ take result second.now }
 {
     let start = first.len();
-    let count = second.len().min(ROOM - start);
+    let count = second.len().min(room.len() - start);
     room[..start].copy_from_slice(first);
     room[start..start + count].copy_from_slice(&second[..count]);
     count
@@ -68,6 +76,31 @@ fn send_parts<W: Sink>(writer: &mut W, first: &[u8], second: &[u8]) -> Result<()
     Err(OutputError { sent })
 }
 
+// Writes two texts, the first one and the beginning of the second one through a buffer.
+fn send_through<W: Sink>(
+    writer: &mut W,
+    room: &mut [u8],
+    first: &[u8],
+    second: &[u8],
+) -> Result<(), OutputError>
+    requires head { length first.now ≤ 256 }
+    requires room { 256 ≤ length room.old }
+    requires most { length room.old ≤ 4096 }
+    ensures calls { W.calls writer.new ≤ W.calls writer.old + most_calls }
+    ensures written { OnOk result
+        (Appends (W.taken writer.old) (W.taken writer.new) (first.now ++ second.now)) }
+    ensures fine { OnOk result (W.faults writer.new ≡ W.faults writer.old) }
+    ensures part { IfErr result (λ e. (e.sent < length (first.now ++ second.now))
+        × Appends (W.taken writer.old) (W.taken writer.new)
+        (take e.sent (first.now ++ second.now))) }
+    ensures failed { IfErr result (λ _.
+        HasFailed (W.calls writer.old) (W.calls writer.new)
+        (W.faults writer.old) (W.faults writer.new)) }
+{
+    let count = join(room, first, second);
+    send_parts(writer, &room[..first.len() + count], &second[count..])
+}
+
 /// Writes two texts with at most as many calls as for one text: in one write if both are short. A
 /// write of 0 bytes is repeated, a failed write isn't.
 pub(crate) fn send<W: Sink>(writer: &mut W, first: &[u8], second: &[u8]) -> Result<(), OutputError>
@@ -83,7 +116,10 @@ pub(crate) fn send<W: Sink>(writer: &mut W, first: &[u8], second: &[u8]) -> Resu
         HasFailed (W.calls writer.old) (W.calls writer.new)
         (W.faults writer.old) (W.faults writer.new)) }
 {
+    if second.len() <= SHORT {
+        let mut room = [0; SHORT_ROOM];
+        return send_through(writer, &mut room, first, second);
+    }
     let mut room = [0; ROOM];
-    let count = join(&mut room, first, second);
-    send_parts(writer, &room[..first.len() + count], &second[count..])
+    send_through(writer, &mut room, first, second)
 }

@@ -1,7 +1,7 @@
 use Rattle.std.proofs.Common.{arith}
 use Rattle.plan_door.specs.declared.socket.SocketVisitors.{SocketVisitors}
 use Rattle.plan_door.proofs.SocketLemmas.{failed_in_turns}
-use Rattle.plan_door.proofs.socket.serve_listener.Goals as goal
+use Rattle.plan_door.proofs.socket.serve_on.Goals as goal
 
 pub returns-clause-closed : goal.returns-clause-closed
 returns-clause-closed g c e =
