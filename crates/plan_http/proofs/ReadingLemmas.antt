@@ -129,3 +129,12 @@ nothing_more bytes front left s is_end came e end holds =
 -- a read that isn't the end returned a byte
 pub came_some : (came : ℕ) → nat_eq came 0 ≡ false → 0 < came
 came_some came is = grind (arith, nat_tests)
+
+-- the first read splits all bytes
+pub first_split : (bytes new : List ℕ) (had left : Option (List ℕ)) (came : ℕ) → had ≡ Some bytes
+    → ((all : List ℕ) → IsSplit all [] had → IsSplit all (take (0 + came) new) left × (came ≡ 0 → left ≡ Some []))
+    → IsSplit bytes (take came new) left × (came ≡ 0 → left ≡ Some [])
+first_split bytes new had left came is fill =
+    let after = fill bytes (record { more = bytes; left_is = is; whole = refl }) in
+    let same : 0 + came ≡ came = omega arith in
+    (subst (λ n. IsSplit bytes (take n new) left) same after.0, after.1)

@@ -1,8 +1,8 @@
 //! The head of a request, read in pieces of any size.
 
-ghost use Rattle.std.specs.Prelude.{◌≡◌, ℕ, ◌+◌, ◌<◌, ◌≤◌, ◌++◌, true, List, [], length, Some, IfOk};
+ghost use Rattle.std.specs.Prelude.{◌≡◌, ℕ, ◌+◌, ◌<◌, ◌≤◌, ◌++◌, true, List, [], length, take, IfOk};
 ghost use Rattle.plan_io.specs.Devices.{IsCounted};
-ghost use Rattle.plan_http.specs.Pieces.{Reads, JudgedOf, JudgedWithin, Fills, HeadOutcome, HeadWithin, HeadFaults};
+ghost use Rattle.plan_http.specs.Pieces.{Reads, IsSplit, JudgedOf, JudgedWithin, Fills, HeadOutcome, HeadWithin, HeadFaults};
 
 use crate::client::Client;
 use httparse::Status;
@@ -79,22 +79,25 @@ pub(crate) fn judge(front: &[u8], is_end: bool, headers: &mut [HeaderSpan]) -> J
     }
 }
 
-/// Reads until the head is complete, or no head is possible.
+/// Reads until the head is complete, or no head is possible. The buffer begins with `from` bytes
+/// that were read before.
 pub(crate) fn read_head<R: Client>(
     reader: &mut R,
     buf: &mut [u8],
+    from: usize,
     headers: &mut [HeaderSpan],
 ) -> HeadEnd
     requires room { length buf.old ≡ 8192 }
+    requires from { from < 8192 }
     requires fields { length headers.old ≡ 64 }
     ensures within { HeadWithin buf.new headers.new result }
     ensures outcome { Reads (R.known reader.old) (R.known reader.new)
-        (λ had left. (bytes : List ℕ) → had ≡ Some bytes
+        (λ had left. (bytes : List ℕ) → IsSplit bytes (take from buf.old) had
         → HeadOutcome bytes left buf.new headers.new result) }
     ensures calls { R.calls reader.new ≤ R.calls reader.old + 8193 }
     ensures faults { HeadFaults (R.faults reader.old) (R.faults reader.new) result }
 {
-    let mut filled = 0;
+    let mut filled = from;
     for _ in 0..8193_u32 {
         let Ok(came) = fill(reader, buf, filled) else {
             return HeadEnd::Failed;

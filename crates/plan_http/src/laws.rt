@@ -22,7 +22,7 @@ pub fn some_verdict(bytes: &[u8])
     let mut buf = [0; HEAD_LIMIT];
     let mut headers = [EMPTY_HEADER_SPAN; FIELD_LIMIT];
     let mut client = Listening::new(MemSource::new(bytes));
-    read_head(&mut client, &mut buf, &mut headers);
+    read_head(&mut client, &mut buf, 0, &mut headers);
 }
 
 /// A target has a route exactly if it is plain and its segments are those of the route's text,

@@ -1,6 +1,6 @@
 //! Requests, read from the bytes of a connection.
 
-ghost use Rattle.std.specs.Prelude.{◌≡◌, ℕ, ◌+◌, ◌≤◌, List, Some, None, bytes_eq, IfOk, option_map, length, All, codes};
+ghost use Rattle.std.specs.Prelude.{◌≡◌, ℕ, ◌+◌, ◌<◌, ◌≤◌, List, Some, None, bytes_eq, IfOk, option_map, length, take, All, codes};
 ghost use Rattle.httparse.specs.Grammar.{RequestHead};
 ghost use Rattle.httparse.specs.Spans.{IsWithin, IsHeaderWithin, span_bytes};
 ghost use Rattle.httparse.specs.Spans.{IsRequestWithin, IsRequestAt};
@@ -21,7 +21,7 @@ use crate::calls::call_at;
 use crate::checks::{Check, check_head};
 use crate::client::Client;
 use crate::fields::only_value;
-use crate::head::{FIELD_LIMIT, HEAD_LIMIT, HeadEnd, read_head};
+use crate::head::{FIELD_LIMIT, HEAD_LIMIT, HeadEnd, Judged, fill, judge, read_head};
 use crate::routes::{Route, Routes};
 use httparse::spans::{EMPTY_HEADER_SPAN, HeaderSpan, RequestSpans};
 use plan_desk::Request;
@@ -246,6 +246,44 @@ fn behind_head<R: Client>(
     }
 }
 
+// The number of bytes of the first read: most requests fit. A buffer is set to zero first.
+const FRONT: usize = 1024;
+
+// Copies the first bytes of a head to the buffer for all of them.
+fn copy_front(buf: &mut [u8], front: &[u8])
+    requires { length front.now ≤ length buf.old }
+    ensures same { length buf.new ≡ length buf.old }
+    ensures copied { take (length front.now) buf.new ≡ front.now }
+{
+    buf[..front.len()].copy_from_slice(front);
+}
+
+// Reads a head whose first bytes were read, and then the request.
+fn behind_front<R: Client>(
+    alloc: Global,
+    routes: &Routes,
+    reader: &mut R,
+    front: &[u8],
+    headers: &mut [HeaderSpan],
+) -> Asked
+    requires room { length front.now < 8192 }
+    requires fields { length headers.old ≡ 64 }
+    ensures asked { Reads (R.known reader.old) (R.known reader.new)
+        (λ had _. (bytes : List ℕ) → IsSplit bytes front.now had → IsAsked bytes result) }
+    ensures calls { R.calls reader.new ≤ R.calls reader.old + 8193 + longest_body }
+    ensures faults { AskedFaults (R.faults reader.old) (R.faults reader.new) result }
+{
+    let mut buf = [0; HEAD_LIMIT];
+    copy_front(&mut buf, front);
+    match read_head(reader, &mut buf, front.len(), headers) {
+        HeadEnd::Found(spans, filled) => {
+            behind_head(alloc, routes, reader, &buf[..filled], headers, &spans)
+        }
+        HeadEnd::Missing => fails(Check::Message, false),
+        HeadEnd::Failed => Asked::ReadFailed,
+    }
+}
+
 /// Reads the request of a connection, or returns its first failing check. It parses after each
 /// read. It reads on only while the head is incomplete, or if the head passes its checks and the
 /// body is incomplete. The body of a request without a route is read without memory.
@@ -255,13 +293,15 @@ pub fn read_request<R: Client>(alloc: Global, routes: &Routes, reader: &mut R) -
     ensures calls { R.calls reader.new ≤ R.calls reader.old + most_calls }
     ensures faults { AskedFaults (R.faults reader.old) (R.faults reader.new) result }
 {
-    let mut buf = [0; HEAD_LIMIT];
+    let mut front = [0; FRONT];
     let mut headers = [EMPTY_HEADER_SPAN; FIELD_LIMIT];
-    match read_head(reader, &mut buf, &mut headers) {
-        HeadEnd::Found(spans, filled) => {
-            behind_head(alloc, routes, reader, &buf[..filled], &headers, &spans)
-        }
-        HeadEnd::Missing => fails(Check::Message, false),
-        HeadEnd::Failed => Asked::ReadFailed,
+    let Ok(came) = fill(reader, &mut front, 0) else {
+        return Asked::ReadFailed;
+    };
+    let front = &front[..came];
+    match judge(front, came == 0, &mut headers) {
+        Judged::Whole(spans) => behind_head(alloc, routes, reader, front, &headers, &spans),
+        Judged::Hopeless => fails(Check::Message, false),
+        Judged::Unfinished => behind_front(alloc, routes, reader, front, &mut headers),
     }
 }
