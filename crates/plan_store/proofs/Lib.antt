@@ -29,6 +29,7 @@ pub mod UntrustedListLemmas
 pub mod HoldsLemmas
 pub mod LaidLemmas
 mod ReloadLemmas
+mod FoundLemmas
 pub mod PlanReviewLemmas
 pub mod VersionLemmas
 pub mod MigrateLemmas

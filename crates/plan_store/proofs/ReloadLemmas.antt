@@ -18,7 +18,7 @@ use Rattle.plan_store.specs.Layouts.{AreNumbered}
 use Rattle.plan_store.specs.Reload.{IsReread, IsStoreOf}
 
 -- the rows of each table that is listed rise by their numbers
-numbered_by : (v : View) (schema : Schema) → IsListed (v.trees catalog_tree) v.shape v.reals →
+pub numbered_by : (v : View) (schema : Schema) → IsListed (v.trees catalog_tree) v.shape v.reals →
     IsOrdered v.shape v.trees → IsSound schema v.trees →
     AllByRecursion (λ t. AreNumbered (v.trees t.tree)) schema.tables
 numbered_by v schema listed ordered sound =
@@ -26,7 +26,7 @@ numbered_by v schema listed ordered sound =
     (shaped_of v schema listed (objects_rise v listed ordered) sound.lists).tables
 
 -- trees list one schema
-one_schema : (a b : Schema) (trees : Trees) → IsSound a trees → IsSound b trees → a ≡ b
+pub one_schema : (a b : Schema) (trees : Trees) → IsSound a trees → IsSound b trees → a ≡ b
 one_schema a b trees s t = lists_once (trees catalog_tree) a b s.lists t.lists
 
 open_unbroken : (v : View) → (v.is_open ≡ false → IsTrue v.is_broken) → v.is_broken ≡ false → IsTrue v.is_open

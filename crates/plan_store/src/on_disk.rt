@@ -8,9 +8,11 @@ ghost use Rattle.sqlite.specs.Held.{IsNew};
 ghost use Rattle.sqlite.specs.Start.{FindsIn};
 ghost use Rattle.sqlite.specs.Files.{file_state, over_files};
 ghost use Rattle.plan_store.specs.declared.fault.StoreFault.TheVariants.{NotOurs, Version};
+ghost use Rattle.plan_store.specs.Reload.{IsInOrder};
 ghost use Rattle.plan_store.specs.BookCalls.{IsDurable};
 ghost use Rattle.plan_store.specs.OnDisk.{IsTakenFrom, IsRefusedFrom};
 
+use crate::adoption::take_tables;
 use crate::fault::{StoreFault, store_fault_of};
 use crate::leftover::Leftover;
 use crate::sql_book::SqlBook;
@@ -64,7 +66,8 @@ fn options(rt: &HostRuntime) -> Result<Options, StoreFault>
     Ok(options)
 }
 
-// Opens a connection to the files at a path.
+// Opens a connection to the files at a path. The rows of a sound file are in the order of their
+// numbers, so its tables needn't be reloaded.
 fn open_at<F: Start>(
     rt: &HostRuntime,
     path: &str,
@@ -73,6 +76,8 @@ fn open_at<F: Start>(
     ensures found { IfOk result (λ c. HasCleanDisk (file_state c)
         → FindsIn (image_at F.Start) (file_state c)) }
     ensures fresh { IfOk result IsNew }
+    ensures in_order { IfOk result (λ c. HasCleanDisk (file_state c)
+        → IsInOrder (file_state c)) }
     ensures ours { IfErr result (λ fault. fault ≢ NotOurs) }
     ensures known { IfErr result (λ fault. fault ≢ Version) }
 {
@@ -98,10 +103,10 @@ impl<F: Start> SqlBook<FileStore<FileFrom<F>>> {
         ensures durable { IfOk result (λ b. IsDurable (file_state b.conn)) }
         ensures refused { IfErr result (λ e. IsRefusedFrom F.Start e.0 e.1 over_files) }
     {
-        let conn = open_at(rt, path, start).map_err(|fault| (fault, None))?;
-        match SqlBook::adopt(rt.alloc(), conn) {
-            Ok(book) => Ok(book),
-            Err((fault, leftover)) => Err((fault, Some(leftover))),
+        let mut conn = open_at(rt, path, start).map_err(|fault| (fault, None))?;
+        match take_tables(rt.alloc(), &mut conn) {
+            Ok(kept) => Ok(SqlBook::on_tables(rt.alloc(), conn, kept)),
+            Err(fault) => Err((fault, Some(Leftover::Connection(conn)))),
         }
     }
 }

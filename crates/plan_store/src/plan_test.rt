@@ -57,7 +57,8 @@ impl<'a> PlanTest<'a> {
         ensures { (plans : List Plan) → HasSeen plans self.entry → IfOk result
             (λ found. MatchOption found
             (IsWorld (world_beside self.entry.review.beside plans) → ⊥)
-            (λ kept. IsWorld (world_beside self.entry.review.beside plans) × HoldsPlans plans kept)) }
+            (λ kept. IsWorld (world_beside self.entry.review.beside plans)
+            × HoldsPlans plans kept)) }
     {
         let PlanTest { review, kept } = self;
         if review.is_world()? {

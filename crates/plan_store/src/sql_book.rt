@@ -1,6 +1,6 @@
 //! A book in SQL.
 
-ghost use Rattle.std.specs.Prelude.{◌≡◌, ◌≢◌, ◌↔◌, false, IfOk, IfErr};
+ghost use Rattle.std.specs.Prelude.{◌≡◌, ◌≢◌, ◌↔◌, false, None, IfOk, IfErr};
 ghost use Rattle.sqlite_trees.specs.Tree.{Trees};
 ghost use Rattle.sqlite.specs.State.{HasCleanDisk, Survives};
 ghost use Rattle.sqlite.specs.Held.{state};
@@ -12,6 +12,7 @@ ghost use Rattle.plan_store.specs.Stores.{world_of};
 ghost use Rattle.plan_store.specs.BookCalls.{Stands, IsDurable};
 ghost use Rattle.plan_store.specs.Creation.{IsNewBook, IsNewStore, IsAsBefore};
 ghost use Rattle.plan_store.specs.Adoption.{IsTaken, IsRefused};
+ghost use Rattle.plan_store.specs.SqlBooks.{IsServing};
 
 use crate::adoption::take_tables;
 use crate::changes::{
@@ -105,6 +106,21 @@ impl<S: Alter> SqlBook<S> {
             next_plan: None,
             kept_plans: KeptPlans::new(alloc),
         })
+    }
+
+    /// Returns the book on a connection whose tables were adopted, with the plans in them.
+    pub(crate) fn on_tables(alloc: Global, conn: Connection<S>, kept_plans: KeptPlans) -> SqlBook<S>
+        requires { IsServing (state S.Store conn) None kept_plans }
+        ensures { result.conn ≡ conn }
+    {
+        SqlBook {
+            alloc,
+            conn,
+            calls: Calls::new(),
+            denials: Calls::new(),
+            next_plan: None,
+            kept_plans,
+        }
     }
 
     /// Returns the connection, outside a transaction.
