@@ -1,6 +1,7 @@
 //! A copy of all bytes of a source.
 
-ghost use Rattle.std.specs.Prelude.{◌≡◌, ◌+◌, ◌<◌, ◌⊎◌, ℕ, length, IfOk, OnOk, IfErr, IsErrOf, IsTrue};
+ghost use Rattle.std.specs.Prelude.{◌≡◌, ◌+◌, ◌<◌, ◌⊎◌, ℕ, length, IfOk, OnOk, IfErr, IsErrOf};
+ghost use Rattle.std.specs.Prelude.{IsTrue};
 ghost use Rattle.plan_io.specs.Devices.{HasFailed};
 ghost use Rattle.plan_copies.specs.Bytes.{AreCopied, AreMoved, AreMovedInPart, HasMissed};
 ghost use Rattle.std.specs.Io.KnownBytes.{IsAtEnd};

@@ -1,6 +1,7 @@
 //! The check of an office by a copy of its files, which are only read.
 
-ghost use Rattle.std.specs.Prelude.{◌≡◌, ◌⊎◌, ◌+◌, ◌≤◌, Some, [], ℕ, List, Option, IfOk, IfErr, IsErrOf, OnOk};
+ghost use Rattle.std.specs.Prelude.{◌≡◌, ◌⊎◌, ◌+◌, ◌≤◌, Some, [], ℕ, List, Option, IfOk, IfErr};
+ghost use Rattle.std.specs.Prelude.{IsErrOf, OnOk};
 ghost use Rattle.plan_io.specs.Devices.{most_calls, HasFailed};
 ghost use Rattle.plan_serve.specs.CheckRun.{IsPrinted, IsPrintedInPart};
 ghost use Rattle.plan_serve.specs.Reports.{IsReportFault};

@@ -29,7 +29,7 @@ pub(crate) fn line_fault(line: Result<String, AllocError>) -> CopyFault {
 }
 
 /// Returns a name without control characters: each is replaced by `?`.
-fn shown(alloc: Global, name: &str) -> Result<String, AllocError> {
+pub(crate) fn shown(alloc: Global, name: &str) -> Result<String, AllocError> {
     let mut text = String::new(alloc);
     for c in name.chars() {
         text.push(if c.is_control() { '?' } else { c })?;

@@ -1,7 +1,9 @@
 //! A copy of a database and its log as of one moment.
 
-ghost use Rattle.std.specs.Prelude.{◌≡◌, ◌≢◌, ◌+◌, ◌≤◌, ℕ, false, List, Option, IfOk, OnOk, IfErr, IsErrOf, IsTrue};
-ghost use Rattle.plan_copies.specs.Stable.{IsStable, ReadsHeader, CopiesDatabase, CopiesLog, CopiesLogOf};
+ghost use Rattle.std.specs.Prelude.{◌≡◌, ◌≢◌, ◌+◌, ◌≤◌, ℕ, false, List, Option, IfOk, OnOk, IfErr};
+ghost use Rattle.std.specs.Prelude.{IsErrOf, IsTrue};
+ghost use Rattle.plan_copies.specs.Stable.{IsStable, ReadsHeader, CopiesDatabase, CopiesLog};
+ghost use Rattle.plan_copies.specs.Stable.{CopiesLogOf};
 
 use crate::bytes::copy_all;
 use crate::fault::{PairFault, read_fault};

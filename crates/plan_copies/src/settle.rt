@@ -41,7 +41,7 @@ pub fn settle_from<F: Start, W: Sink>(
     start: F,
     writer: &mut W,
 ) -> ResultAndFiles<F>
-    // The closed files have the last commit of the office, and the result tells if they were closed.
+    // The closed files have the last commit of the office. The result tells if they were closed.
     ensures works { (done : Result (Unit {0}) ServeFault) × ChecksAtName F.Start looked
         (W.taken writer.old) (W.taken writer.new) done result.1 × IsSettled done result.1 result.0 }
     ensures closed { OnOk result.0 (AreClosed result.1) }
