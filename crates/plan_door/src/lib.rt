@@ -11,6 +11,7 @@ mod hints;
 mod key;
 mod log;
 mod over_book;
+mod pending;
 mod queue;
 mod replay;
 mod requests;
