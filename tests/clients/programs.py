@@ -161,6 +161,13 @@ def summary_by_shell(database):
     return f"{told[0].stdout}sha256 {hashlib.sha256(told[1].stdout.encode()).hexdigest()}\n".encode()
 
 
+def memory_line(database):
+    """What `plan check-office` and `plan serve --log` print of the file: its size and 1.1 times its
+    size with 20 MB, both rounded up."""
+    size = os.path.getsize(database) // 1000000 + 1
+    return f"{database}: {size} MB; a start needs about {size + size // 10 + 21} MB of memory\n"
+
+
 def sql(database, text):
     """Changes a file by the sqlite3 shell, and leaves no log behind."""
     same("sqlite3", told_by_sqlite(database, text).stderr, "")

@@ -62,7 +62,8 @@ class Store:
 
     def run(self, *words, given=b""):
         """Standard output of a command that doesn't fail."""
-        done = subprocess.run([PROGRAM, *words], input=given, capture_output=True, timeout=300)
+        more = {"capture_output": True, "timeout": 300, "env": {**os.environ, "PLAN_HINTS": "0"}}
+        done = subprocess.run([PROGRAM, *words], input=given, **more)
         found = done.returncode, done.stderr
         if found != (0, b""):
             differ(f"plan {words[0]}", found, (0, b""))

@@ -13,8 +13,8 @@ use plan_cli::{
     explain_run, explain_run_in, hint, run_on_file, run_on_files, template_run,
 };
 use plan_copies::{
-    CopyFault, backup_on_files, check_on_file, has_log, remove_stray_log, restore_on_files,
-    scratch_fault, scratch_folder, settle_on_file,
+    CopyFault, backup_on_files, check_on_file, has_log, memory_line, remove_stray_log,
+    restore_on_files, scratch_fault, scratch_folder, settle_on_file,
 };
 use plan_formats::{Format, error_json};
 use plan_io::{MemSink, Sink, StdSink, write_whole};
@@ -50,8 +50,15 @@ impl From<AllocError> for Misuse {
     }
 }
 
-// Checks an office by a copy in this folder, and prints its summary. A hint tells of tables of the
-// first version.
+// Prints the size of an office's file and the memory that a start needs.
+fn print_memory(rt: &HostRuntime, database: &str) {
+    if let Some(line) = memory_line(rt, database) {
+        let _ = eprintln!(rt; "{line}");
+    }
+}
+
+// Checks an office by a copy in this folder, and prints its summary. Unless PLAN_HINTS is 0, it
+// prints the memory that a start needs, and whether the tables have the first version.
 fn do_check_office(
     rt: &HostRuntime,
     database: &str,
@@ -64,14 +71,21 @@ fn do_check_office(
         Ok(is_first) => is_first,
         Err(fault) => return Err(scratch_fault(rt.alloc(), fault, database, folder)),
     };
-    if is_first && asked_hints(rt).unwrap_or(true) {
-        let _ = eprintln!(rt; "hint: {database} has version 1; `plan serve` converts it");
+    if asked_hints(rt).unwrap_or(true) {
+        print_memory(rt, database);
+        if is_first {
+            let _ = eprintln!(rt; "hint: {database} has version 1; `plan serve` converts it");
+        }
     }
     Ok(())
 }
 
-// Serves an office. At the end it prints the number of connections on a terminal or with the log.
+// Serves an office. With the log it first prints the memory that the start needs. At the end it
+// prints the number of connections on a terminal or with the log.
 fn do_serve(rt: &HostRuntime, service: &Service<'_>) -> Result<(), CopyFault> {
+    if service.is_logged {
+        print_memory(rt, service.database);
+    }
     serve_on_port(rt, service).map_err(CopyFault::Office)?;
     if service.is_logged || rt.stderr().is_terminal() {
         let count = service.count;
