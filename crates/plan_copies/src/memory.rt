@@ -15,8 +15,8 @@ fn megabytes(length: u64) -> u64
     length / 1_000_000 + 1
 }
 
-// Returns the memory that a start needs for a file of this size: the tables are in memory once while
-// they are tested.
+// Returns the memory that a start needs for a file of this size: the tables are in memory once
+// while they are tested.
 fn start_memory(size: u64) -> u64
     requires { size ≤ 1000000000000000 }
     ensures { IsStartMemory size result }

@@ -86,8 +86,8 @@ impl Queue {
         self.take(place).is_some()
     }
 
-    /// Frees a descriptor: closes a connection after its response, else one that waits. Returns None
-    /// if there is none, else whether none is lost.
+    /// Frees a descriptor: closes a connection after its response, else one that waits. Returns
+    /// None if there is none, else whether none is lost.
     pub(crate) fn free(&mut self) -> Option<bool> {
         if self.closing.close_oldest() {
             return Some(true);

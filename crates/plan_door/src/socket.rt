@@ -78,8 +78,8 @@ impl<'a> Acceptor<'a> {
         Err(io::Error::from(ErrorKind::TimedOut))
     }
 
-    // Frees a descriptor, if none is left for a new connection. It fails if a connection is lost, or
-    // if the accept failed for another cause.
+    // Frees a descriptor, if none is left for a new connection. It fails if a connection is lost,
+    // or if the accept failed for another cause.
     fn recover(&mut self, error: io::Error) -> io::Result<bool>
         ensures counted { self.new.failures ≤ self.old.failures + 1 }
         ensures accepted { OnOk result (self.new.failures ≤ self.old.failures) }
@@ -95,8 +95,8 @@ impl<'a> Acceptor<'a> {
         Err(error)
     }
 
-    // Accepts and queues a connection, and returns whether there was one. It fails if one is lost or
-    // the accept fails.
+    // Accepts and queues a connection, and returns whether there was one. It fails if one is lost
+    // or the accept fails.
     fn admit_one(&mut self) -> io::Result<bool>
         ensures counted { self.new.failures ≤ self.old.failures + 1 }
         ensures accepted { OnOk result (self.new.failures ≤ self.old.failures) }
@@ -111,8 +111,8 @@ impl<'a> Acceptor<'a> {
         }
     }
 
-    // Waits for an event once: all clients that connect are queued before a turn, so that their time
-    // runs; if the queue is full or the last accept failed, after it. It returns None if no
+    // Waits for an event once: all clients that connect are queued before a turn, so that their
+    // time runs; if the queue is full or the last accept failed, after it. It returns None if no
     // connection is ready yet, and fails if one is lost or an accept fails.
     fn poll(&mut self, patience: u32) -> io::Result<Option<Next>>
         ensures counted { self.new.failures ≤ self.old.failures + 1 }
