@@ -11,17 +11,24 @@ import { namesIn } from "./view.js";
 const NOT_HERE = "Not set on this computer; the office doesn't tell it.";
 const boxes = () => all("#marks input");
 
-async function changePlan(part, body, valueOf, words) {
+// the form leaves one reason for E03: the plan has no such place or arc
+async function changePlan(part, body, valueOf, words, lacking) {
   const { n } = page.plan;
-  const made = await command(planPath(n, part), "POST", body);
+  const made = await command(planPath(n, part), "POST", body).catch((fault) => {
+    if (fault.message === "E03 body" && lacking) fault.meaning = [lacking];
+    throw fault;
+  });
   rememberChange(n, part, valueOf(made));
   if (page.plan?.n === n) await openPlan(n);
   return words(made);
 }
 
+const placeWord = () => byId("place-word").textContent;
+
 const bind = ({ place, code }) => changePlan("bind", { place: Number(place), code },
   (made) => ({ at: made.place, code: made.code }),
-  (made) => `${byId("place-word").textContent} ${made.place} is ${made.code}.`);
+  (made) => `${placeWord()} ${made.place} is ${made.code}.`,
+  `The plan has no ${placeWord().toLowerCase()} ${place}.`);
 
 const setCalendar = ({ start }) => changePlan("calendar",
   { start, days: boxes().map(({ checked }) => Number(checked)).join("") },
@@ -31,7 +38,9 @@ const setCalendar = ({ start }) => changePlan("calendar",
 const setLag = ({ from, to, lag }) => changePlan("lag",
   { from: Number(from), to: Number(to), lag: Number(lag) },
   (made) => ({ at: `${made.from}-${made.to}`, lag: made.lag }),
-  (made) => `At least ${made.lag} between ${made.from} and ${made.to}.`);
+  (made) => `At least ${made.lag} between ${made.from} and ${made.to}.`,
+  `The project has no arc from activity ${from} to activity ${to}. A lag is set between an `
+    + "activity and its direct successor.");
 
 function isDeleteMeant() {
   const dialog = byId("question"), { desk, plan: { n } } = page;

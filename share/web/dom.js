@@ -3,7 +3,7 @@
 
 import { Lost, Refusal } from "./api.js";
 import { FAULTS } from "./faults.js";
-import { LIST_FAULTS } from "./words.js";
+import { LIST_FAULTS, PAGE_FAULTS } from "./words.js";
 
 export const byId = (name) => document.getElementById(name);
 export const fill = (name, ...nodes) => byId(name).replaceChildren(...nodes);
@@ -41,19 +41,19 @@ export function tableNode({ caption, heads, rows, foot, marks = [] }) {
     ...(foot ? [make("tfoot", {}, row(foot))] : []));
 }
 
-const MEANINGS = { ...FAULTS, ...LIST_FAULTS };
+const MEANINGS = { ...FAULTS, ...LIST_FAULTS, ...PAGE_FAULTS };
 
-/** Returns an error with the meaning of its last code. */
-export function refusalNode(line, lead = "") {
+/** Returns an error with its meaning, by default that of its last code. */
+export function refusalNode(line, lead = "", meaning = null) {
   const code = (line.match(/\b[A-Z]\d+\b/g) ?? []).findLast((found) => MEANINGS[found]);
   return make("div", { class: "refusal", role: "alert" },
     ...(lead ? [say(lead, { class: "lead" })] : []), make("strong", {}, line),
-    ...(MEANINGS[code] ?? []).map((words) => say(words)));
+    ...(meaning ?? MEANINGS[code] ?? []).map((words) => say(words)));
 }
 
 export function faultNodes(fault) {
-  const { message, lead, more = [] } = fault;
-  if (fault instanceof Refusal) return [refusalNode(message, lead), ...more];
+  const { message, lead, meaning, more = [] } = fault;
+  if (fault instanceof Refusal) return [refusalNode(message, lead, meaning), ...more];
   if (fault instanceof Lost) return [make("div", { class: "unanswered" }, refusalNode(message))];
   return [refusalNode(`The page failed: ${fault}`)];
 }

@@ -8,8 +8,10 @@ import {
   all, byId, clear, download, faultNodes, fill, letTake, make, onSubmit, put, refusalNode, say,
   tableNode, tell,
 } from "./dom.js";
+import { TEXTS } from "./handin.js";
 import { markOpen, showPlans } from "./plans.js";
-import { csvText, readStarts, StartsFault, startsText } from "./project.js";
+import { readStarts, StartsFault } from "./project.js";
+import { searchWords, shorterOf } from "./search.js";
 import { makespanOf, verdictOf } from "./slack.js";
 import { page, recordOf, remember, RULES, shapeOf, WORDS_OF_KIND } from "./state.js";
 import { showTable } from "./table.js";
@@ -186,14 +188,6 @@ function showRules({ schedules }) {
   }));
 }
 
-function comparedWords({ kind, schedules }, total) {
-  const totalOf = (rule) => schedules.get(rule).total;
-  const least = RULES[kind].reduce((a, b) => (totalOf(b) < totalOf(a) ? b : a));
-  const gain = totalOf(least) - total;
-  return gain > 0 ? `It is ${gain} shorter than the shortest by a rule (${least}).`
-    : `The rule ${least} is as good.`;
-}
-
 async function searchBest({ budget }) {
   const { plan } = page;
   let table;
@@ -205,11 +199,9 @@ async function searchBest({ budget }) {
   }
   if (page.plan !== plan) return "";
   plan.schedules.set("best", table);
-  plan.drawn = "best";
+  plan.drawn = shorterOf(plan);
   showSchedules();
-  const meaning = table.verdict === "optimal" ? "no schedule of this plan is shorter"
-    : `the best that was found within ${budget} search steps`;
-  return `${table.verdict} ${table.total}: ${meaning}. ${comparedWords(plan, table.total)}`;
+  return searchWords(plan, budget);
 }
 
 const solveNode = ({ kind }) => make("p", { class: "solve" },
@@ -220,24 +212,10 @@ const solveNode = ({ kind }) => make("p", { class: "solve" },
 
 // -- hand in and check
 
-const rowsFor = ({ rows, isNamed, dates }) =>
-  rows.map(({ number: act, job, step, machine: mach, d, start, end, name, first, last }) => ({
-    ...(act ? { act } : { job, step, mach }), d, start, end,
-    ...(isNamed && { name }), ...(dates && { first, last }),
-  }));
-
-// members of JSON are in the order of the alphabet
-const TEXTS = {
-  csv: () => csvText(rowsFor(view)),
-  json: () => `${JSON.stringify({
-    desk: page.desk, makespan: view.total, plan: view.plan.n, rows: rowsFor(view),
-    schedule: view.plan.drawn, title: namesIn(view.plan).title,
-  }, null, 1)}\n`,
-  "starts.txt": () => startsText(view.rows),
-};
-
 function save(form) {
-  if (view) download(`${page.desk}-plan-${view.plan.n}-${view.plan.drawn}.${form}`, TEXTS[form]());
+  if (!view) return;
+  const { n, drawn } = view.plan;
+  download(`${page.desk}-plan-${n}-${drawn}.${form}`, TEXTS[form](view));
 }
 
 // a verdict in steps and machines

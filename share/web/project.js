@@ -138,7 +138,7 @@ function numbersOf(words) {
 }
 
 function startsIn(rows, keys, wanted) {
-  const found = new Map(rows.map((row) => [keys.map((key) => row[key]).join(" "), row.start]));
+  const found = new Map(rows.map((row) => [keys.map((key) => row?.[key]).join(" "), row?.start]));
   return wanted.map((key) => {
     if (!found.has(key)) throw new StartsFault(`The file has no start of ${key}.`);
     return found.get(key);
@@ -150,6 +150,16 @@ function printedIn(text) {
   return heads.includes("start") ? rows : null;
 }
 
+// the rows of JSON that `plan` or this page wrote
+function jsonIn(text) {
+  try {
+    const { rows } = JSON.parse(text);
+    return Array.isArray(rows) ? rows : null;
+  } catch {
+    return null;
+  }
+}
+
 function csvIn(text) {
   if (!/^[^\n]*\bstart\b/.test(text) || !/^[^\n]*[,;\t]/.test(text)) return null;
   const [header, ...rest] = recordsOf(text);
@@ -159,7 +169,7 @@ function csvIn(text) {
 
 /** Reads start times. `wanted` numbers the plan's rows: "3", or "1 2" for step 2 of job 1. */
 export function readStarts(text, kind, wanted) {
-  const rows = printedIn(text) ?? csvIn(text);
+  const rows = printedIn(text) ?? jsonIn(text) ?? csvIn(text);
   const keys = kind === "project" ? ["act"] : ["job", "step"];
   const words = rows ? startsIn(rows, keys, wanted) : text.split(/[\s,;]+/).filter(Boolean);
   const numbers = numbersOf(words);
@@ -175,7 +185,7 @@ export function readStarts(text, kind, wanted) {
 export function isStarts(text) {
   const [jobs, machines, ...steps] = text.trim().split(/\s+/);
   const isShop = jobs * machines > 0 && steps.length === 2 * jobs * machines;
-  return (/^[\s\d]+$/.test(text) && !isShop) || Boolean(printedIn(text))
+  return (/^[\s\d]+$/.test(text) && !isShop) || Boolean(printedIn(text) ?? jsonIn(text))
     || /^(act|job)[,;\t]([^\n]*[,;\t])?start\b/.test(text);
 }
 

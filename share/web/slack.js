@@ -30,7 +30,7 @@ function fitter(model, starts) {
   const { durations, needs, capacities } = model;
   return (place, start) => {
     const end = start + durations[place], own = starts[place];
-    return steps.every(({ time, used }, index) => {
+    return end === start || steps.every(({ time, used }, index) => {
       const next = steps[index + 1]?.time ?? Infinity;
       if (next <= start || time >= end) return true;
       // the activity's own start and end are times of steps, so a step is inside or outside of it
@@ -82,14 +82,18 @@ export function verdictOf(model, starts) {
   return { line: `activity ${activity + 1} can start earlier`, isFeasible: true, activity };
 }
 
-/** Returns how much later each activity of a schedule can start, all others fixed, so that the
- * schedule stays feasible and no longer. */
+/** Returns the slack of each activity of a feasible schedule: the greatest delay such that it and
+ * each shorter one leave the schedule feasible and no longer, all others fixed. */
 export function slackOf(model, starts) {
-  const fits = fitter(model, starts);
+  const { durations, needs, capacities } = model;
+  const steps = useOf(model, starts);
   const { latest } = boundsOf(model, starts);
   return starts.map((start, place) => {
-    const tries = [latest[place], ...starts.map((begin) => begin - model.durations[place])]
-      .filter((time) => time > start && time <= latest[place]).sort((a, b) => b - a);
-    return (tries.find((time) => fits(place, time)) ?? start) - start;
+    const end = start + durations[place];
+    // its own need isn't in the steps behind its end; without a duration it needs nothing
+    const isFull = ({ time, used }) => durations[place] > 0 && time >= end
+      && needs[place].some((need, resource) => used[resource] + need > capacities[resource]);
+    const blocked = steps.find(isFull)?.time ?? Infinity;
+    return Math.min(latest[place] - start, blocked - end);
   });
 }

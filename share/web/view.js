@@ -182,7 +182,7 @@ export function legendOf({ bars, slack, plan }) {
     .map(([legend, colour]) => [`bar ${colour}`, legend]);
   if (plan.kind === "project" && !items.length && slack) {
     items.push(["bar tight", "no slack in this schedule"],
-      ["bar loose", "slack: it can start later by itself"],
+      ["bar loose", "slack: it can slip by itself"],
       ["", "slack by the plan's file and the changes set here"]);
   }
   if (bars.some(({ isCritical }) => isCritical)) items.push(["", `* ${STARRED}`]);

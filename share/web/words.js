@@ -15,7 +15,7 @@ export const COLUMN_WORDS = {
   start: "the units of working time before the start",
   end: "the units of working time before the end",
   float: "total float by dates alone: how far it can slip if crews are not counted",
-  slack: "how much later it can start in this schedule, all others fixed",
+  slack: "how far it can slip in this schedule, all others fixed: each delay up to it is feasible",
   act: "activity", d: "duration", mach: "machine", ES: "earliest start", EF: "earliest finish",
   LS: "latest start", LF: "latest finish", TF: "total float", FF: "free float",
 };
@@ -25,11 +25,18 @@ const TERMS = {
   Rule: "decides which activity is placed next: the one with ..",
   Float: `${COLUMN_WORDS.float}; a star marks float 0. If crews bind, a starred activity may have `
     + "slack, and another may have none.",
-  Slack: `${COLUMN_WORDS.slack}, so that it stays feasible and no longer. It comes from the plan's `
-    + "file and the changes made in this browser; if the office's dates or schedules differ from "
-    + "these, it isn't shown.",
+  Slack: `${COLUMN_WORDS.slack}, and the schedule gets no longer. It comes from the plan's file `
+    + "and the changes made in this browser; if the office's dates or schedules differ from these, "
+    + "it isn't shown.",
   "Search steps": "the budget of a search; 200,000 take some seconds.",
   Lag: "the least time between the end of an activity and the start of its successor.",
+};
+
+// the office's errors that mean something else to a program than to a user of the page
+export const PAGE_FAULTS = {
+  G2: ["No working day is marked."],
+  E01: ["The key isn't that of the desk (or of the office), or there is no such desk."],
+  E03: ["A value is missing or out of its range."],
 };
 
 export const LIST_FAULTS = {

@@ -1,5 +1,5 @@
-"""Compares the modules of the browser page that compute (calendar, csv, slack, layout, project,
-table) with Python's datetime and csv, with plain models, and with `plan`. Needs node.
+"""Compares the modules of the browser page that compute (calendar, csv, slack, search, layout, project,
+handin, table) with Python's datetime and csv, with plain models, and with `plan`. Needs node.
 """
 
 import contextlib
@@ -395,16 +395,17 @@ def is_feasible(model, starts):
 
 
 def brute_slack(model, starts, places=None):
-    """The greatest later start of each activity, or of those at some places, by trying all of them."""
+    """The slack of each activity, or of those at some places: the greatest x such that each delay up to
+    x leaves the schedule feasible and no longer, by trying all delays."""
     d = model["durations"]
     whole = max(s + x for s, x in zip(starts, d))
     slack = []
     for at, start in enumerate(starts):
         if places is not None and at not in places:
             continue
-        fits = [later for later in range(start, whole - d[at] + 1)
-                if is_feasible(model, [*starts[:at], later, *starts[at + 1:]])]
-        slack.append(max(fits) - start)
+        fits = lambda x: is_feasible(model, [*starts[:at], start + x, *starts[at + 1:]])
+        delays = range(whole - d[at] - start + 1)
+        slack.append(max(x for x in delays if all(map(fits, range(x + 1)))))
     return slack
 
 
@@ -414,8 +415,36 @@ def starts_by(rule, text):
     return [int(line.split()[2]) for line in out.decode().split("\n")[1:-2]]
 
 
+# Schedules with slacks worked out by hand: what they try, the model, the starts, the slacks
+SLACKS = [
+    # later than B is free again, but each delay up to that meets B on the one crew
+    ("a hole at once", as_model([1, 2, 6], [[], [], []], [[1], [1], [0]], [1]), [0, 1, 0], [0, 3, 0]),
+    # A may start at 0, 1 and 2, not at 3, and again at 4 and 5
+    ("a hole behind a slack", as_model([1, 1, 6], [[], [], []], [[1], [1], [0]], [1]), [0, 3, 0],
+     [2, 2, 0]),
+    # A meets B if it slips by 1; of C one is left beside B, so C meets nobody
+    ("two resources", as_model([2, 2, 1, 5], [[], [], [], []], [[1, 0], [1, 1], [0, 1], [0, 0]],
+                               [1, 2]), [0, 2, 0, 0], [0, 1, 4, 0]),
+    # the milestone 2 may slip until its successor at 3 less the lag of 2, while 1 works
+    ("a milestone that needs the crew", as_model([2, 0, 1], [[], [3], []], [[1], [1], [1]], [1],
+                                                 {(1, 2): 2}), [0, 0, 3], [1, 1, 0]),
+    # a wait for the last end alone, and an arc that is tight
+    ("no resource", as_model([1, 2, 4], [[2], [], []], [[0], [0], [0]], [1]), [0, 1, 0], [0, 1, 0]),
+]
+# Stairs (8) would meet Roof and Garden from 21 to 26: 2 + 3 + 2 and 2 + 2 + 2 of a crew of 5
+HOUSE_SLACK = [0, 0, 0, 3, 0, 0, 0, 0, 0, 1, 0, 18, 0, 0]
+
+
 def try_slack(modules, draw):
-    """Slack is what a brute force finds, also with lags and in schedules that aren't active."""
+    """Slacks are those worked out by hand, and what a brute force finds, also with lags and in schedules
+    that aren't active."""
+    house = file_of("examples/house.sm")
+    cases = [*SLACKS, ("the house", as_model(*read_sm(house.decode())[:4]), starts_by("lft", house),
+                       HOUSE_SLACK)]
+    found = modules.values([["slack", "slackOf", [model, starts]] for _, model, starts, _ in cases])
+    for slack, (name, model, starts, wanted) in zip(found, cases):
+        same(f"the slack of {name}", slack, wanted)
+        same(f"the brute force on {name}", brute_slack(model, starts), wanted)
     calls, models = [], []
     for _ in range(250):
         durations, arcs, needs, capacities = drawn_project(draw)
@@ -433,7 +462,11 @@ def try_slack(modules, draw):
 
 
 def try_verdicts(modules, draw):
-    """Verdicts on drawn starts are those of `plan check`."""
+    """Verdicts on drawn starts are those of `plan check`. A milestone waits for no crew: the one behind
+    the lag of 1 could start while the third activity works."""
+    late = as_model([0, 0, 3], [[2], [], []], [[0], [1], [1]], [1], {(0, 1): 1}), [0, 2, 0]
+    found = modules.values([["slack", "verdictOf", list(late)]])[0]
+    same("a milestone that is late", found["line"], "activity 2 can start earlier")
     calls, lines, kinds = [], [], set()
     while len(lines) < 300 or len(kinds) < 4:
         durations, arcs, needs, capacities = drawn_project(draw)
@@ -473,7 +506,76 @@ def try_use(modules, draw):
             same(f"the use at {time} of {starts} in {model}", used, wanted)
 
 
+# ---- the best schedule
+
+
+def try_search(modules, draw):
+    """After a search the shortest schedule is drawn, and the words say which is shorter."""
+    by_rule = {"project": {"lft": 60, "slk": 59, "spt": 61, "mts": 57, "num": 57},
+               "shop": {"mwkr": 9, "spt": 8, "fcfs": 10}}
+    cases = [
+        ("project", "budget", 58, "mts", "budget 58: the best that was found within 7 search steps. "
+         "The schedule by the rule mts is 1 shorter, so it is drawn."),
+        ("project", "budget", 57, "best", "budget 57: the best that was found within 7 search steps. "
+         "The rule mts is as good."),
+        ("project", "optimal", 50, "best", "optimal 50: no schedule of this plan is shorter. "
+         "It is 7 shorter than the shortest by a rule (mts)."),
+        ("shop", "budget", 11, "spt", "budget 11: the best that was found within 7 search steps. "
+         "The schedule by the rule spt is 3 shorter, so it is drawn."),
+    ]
+    plans = []
+    for kind, verdict, total, *_ in cases:
+        tables = [[rule, {"verdict": "", "total": makespan}] for rule, makespan in by_rule[kind].items()]
+        tables += [["own", {"verdict": "", "total": 1}], ["best", {"verdict": verdict, "total": total}]]
+        plans.append({"kind": kind, "schedules": {"map": tables}})
+    chosen = modules.values([["search", "shorterOf", [plan_of]] for plan_of in plans])
+    words = modules.values([["search", "searchWords", [plan_of, "7"]] for plan_of in plans])
+    for name, told, (kind, verdict, total, *wanted) in zip(chosen, words, cases):
+        same(f"what is drawn and said of a {kind}, {verdict} {total}", [name, told], wanted)
+
+
 # ---- files and lists of starts
+
+
+def try_hand_in(modules, draw):
+    """JSON is one line with its members in order, and null for each empty cell; a step has the name of
+    its order."""
+    both = {"d": 2, "start": 0, "end": 2, "slack": 0, "isCritical": False}
+    milestone = {**both, "d": 0, "end": 0}
+    project_rows = [{**milestone, "number": 1, "name": "", "first": "", "last": ""},
+                    {**both, "number": 2, "name": "Walls", "first": "2024-03-01", "last": "2024-03-04"}]
+    steps = [{**both, "job": 1, "step": 1, "machine": 0, "name": "order 7, saw", "jobName": "order 7",
+              "machineName": "saw", "first": "", "last": ""},
+             {**both, "job": 2, "step": 1, "machine": 1, "name": "", "jobName": "", "machineName": "",
+              "first": "", "last": ""}]
+    no_orders = [{**step, "name": "saw", "jobName": ""} for step in steps]
+    view = lambda rows, drawn, verdict, dates: {
+        "plan": {"n": 3, "drawn": drawn, "schedules": {"map": [[drawn, {"verdict": verdict}]]}},
+        "rows": rows, "isNamed": True, "dates": dates, "total": 2}
+    texts = modules.values([["handin", "jsonText", [shown]] for shown in (
+        view(project_rows, "lft", "", [1]), view(steps, "best", "optimal", None),
+        view(no_orders, "best", "budget", None), view(project_rows[1:], "own", " (not feasible)", None))])
+    # without an open desk its name is empty
+    same("the JSON of a project", texts[0], '{"desk":null,"makespan":2,"plan":3,"rows":['
+         '{"act":1,"d":0,"end":0,"first":null,"last":null,"name":null,"start":0},{"act":2,"d":2,"end":2,'
+         '"first":"2024-03-01","last":"2024-03-04","name":"Walls","start":0}],"schedule":"lft",'
+         '"title":null}\n')
+    same("the JSON of a job shop", texts[1], '{"desk":null,"lower_bound":2,"makespan":2,"plan":3,"rows":['
+         '{"d":2,"end":2,"job":1,"mach":0,"name":"order 7","start":0,"step":1},'
+         '{"d":2,"end":2,"job":2,"mach":1,"name":null,"start":0,"step":1}],"schedule":"best",'
+         '"status":"optimal","title":null,"upper_bound":2}\n')
+    without = json.loads(texts[2])
+    same("a step without an order's name", sorted(without["rows"][0]),
+         ["d", "end", "job", "mach", "start", "step"])
+    same("a budget's bounds", [without.get(key) for key in ("status", "lower_bound", "upper_bound")],
+         ["budget", None, 2])
+    same("starts of one's own", sorted(json.loads(texts[3])),
+         ["desk", "makespan", "plan", "rows", "schedule", "title"])
+    wanted = [[str(row["number"]) for row in project_rows], ["1 1", "2 1"]]
+    found = modules.values([["project", "readStarts", [text, kind, keys]]
+                            for text, kind, keys in zip(texts, ("project", "shop"), wanted)])
+    same("the starts of a hand-in", found, [[0, 0], [0, 0]])
+
 
 
 def try_projects(modules, draw):
@@ -529,6 +631,7 @@ def try_starts(modules, draw):
     texts = {
         table: starts, best: bests, " ".join(map(str, starts)): starts,
         "\n".join(map(str, starts)) + "\n": starts, "\n".join(lines): starts,
+        plan("schedule", "lft", "--format", "json", house)[1].decode(): starts,
     }
     calls = [["project", "readStarts", [text, "project", wanted]] for text in texts]
     for found, (text, model) in zip(modules.values(calls), texts.items()):
@@ -538,11 +641,13 @@ def try_starts(modules, draw):
     found = modules.values([["project", "readStarts", [shop, "shop", steps]]])[0]
     same("the starts of a shop", found, [int(line.split()[4]) for line in shop.split("\n")[1:-2]])
     wrong = {"1 2 3": "3 start times; 14", "1 2 x": "x isn't", "-1": "-1 isn't",
-             "act,start\n1,0\n": "no start of 2", "0 " * 13 + "10000001": "10000001 isn't"}
+             "act,start\n1,0\n": "no start of 2", "0 " * 13 + "10000001": "10000001 isn't",
+             '{"rows":[{"act":1,"start":0},null]}': "no start of 2", '{"rows":1}': '{"rows":1} isn\'t'}
     results = modules.call([["project", "readStarts", [text, "project", wanted]] for text in wrong])
     for result, (text, words) in zip(results, wrong.items()):
         same(f"the error of {text!r}", words in result.get("fault", ""), True)
-    kinds = {table: True, best: True, "1 2 3": True, "act,d,start\n1,0,0": True,
+    kinds = {table: True, best: True, "1 2 3": True, "act,d,start\n1,0,0": True, '{"rows":[]}': True,
+             '{"rows":1}': False,
              file_of("examples/house.sm").decode(): False, "id,duration\n": False,
              file_of("examples/shops.txt").decode(): False, "0 0": True,
              file_of("examples/printing.txt").decode(): False}
@@ -644,7 +749,7 @@ def try_sorting(modules, draw):
 
 
 TRIALS = [try_dates, try_calendar_edges, try_known_calendars, try_tables, try_orders, try_records, try_slack,
-          try_verdicts, try_use, try_projects, try_starts, try_layout, try_sorting]
+          try_verdicts, try_use, try_search, try_hand_in, try_projects, try_starts, try_layout, try_sorting]
 
 
 def try_units(room, web, seed=1):

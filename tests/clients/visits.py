@@ -26,6 +26,7 @@ TAB, ENTER, ESCAPE, LEFT, RIGHT = "\ue004", "\ue007", "\ue00c", "\ue012", "\ue01
 PICTURES = os.path.join(TOP, "docs", "pictures")
 LARGEST_PICTURE = 60000
 HOUSE = "tests/clients/files/house.sm"
+KEY_WORDS = "The key isn't that of the desk (or of the office), or there is no such desk."
 
 
 def listed(server):
@@ -83,10 +84,12 @@ def visit_door(browser):
         same("the first words", lead, "This desk and key don't match.")
         first = browser.run("return document.querySelector('#enter .refusal').firstChild.textContent")
         same("what comes first", first, lead)
-        same("what the page says of E01", rest, explained("E01")[:1])
+        same("what the page says of E01", rest, [KEY_WORDS])
     browser.type("#enter-office [name=key]", "no-such-key")
     submit(browser, "enter-office")
     wait_text(browser, "#enter-office .refusal", "E01 key")
+    same("what the page says of the office's key", texts(browser, "#enter-office .refusal p"),
+         ["This isn't the office's key.", KEY_WORDS])
     same_senses("signing in", browser)
 
 
@@ -222,8 +225,12 @@ def two_sites():
 
 
 def visit_slack(browser):
-    """Where crews bind, the colours are those of the slack that all later starts leave, by each rule;
-    stars are those of the dates."""
+    """Where crews bind, the colours are those of the slack that all delays leave, by each rule; stars are
+    those of the dates. An activity that can start later, but not at once, has no slack."""
+    stairs = browser.run("const bar = document.querySelector('#drawing .bar[data-line=\"8\"]');"
+                         " return [bar.classList[1], bar.querySelector('title').textContent]")
+    same("the stairs of the house", stairs, ["tight", "Activity 8: 20 to 23; needs 2 of resource 1; no slack"
+                                             " in this schedule"])
     text = two_sites()
     drop(browser, "sites.sm", text)
     wait_plan(browser, 2)
@@ -351,6 +358,7 @@ def visit_today(browser):
                     " if (box.checked) box.click();", box - 1)
     submit(browser, "calendar")
     wait_text(browser, "#calendar .refusal", "E12 G2 days")
+    same("what the page says of G2", texts(browser, "#calendar .refusal p"), ["No working day is marked."])
     set_date(browser, "#calendar [name=start]", "2024-03-01")
     for box in range(1, 6):
         browser.run("document.querySelectorAll('#marks input')[arguments[0]].click()", box - 1)
@@ -405,6 +413,9 @@ def visit_lag(browser):
     browser.type("#lag [name=to]", "14")
     submit(browser, "lag")
     wait_text(browser, "#lag .refusal", "E03 body")
+    same("what the page says of it", texts(browser, "#lag .refusal p"),
+         ["The project has no arc from activity 2 to activity 14. A lag is set between an activity and its "
+          "direct successor."])
 
 
 def visit_elsewhere(browser, office):
@@ -431,7 +442,7 @@ def visit_elsewhere(browser, office):
 
 def visit_best(browser):
     """A file is dropped; the best schedule and its words are those of `plan best-project`; it is
-    drawn, dated and compared with the rules."""
+    drawn, dated and compared with the rules. If a rule's is shorter, the page says so and draws it."""
     drop(browser, "five.sm", file_of("examples/five.sm").decode())
     wait_plan(browser, 3)
     same("the budget at first", browser.run("return best.elements.budget.value"), "200000")
@@ -444,6 +455,8 @@ def visit_best(browser):
         wait_text(browser, "#best-answer", lines[0] + ":")
         wait_text(browser, "#drawn label:last-child", f"best {lines[0]}")
         last = int(makespan_of(lines))
+        same_choice(browser, last)
+        browser.click("#drawn [value=best]")
         bars = [[row[0], row[2], row[3]] for row in rows_of(lines)]
         same_bars("a best schedule", browser, bars, last, places_in("2024-03-01", "1111100", last))
         verdict = f"best ({lines[0].split()[0]})"
@@ -455,9 +468,25 @@ def visit_best(browser):
                  for row in rows_of(lines)]
         found = list(map(list, zip(column(browser, "first day"), column(browser, "last day"))))
         same("its dates", found, dates)
-    least = min(int(makespan_of(printed("schedule", rule, example("five.sm")))) for rule in RULES)
-    told = f"It is {least - 2} shorter than the shortest by a rule" if least > 2 else "is as good"
+
+
+def same_choice(browser, found):
+    """After a search on five.sm the shorter schedule is drawn: its, or that of the first of the best rules."""
+    ends = {rule: int(makespan_of(printed("schedule", rule, example("five.sm")))) for rule in RULES}
+    rule = min(RULES, key=ends.get)
+    drawn = browser.run("return document.querySelector('#drawn :checked').value")
+    same("what is drawn", drawn, "best" if found <= ends[rule] else rule)
+    if found > ends[rule]:
+        told = f"The schedule by the rule {rule} is {found - ends[rule]} shorter, so it is drawn."
+    elif found == ends[rule]:
+        told = f"The rule {rule} is as good."
+    else:
+        told = f"It is {ends[rule] - found} shorter than the shortest by a rule ({rule})."
     wait_text(browser, "#best-answer", told)
+    lines = printed("schedule", rule, example("five.sm"))
+    if drawn == rule:
+        same_bars("the schedule of the rule", browser, [[row[0], row[2], row[3]] for row in rows_of(lines)],
+                  ends[rule], places_in("2024-03-01", "1111100", ends[rule]))
 
 
 def chain(count, width=1):
@@ -550,6 +579,21 @@ def downloaded(browser, office, button):
     raise Wrong(f"nothing was saved by {button}")
 
 
+def one_line(value):
+    """JSON in the form of `plan`: one line, the members in order."""
+    return json.dumps(value, sort_keys=True, separators=(",", ":"), ensure_ascii=False) + "\n"
+
+
+def as_printed(commands, given, instance=()):
+    """The members of the JSON of several commands on a file, and those of their rows together."""
+    options = ["--names", "--format", "json"]
+    values = [json.loads("\n".join(printed(*words, *options, "-", *instance, given=given)))
+              for words in commands]
+    rows = zip(*(value["rows"] for value in values))
+    together = [{key: cell for row in parts for key, cell in row.items()} for parts in rows]
+    return {key: member for value in values for key, member in value.items()} | {"rows": together}
+
+
 def visit_save(browser, office):
     """The schedule that is drawn is saved as CSV, JSON and start times."""
     open_plan(browser, 1)
@@ -566,11 +610,10 @@ def visit_save(browser, office):
     wanted += [[*row[:4], *(["", ""] if row[2] == row[3] else [days[int(row[2])], days[int(row[3]) - 1]])]
                for row in rows]
     same("the CSV", table, wanted)
-    value = json.loads(downloaded(browser, office, "json")[1])
-    found = [[str(row[key]) for key in ("act", "d", "start", "end")] for row in value["rows"]]
-    same("the JSON", (value["makespan"], value["plan"], value["desk"], value["schedule"], value["title"]),
-         (last, 1, DESK, "spt", "house"))
-    same("its rows", found, [row[:4] for row in rows])
+    given = house_of_four()
+    wanted = as_printed([("schedule", "spt"), ("days", "spt", "2024-03-01", "1111100")], given)
+    wanted |= {"desk": DESK, "plan": 1, "schedule": "spt", "title": "house"}
+    same("the JSON", downloaded(browser, office, "json")[1], one_line(wanted))
     starts = downloaded(browser, office, "starts")[1]
     same("the start times", starts.split(), [row[2] for row in rows])
     with open(os.path.join(os.path.dirname(office.database), "four.sm"), "wb") as file:
@@ -603,7 +646,7 @@ def visit_table(browser):
     same("the plans so far", seen_plans(browser), [1, 2, 3, 4, 5])
 
 
-def visit_capacity(browser):
+def visit_capacity(browser, office):
     """A capacity that the table lacks is entered on the page."""
     text = file_of("tests/tables/list.csv").decode().replace("capacity,,,,5,1\n", "")
     drop(browser, "list.csv", text)
@@ -618,6 +661,11 @@ def visit_capacity(browser):
     same("the names", column(browser, "name"), ["", "Excavation", "Foundation", "Drains", "Walls, north", ""])
     # the foundation needs the whole crew, so the drains wait: 4 + 6 + 3 + 10
     same("its schedule", column(browser, "start"), ["0", "0", "4", "10", "13", "23"])
+    given = "\n".join(printed("import", "tests/tables/list.csv")).encode()
+    wanted = as_printed([("schedule", "lft")], given)
+    wanted |= {"desk": DESK, "plan": 6, "schedule": "lft", "title": "list"}
+    same("the JSON with names", downloaded(browser, office, "json")[1], one_line(wanted))
+    browser.click("#tab-table")
     labels = texts(browser, "#drawing .name")
     same("the names of the lines", [label.split("…")[0] for label in labels][1:3],
          ["2 Excavation2 Excavation", "3 Foundation3 Foundation"])
@@ -641,6 +689,11 @@ def visit_names(browser):
     wait_text(browser, "#note", "Slack isn't known, because this page hasn't read the plan's file.")
     same("the colours", set(bar_classes(browser)), {"plain"})
     same("the use without a file", texts(browser, "#use svg"), [])
+    open_tab(browser, "changes")
+    browser.type("#bind [name=place]", "3")
+    submit(browser, "bind")
+    wait_text(browser, "#bind .refusal", "E03 body")
+    same("what the page says of it", texts(browser, "#bind .refusal p"), ["The plan has no resource 3."])
     browser.click("#remember")
     browser.click("#leave")
     kept = browser.run("return Object.keys(localStorage)")
@@ -1034,7 +1087,7 @@ def starts_are(browser, starts, line):
     same(f"the verdict on {starts}", seen(browser, "#check-answer strong"), line)
 
 
-def visit_orders(browser):
+def visit_orders(browser, office):
     """A list of orders is shown with the job shop that it becomes. The table of its schedule has the
     names of orders and machines and the working days; start times get a verdict in steps."""
     text = file_of("examples/shop.csv").decode()
@@ -1064,6 +1117,20 @@ def visit_orders(browser):
         wanted += [[f"{row[0]} order {4710 + int(row[0])}", row[1], f"{row[2]} {machines[int(row[2])]}",
                     *row[4:6], *dates, str(s)] for row, dates, s in zip(rows, days, slack)]
         same(f"the table by {rule}", seen_table(browser, "#table"), wanted)
+    browser.type("#best [name=budget]", "200000")
+    submit(browser, "best")
+    wanted = as_printed([("best", "200000")], given, ["shop"])
+    days = [str(day) for day in worked_days(datetime.date(2024, 3, 1), "1111100", wanted["makespan"])]
+    for row in wanted["rows"]:
+        works = row["start"] < row["end"]
+        row |= {"first": days[row["start"]] if works else None, "last": days[row["end"] - 1] if works else None}
+    wanted |= {"desk": DESK, "plan": 13, "schedule": "best", "title": "orders"}
+    name, text = downloaded(browser, office, "json")
+    same("the JSON of the best", (name, text), (f"{DESK}-plan-13-best.json", one_line(wanted)))
+    drop(browser, name, text)
+    wait_text(browser, "#check-answer strong", "active")
+    for rule in SHOP_RULES:
+        rows = rows_of(printed("shop", rule, "-", "shop", given=given))
         starts_are(browser, " ".join(row[4] for row in rows), "active")
     # worked out by hand: a step too early, the saw twice, a feasible schedule, and the press later
     starts_are(browser, "0 0 0 0 0 0 0 0 0", "step 2 of job 1 starts before step 1 of job 1 ends")

@@ -1,0 +1,32 @@
+// The result of a search for the best schedule, beside the schedules of the rules.
+
+import { RULES } from "./state.js";
+
+const totalOf = ({ schedules }, name) => schedules.get(name).total;
+
+function leastRule(plan) {
+  const rules = RULES[plan.kind].filter((rule) => plan.schedules.has(rule));
+  return rules.reduce((a, b) => (totalOf(plan, b) < totalOf(plan, a) ? b : a));
+}
+
+/** Returns the schedule to draw after a search: `best`, or the rule whose schedule is shorter. */
+export function shorterOf(plan) {
+  const least = leastRule(plan);
+  return totalOf(plan, least) < totalOf(plan, "best") ? least : "best";
+}
+
+function comparedWords(plan) {
+  const least = leastRule(plan);
+  const gain = totalOf(plan, least) - totalOf(plan, "best");
+  if (gain > 0) return `It is ${gain} shorter than the shortest by a rule (${least}).`;
+  if (gain === 0) return `The rule ${least} is as good.`;
+  return `The schedule by the rule ${least} is ${-gain} shorter, so it is drawn.`;
+}
+
+/** Returns the words on a search with a budget, whose schedule is `best`. */
+export function searchWords(plan, budget) {
+  const { verdict, total } = plan.schedules.get("best");
+  const meaning = verdict === "optimal" ? "no schedule of this plan is shorter"
+    : `the best that was found within ${budget} search steps`;
+  return `${verdict} ${total}: ${meaning}. ${comparedWords(plan)}`;
+}
