@@ -6,16 +6,20 @@ import sqlite3
 import subprocess
 
 import files
+from replayed import expecting, request_file
 
 ACTIVITIES = (62, 125, 250, 502)
 COMMANDS = (["cpm"], ["schedule", "lft"], ["schedule", "mts"])
 DESKS = (10, 100, 1000, 3000)
 PLANS = 10
 KEY = "desk-key-1"
+# the first answers cost less or more, because the server gets memory
+FEW, MANY = 11, 111
+# name: the request, its status
 REQUESTS = {
-    "GET of the plans": "GET /desks/d0/plans HTTP/1.0\r\nDesk-Key: %s\r\n\r\n",
-    "GET of the dates": "GET /desks/d0/plans/1/dates HTTP/1.0\r\nDesk-Key: %s\r\n\r\n",
-    "a wrong key": "GET /desks/d0/plans HTTP/1.0\r\nDesk-Key: no-%s\r\n\r\n",
+    "GET of the plans": ("GET /desks/d0/plans HTTP/1.0\r\nDesk-Key: %s\r\n\r\n", 200),
+    "GET of the dates": ("GET /desks/d0/plans/1/dates HTTP/1.0\r\nDesk-Key: %s\r\n\r\n", 200),
+    "a wrong key": ("GET /desks/d0/plans HTTP/1.0\r\nDesk-Key: no-%s\r\n\r\n", 403),
 }
 
 
@@ -46,15 +50,16 @@ def office(plan, folder, desks):
 
 def of_desks(plan, instructions, folder):
     """For each number of desks what a request of one of them takes, in thousands of instructions:
-    those of eleven requests less those of one, by ten."""
+    those of 111 requests less those of eleven, by a hundred."""
     for desks in DESKS:
         path, cells = office(plan, folder, desks), [str(desks)]
-        for text in REQUESTS.values():
-            request = os.path.join(folder, "request")
-            with open(request, "w", encoding="ascii", newline="") as file:
-                file.write(text % KEY)
-            one, eleven = (instructions([plan, "replay", path, *[request] * n]) for n in (1, 11))
-            cells.append(f"{(eleven - one) * 100:.0f}")
+        for name, (text, status) in REQUESTS.items():
+            request = request_file(folder, text % KEY)
+            few, many = (
+                instructions([plan, "replay", path, *[request] * n], expecting(name, status, n))
+                for n in (FEW, MANY)
+            )
+            cells.append(f"{(many - few) * 1000 / (MANY - FEW):.0f}")
         yield cells
 
 

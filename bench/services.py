@@ -6,6 +6,7 @@ import sqlite3
 import subprocess
 
 import files
+from replayed import expecting, request_file
 
 KEY = "desk-key-1"
 SILENT = [(os.POSIX_SPAWN_OPEN, 1, os.devnull, os.O_WRONLY, 0)]
@@ -34,16 +35,18 @@ def post(route, body):
     return f"{head}Content-Length: {len(body)}\r\n\r\n{body}"
 
 
-LAG = post("plans/1/lag", '{"from":2,"to":3,"lag":1}')
+# 6 is the first successor of 2 in the small project.
+LAG = post("plans/1/lag", '{"from":2,"to":6,"lag":1}')
 
-# name, body of the plans, number of plans, request, most instructions of one answer (thousands)
+# name, body of the plans, number of plans, request, its status, most instructions of one answer
+# (thousands)
 REQUESTS = [
-    ("request: dates, 32 activities", small, 1, get("plans/1/dates"), 180),
-    ("request: schedule lft, 32 activities", small, 1, get("plans/1/schedule/lft"), 210),
-    ("request: lag, 32 activities", small, 1, LAG, 265),
-    ("request: dates, 0.5 MB", large, 1, get("plans/1/dates"), 6000),
-    ("request: list of 50 small plans", small, 50, get("plans"), 94),
-    ("request: list of 50 plans of 0.5 MB", large, 50, get("plans"), 94),
+    ("request: dates, 32 activities", small, 1, get("plans/1/dates"), 200, 180),
+    ("request: schedule lft, 32 activities", small, 1, get("plans/1/schedule/lft"), 200, 210),
+    ("request: lag, 32 activities", small, 1, LAG, 200, 265),
+    ("request: dates, 0.5 MB", large, 1, get("plans/1/dates"), 200, 6000),
+    ("request: list of 50 small plans", small, 50, get("plans"), 200, 94),
+    ("request: list of 50 plans of 0.5 MB", large, 50, get("plans"), 200, 94),
 ]
 
 # name, body of the plans, number of plans, most instructions for a byte of the file, most memory by
@@ -69,33 +72,27 @@ def office(plan, folder, count, body):
     return path
 
 
-def request_file(folder, text):
-    """The file of a request."""
-    path = os.path.join(folder, "request")
-    with open(path, "w", encoding="ascii", newline="") as file:
-        file.write(text)
-    return path
-
-
 def of_request(plan, instructions, folder, case):
     """Thousands of instructions of one answer: those of eleven less those of one, by ten."""
-    _, body, count, text, _ = case
+    name, body, count, text, status, _ = case
     path, request = office(plan, folder, count, body()), request_file(folder, text)
-    words = [plan, "replay", path, request]
-    one, more = (instructions(words + [request] * n) for n in (0, MORE))
+    words = [plan, "replay", path]
+    one, more = (instructions(words + [request] * n, expecting(name, status, n))
+                 for n in (1, 1 + MORE))
     return (more - one) * 1000 / MORE
 
 
 def of_start(plan, instructions, folder, case):
     """The length of the file, instructions for each of its bytes, and memory by its length."""
-    _, body, count, _, _ = case
+    name, body, count, _, _ = case
     path, request = office(plan, folder, count, body()), request_file(folder, get("plans"))
     size, words = os.path.getsize(path), [plan, "replay", path, request]
     pid = os.posix_spawn(words[0], words, os.environ, file_actions=SILENT)
     _, status, usage = os.wait4(pid, 0)
     if status != 0:
         raise SystemExit(f"bench/run: {' '.join(words)} ended with status {status}")
-    return size, instructions(words) * 1e6 / size, (usage.ru_maxrss * 1024 - 20e6) / size
+    taken = instructions(words, expecting(name, 200, 1)) * 1e6 / size
+    return size, taken, (usage.ru_maxrss * 1024 - 20e6) / size
 
 
 def shown(value, target, form):
@@ -111,7 +108,7 @@ def tables(plan, instructions, folder, line, is_chosen):
         yield "|---|---|---|"
     for case in requests:
         taken = of_request(plan, instructions, folder, case)
-        yield line([case[0], *shown(taken, case[4], ".0f")])
+        yield line([case[0], *shown(taken, case[5], ".0f")])
     starts = [case for case in STARTS if is_chosen(case[0])]
     if starts:
         yield line(["Start", "bytes", "instr a byte", "at most", "memory by length", "at most"])
