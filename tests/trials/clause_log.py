@@ -4,10 +4,11 @@ lower bound follows from the clauses. It reads the project and the log and trust
 
     tests/trials/clause_log.py PROJECT.sm LOG
 
-The format is in crates/plan_solve/README.md, "Log". Inside, a literal is (quantity, sign, value): with
+docs/logs.md describes the format and what a log proves. Inside, a literal is (quantity, sign, value): with
 sign 1 the quantity is at least the value, with sign -1 at most minus the value.
 """
 
+import itertools
 import sys
 
 
@@ -23,8 +24,8 @@ def expect(holds, why):
 def section(lines, title):
     """The rows of numbers below a title and a line of column heads."""
     at = next(k for k, line in enumerate(lines) if line.startswith(title)) + 2
-    end = next(k for k in range(at, len(lines)) if lines[k].startswith("*"))
-    return [list(map(int, line.split())) for line in lines[at:end] if not line.startswith("-")]
+    rows = itertools.takewhile(lambda line: line[:1] in "-0123456789", lines[at:])
+    return [list(map(int, line.split())) for line in rows if line.strip("-")]
 
 
 class Project:

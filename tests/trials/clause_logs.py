@@ -22,15 +22,21 @@ import progen
 from answers import Wrong
 
 
+def logged_of(words, folder, path):
+    """The log of the solution of a file."""
+    log = os.path.join(folder, "search.log")
+    subprocess.run([*words, "--log", log, path], stdout=subprocess.DEVNULL, check=True)
+    with open(log, encoding="ascii") as file:
+        return file.read()
+
+
 def logged(words, folder, seed):
     """A project of 20 activities, and the log of its solution."""
-    path, log = (os.path.join(folder, name) for name in ("drawn.sm", "drawn.log"))
+    path = os.path.join(folder, "drawn.sm")
     text = files.project(*progen.made(20, 1.5, 0.75, 0.2, seed))
     with open(path, "w", encoding="ascii") as file:
         file.write(text)
-    subprocess.run([*words, "--log", log, path], stdout=subprocess.DEVNULL, check=True)
-    with open(log, encoding="ascii") as file:
-        return text, file.read()
+    return text, logged_of(words, folder, path)
 
 
 def accepts(text, log):
@@ -96,9 +102,27 @@ def faults(words, projects, damaged):
     return wrong, damaged - left
 
 
+def differs(words):
+    """What differs between the example of docs/logs.md and the log of the kitchen."""
+    with open(os.path.join(TOP, "docs", "logs.md"), encoding="ascii") as page:
+        rows = page.read().partition("## Example")[2].splitlines()
+    shown = [row.strip() for row in rows if row.startswith("    ")]
+    first, last = shown[: shown.index("..")], shown[shown.index("..") + 1 :]
+    path = os.path.join(TOP, "examples", "kitchen.sm")
+    with tempfile.TemporaryDirectory() as folder, open(path, encoding="ascii") as file:
+        text, log = file.read(), logged_of(words, folder, path)
+    lines = log.splitlines()
+    if not accepts(text, log):
+        return ["the log of the kitchen is refused"]
+    is_same = lines[: len(first)] == first and lines[-len(last) :] == last
+    return [] if is_same else ["the log of the kitchen isn't that of docs/logs.md"]
+
+
 def try_logs(program, projects, damaged):
-    """The checker accepts the logs of `plan solve` and refuses damaged ones."""
+    """The checker accepts the logs of `plan solve` and refuses damaged ones; the example in the docs is
+    such a log."""
     wrong, _ = faults([program, "solve"], projects, damaged)
+    wrong += differs([program, "solve"])
     if wrong:
         raise Wrong("; ".join(wrong))
 
