@@ -140,7 +140,7 @@ function numbersOf(words) {
 function startsIn(rows, keys, wanted) {
   const found = new Map(rows.map((row) => [keys.map((key) => row?.[key]).join(" "), row?.start]));
   return wanted.map((key) => {
-    if (!found.has(key)) throw new StartsFault(`The file has no start of ${key}.`);
+    if ((found.get(key) ?? "") === "") throw new StartsFault(`The file has no start of ${key}.`);
     return found.get(key);
   });
 }

@@ -642,7 +642,9 @@ def try_starts(modules, draw):
     same("the starts of a shop", found, [int(line.split()[4]) for line in shop.split("\n")[1:-2]])
     wrong = {"1 2 3": "3 start times; 14", "1 2 x": "x isn't", "-1": "-1 isn't",
              "act,start\n1,0\n": "no start of 2", "0 " * 13 + "10000001": "10000001 isn't",
-             '{"rows":[{"act":1,"start":0},null]}': "no start of 2", '{"rows":1}': '{"rows":1} isn\'t'}
+             '{"rows":[{"act":1,"start":0},null]}': "no start of 2", "act,start\n1,\n": "no start of 1",
+             plan("cpm", "--format", "json", house)[1].decode(): "no start of 1",
+             '{"rows":[{"act":1,"start":null}]}': "no start of 1", '{"rows":1}': '{"rows":1} isn\'t'}
     results = modules.call([["project", "readStarts", [text, "project", wanted]] for text in wrong])
     for result, (text, words) in zip(results, wrong.items()):
         same(f"the error of {text!r}", words in result.get("fault", ""), True)
