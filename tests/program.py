@@ -15,9 +15,10 @@ def _resolved():
         if not os.access(named, os.X_OK):
             sys.exit(f"PLAN_PROGRAM names {named}, which can't be run")
         return os.path.abspath(named)
-    asked = subprocess.run([os.path.join(TOP, "release"), "--program"], stdout=subprocess.PIPE, text=True)
+    words = [os.path.join(TOP, "release"), "--program"]
+    asked = subprocess.run(words, capture_output=True, text=True)
     if asked.returncode:
-        sys.exit("no program to test: set PLAN_PROGRAM, or build it with ./plan --version")
+        sys.exit(f"{asked.stderr.strip()}, or set PLAN_PROGRAM")
     return asked.stdout.strip()
 
 
