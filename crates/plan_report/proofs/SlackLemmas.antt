@@ -19,7 +19,7 @@ slack_is p s j due x feasible inside is ends room most = (
       let whole = feasible.each_started in
       let last = waits y (omega arith) in
       let within = is.latest (get_or s j 0 + y + duration p j) (ends_by_makespan p s j (get_or s j 0 + y) whole inside last.no_longer)
-          (ends_from_arcs p s j (get_or s j 0 + y) whole inside last.feasible.arcs) in
+      (ends_from_arcs p s j (get_or s j 0 + y) whole inside last.feasible.arcs) in
       most y (omega (arith, within)) (λ z below. after_from_room p s j (get_or s j 0 + z) whole inside (waits z below).feasible.capacities),
 ) where
   can : CanWait p s j x
