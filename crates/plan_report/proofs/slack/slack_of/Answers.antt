@@ -28,7 +28,7 @@ returns-then-d-eq0 c =
     let inside : at < count p = omega (arith, c.requires.activity.0, c.requires.activity.1, count-problem i) in
     let lasts : c.duration-d.result ≡ duration p at = same_duration i c.network-network.result.now c.args.j c.duration-d.result
     c.network-network.ensures.network c.requires.activity c.duration-d.ensures.value in
-    slack_is p s at c.due_of-due.result _ c.requires.feasible inside c.due_of-due.ensures (omega (arith, lasts, c.due_of-due.ensures.ended))
+    slack_is p s at c.due_of-due.result (c.due_of-due.result - (get_or s at 0 + c.duration-d.result)) c.requires.feasible inside c.due_of-due.ensures (omega (arith, lasts, c.due_of-due.ensures.ended))
     (λ z most u k begun done more within. absurd (omega (arith, begun, more, lasts, c.if-d-eq0.true)))
     (λ y ends room. omega (arith, ends, lasts, c.due_of-due.ensures.ended))
 
