@@ -1,6 +1,6 @@
 //! The reports of projects and job shops.
 
-ghost use Rattle.std.specs.Prelude.{◌≡◌, ◌≤◌, [], length, map, slice_index, EachIndex};
+ghost use Rattle.std.specs.Prelude.{◌≡◌, ◌≤◌, [], false, length, map, slice_index, EachIndex};
 ghost use Rattle.std.specs.Prelude.{IfOk, IsErrOf, string_bytes};
 ghost use Rattle.plan_net.specs.Network.{count_of};
 ghost use Rattle.plan_shop.specs.Shop.{count_steps};
