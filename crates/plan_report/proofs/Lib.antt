@@ -1,7 +1,7 @@
 pub mod MakespanLemmas
 pub mod MoveLemmas
-pub mod CandidateLemmas
 pub mod SlackLemmas
+pub mod FitLemmas
 pub mod DueLemmas
 pub mod LinkLemmas
 pub mod ReachLemmas
