@@ -77,7 +77,9 @@ pub(crate) fn check_feasible(
 {
     let verdict = check(alloc, instance, starts).map_err(|_| CliFault::Memory)?;
     match verdict {
-        Verdict::Arc(_, _) | Verdict::Over(_, _) => Err(refusal_by(infeasible_text(alloc, verdict))),
+        Verdict::Arc(_, _) | Verdict::Over(_, _) => Err(refusal_by(infeasible_text(
+            alloc, verdict,
+        ))),
         Verdict::Shift(_) | Verdict::Active => Ok(()),
     }
 }
