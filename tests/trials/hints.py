@@ -234,4 +234,6 @@ def try_check_status(room):
         file.write(PROJECT.replace("2 1 2 1", "2 1 2 2"))
     same("a need above the capacity", plan("check", "--status", late, path)[0], 1)
     same("no starts", plan("check", "--status", late)[0], 2)
-    same("a shop", plan("check", "--status", "shops.txt", "-", "-", cwd=room, given=b"0 4 4 5")[0], 3)
+    for starts, status in ((b"0 4 4 5", 0), (b"0 4 4 6", 3), (b"0 3 4 5", 3)):
+        found = plan("check", "--status", "shops.txt", "-", "-", cwd=room, given=starts)
+        same(f"plan check --status of the shop with {starts}", found[0], status)
