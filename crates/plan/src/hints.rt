@@ -5,8 +5,8 @@ use plan_copies::CopyFault;
 use plan_orders::{FileOrder, OfficeOrder, contents_of};
 use plan_serve::{ServeFault, Target};
 use std::alloc::{AllocError, Global};
-use std::env;
 use std::io::IsTerminal;
+use std::{env, fs};
 
 /// Returns whether PLAN_HINTS asks for hints: 1 does, 0 asks for none.
 pub(crate) fn asked_hints(rt: &HostRuntime) -> Option<bool> {
@@ -39,21 +39,32 @@ pub(crate) fn print_error(rt: &HostRuntime, context: Context<'_>, line: &str) ->
     1
 }
 
+// Whether a file can't be read now. A pipe isn't read twice, because that could wait forever.
+fn is_unreadable(rt: &HostRuntime, file: &str) -> bool {
+    match fs::metadata(rt, file) {
+        Ok(found) if found.is_file() => {
+            read_named(rt.alloc(), &SystemInputs::new(rt), file).is_err()
+        }
+        Ok(found) => found.is_dir(),
+        Err(_) => true,
+    }
+}
+
 // Returns the first of these files that can't be read now.
 fn unread<'a>(rt: &HostRuntime, files: &[&'a str]) -> Option<&'a str> {
     for &file in files {
-        if read_named(rt.alloc(), &SystemInputs::new(rt), file).is_err() {
+        if is_unreadable(rt, file) {
             return Some(file);
         }
     }
     None
 }
 
-// Returns what the first of these files contains now.
-fn contents(rt: &HostRuntime, files: &[&str]) -> Contents {
-    let Some(file) = files.first() else {
+// Returns what a file contains now. Only a regular file is read.
+fn contents(rt: &HostRuntime, file: &str) -> Contents {
+    if !fs::metadata(rt, file).is_ok_and(|found| found.is_file()) {
         return Contents::Unknown;
-    };
+    }
     match read_named(rt.alloc(), &SystemInputs::new(rt), file) {
         Ok(text) => contents_of(rt.alloc(), &text),
         Err(_) => Contents::Unknown,
@@ -64,22 +75,21 @@ fn contents(rt: &HostRuntime, files: &[&str]) -> Contents {
 // except standard input.
 fn context_of<'a>(rt: &HostRuntime, order: &FileOrder<'a>, line: &str) -> Context<'a> {
     let context = order.context();
-    let Ok(files) = order.files(rt.alloc()) else {
-        return context;
-    };
     if line == "I1 file" {
-        let unread = unread(rt, &files);
-        return Context {
-            unread: unread.or(context.unread),
-            ..context
+        return match order.files(rt.alloc()) {
+            Ok(files) => Context {
+                unread: unread(rt, &files).or(context.unread),
+                ..context
+            },
+            Err(_) => context,
         };
     }
-    if context.file == Some("standard input") || !line.starts_with(['F', 'T']) {
-        return context;
-    }
-    Context {
-        contents: contents(rt, &files),
-        ..context
+    match order.file() {
+        Some(file) if line.starts_with('F') || line.starts_with('T') => Context {
+            contents: contents(rt, file),
+            ..context
+        },
+        _ => context,
     }
 }
 

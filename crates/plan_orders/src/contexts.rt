@@ -132,31 +132,15 @@ fn push_file<'a>(names: &mut Vec<&'a str>, name: &'a str) -> Result<(), AllocErr
     Ok(())
 }
 
-// Returns the files of a print.
-fn print_files<'a>(alloc: Global, print: Print<'a>) -> Result<Vec<&'a str>, AllocError> {
-    let mut names = Vec::new(alloc);
-    push_file(&mut names, print.file)?;
+// Appends the names of the files of a print, except that of the project or the job shop.
+fn push_print_files<'a>(names: &mut Vec<&'a str>, print: Print<'a>) -> Result<(), AllocError> {
     if let NamedOrigin::Starts(name) = print.origin {
-        push_file(&mut names, name)?;
+        push_file(names, name)?;
     }
     if let Some(name) = print.holidays {
-        push_file(&mut names, name)?;
+        push_file(names, name)?;
     }
-    Ok(names)
-}
-
-// Returns a file and those of texts.
-fn text_files<'a>(
-    alloc: Global,
-    file: &'a str,
-    texts: &'a [NamedText<'a>],
-) -> Result<Vec<&'a str>, AllocError> {
-    let mut names = Vec::new(alloc);
-    push_file(&mut names, file)?;
-    for text in texts {
-        push_file(&mut names, text.name)?;
-    }
-    Ok(names)
+    Ok(())
 }
 
 impl<'a> FileOrder<'a> {
@@ -178,17 +162,42 @@ impl<'a> FileOrder<'a> {
         }
     }
 
-    /// Returns the names of the files that the order reads, without standard input. The first one
-    /// is that of the project, the job shop or the list, unless that is standard input.
-    pub fn files(&self, alloc: Global) -> Result<Vec<&'a str>, AllocError> {
-        match *self {
+    /// Returns the name of the file of the project, the job shop or the list, unless that is
+    /// standard input.
+    pub fn file(&self) -> Option<&'a str> {
+        let file = match *self {
             FileOrder::Task(_, file)
             | FileOrder::Watched(_, file)
-            | FileOrder::Solve { file, .. } => text_files(alloc, file, &[]),
-            FileOrder::Texts { file, texts, .. } => text_files(alloc, file, texts),
-            FileOrder::Print(print) => print_files(alloc, print),
-            FileOrder::New(_) | FileOrder::Explain(_) => Ok(Vec::new(alloc)),
+            | FileOrder::Solve { file, .. }
+            | FileOrder::Texts { file, .. } => file,
+            FileOrder::Print(print) => print.file,
+            FileOrder::New(_) | FileOrder::Explain(_) => return None,
+        };
+        if file == "-" { None } else { Some(file) }
+    }
+
+    // Returns the files of starts and holidays that the order reads, in the order of the arguments.
+    fn text_files(&self, alloc: Global) -> Result<Vec<&'a str>, AllocError> {
+        let mut names = Vec::new(alloc);
+        match *self {
+            FileOrder::Texts { texts, .. } => {
+                for text in texts {
+                    push_file(&mut names, text.name)?;
+                }
+            }
+            FileOrder::Print(print) => push_print_files(&mut names, print)?,
+            _ => {}
         }
+        Ok(names)
+    }
+
+    /// Returns the names of the files that the order reads, without standard input.
+    pub fn files(&self, alloc: Global) -> Result<Vec<&'a str>, AllocError> {
+        let mut names = self.text_files(alloc)?;
+        if let Some(file) = self.file() {
+            names.push(file)?;
+        }
+        Ok(names)
     }
 }
 
