@@ -1,6 +1,8 @@
 //! The arguments of a command that its errors are about.
 
 ghost use Rattle.std.specs.Prelude.{◌≡◌};
+ghost use Rattle.std.specs.List.{ends_with};
+ghost use lib.Dec.{eqb};
 ghost use Rattle.plan_errors.specs.Subjects as spec;
 
 use crate::codes::Code;
@@ -138,15 +140,22 @@ fn usual_subject(code: Code) -> Subject
     }
 }
 
+// Whether a line ends with these words.
+fn ends_in(line: &str, words: &str) -> bool
+    ensures { result ≡ ends_with eqb line.now words.now }
+{
+    line.ends_with(words)
+}
+
 // Returns the file that a line about a file names.
 fn named_file(line: &str) -> Subject
     ensures { result ≡ spec.named_file line.now }
 {
-    if line.ends_with(" of the starts") {
+    if ends_in(line, " of the starts") {
         Subject::Starts
-    } else if line.ends_with(" of the starts A") {
+    } else if ends_in(line, " of the starts A") {
         Subject::StartsA
-    } else if line.ends_with(" of the starts B") {
+    } else if ends_in(line, " of the starts B") {
         Subject::StartsB
     } else {
         Subject::Plan
