@@ -2,15 +2,19 @@
 #![tactic(auto)]
 
 mod file_log;
+mod hints;
 mod progress;
 
 use self::file_log::FileLog;
+use self::hints::{
+    asked_hints, print_error, print_file_error, print_office_error, print_version_hint,
+};
 use self::progress::ProgressLine;
 use clap::Error;
 use clap::error::ErrorKind;
 use plan_cli::{
-    CliFault, Log, NamedText, ProofWatcher, Rows, SolveWatcher, Task, Unlogged, Unwatched,
-    explain_run, explain_run_in, hint, run_on_file, run_on_files, template_run,
+    CliFault, Context, Log, NamedText, ProofWatcher, Rows, SolveWatcher, Task, Unlogged, Unwatched,
+    explain_run, explain_run_in, run_on_file, run_on_files, template_run,
 };
 use plan_copies::{
     CopyFault, backup_on_files, check_on_file, has_log, memory_line, remove_stray_log,
@@ -23,7 +27,7 @@ use plan_orders::{
     texts_of,
 };
 use plan_print::print_on_files;
-use plan_serve::{ServeFault, Service, Target, init_on_file, replay_on_files, serve_on_port};
+use plan_serve::{Service, init_on_file, replay_on_files, serve_on_port};
 use std::alloc::{AllocError, Global};
 use std::env;
 use std::io::{self, IsTerminal, Write};
@@ -74,7 +78,7 @@ fn do_check_office(
     if asked_hints(rt).unwrap_or(true) {
         print_memory(rt, database);
         if is_first {
-            let _ = eprintln!(rt; "hint: {database} has version 1; `plan serve` converts it");
+            print_version_hint(rt, database);
         }
     }
     Ok(())
@@ -252,93 +256,10 @@ fn do_file_order(rt: &HostRuntime, order: FileOrder<'_>, rows: Rows) -> Result<u
     Ok(0)
 }
 
-// Returns whether PLAN_HINTS asks for hints: 1 does, 0 asks for none.
-fn asked_hints(rt: &HostRuntime) -> Option<bool> {
-    let asked = env::var(rt, "PLAN_HINTS").ok()?;
-    match asked.as_str() {
-        "1" => Some(true),
-        "0" => Some(false),
-        _ => None,
-    }
-}
-
-// Whether hints are printed: PLAN_HINTS decides if it is 1 or 0, else they are for a terminal only.
-fn has_hints(rt: &HostRuntime) -> bool {
-    asked_hints(rt).unwrap_or_else(|| rt.stderr().is_terminal())
-}
-
-// Prints a hint, if there is one.
-fn print_hint(rt: &HostRuntime, hint: Result<Option<String>, AllocError>) {
-    if let Ok(Some(text)) = hint {
-        let _ = eprintln!(rt; "{text}");
-    }
-}
-
-// Prints an error line and, if hints are printed, its hint. Returns the status 1.
-fn print_error(rt: &HostRuntime, file: Option<&str>, line: &str) -> u8 {
-    let _ = eprintln!(rt; "{line}");
-    if has_hints(rt) {
-        print_hint(rt, hint(rt.alloc(), file, line));
-    }
-    1
-}
-
 // Prints an error line as JSON. Returns the status 1.
 fn print_json_error(rt: &HostRuntime, line: &str) -> u8 {
     if let Ok(text) = error_json(rt.alloc(), line) {
         let _ = rt.stderr().write_all(&text);
-    }
-    1
-}
-
-// Returns the office of an order, as hints name it.
-fn target_of<'a>(order: &OfficeOrder<'a>) -> Target<'a> {
-    let (database, is_new, port) = match *order {
-        OfficeOrder::Init { database } => (database, true, 0),
-        OfficeOrder::Serve { database, port, .. } => (database, false, port),
-        OfficeOrder::Check { database, .. }
-        | OfficeOrder::Settle { database }
-        | OfficeOrder::Backup { database, .. }
-        | OfficeOrder::Restore { database, .. }
-        | OfficeOrder::Replay { database, .. } => (database, false, 0),
-    };
-    Target {
-        database,
-        is_new,
-        port,
-    }
-}
-
-// Returns the hint for the error of an order on an office: its cause, or the hint for its line if
-// the line names the cause.
-fn office_hint(
-    alloc: Global,
-    order: &OfficeOrder<'_>,
-    fault: ServeFault,
-) -> Result<Option<String>, AllocError> {
-    if let (OfficeOrder::Check { database, .. }, ServeFault::Denied) = (order, fault) {
-        return Ok(Some(format!(in alloc; "hint: this user can't read {database}")?));
-    }
-    if let Some(text) = target_of(order).hint(alloc, fault)? {
-        return Ok(Some(text));
-    }
-    hint(alloc, order.file_of(fault.line()), fault.line())
-}
-
-// Prints the error of an order on an office and, if hints are printed, its hint. A line that names
-// its cause has no hint. Returns the status 1.
-fn print_office_error(rt: &HostRuntime, order: &OfficeOrder<'_>, fault: &CopyFault) -> u8 {
-    let fault = match fault {
-        CopyFault::Office(fault) => *fault,
-        CopyFault::Line(line) => {
-            let _ = eprintln!(rt; "{line}");
-            return 1;
-        }
-    };
-    let line = fault.line();
-    let _ = eprintln!(rt; "{line}");
-    if has_hints(rt) {
-        print_hint(rt, office_hint(rt.alloc(), order, fault));
     }
     1
 }
@@ -353,7 +274,7 @@ fn do_order(rt: &HostRuntime, order: Order<'_>) -> Result<u8, Misuse> {
             Ok(match do_file_order(rt, order, rows) {
                 Ok(status) => status,
                 Err(fault) if rows == Rows::In(Format::Json) => print_json_error(rt, fault.line()),
-                Err(fault) => print_error(rt, order.file_of(fault.line()), fault.line()),
+                Err(fault) => print_file_error(rt, &order, fault.line()),
             })
         }
         Order::Office(order) => Ok(match do_cleanly(rt, order) {
@@ -409,7 +330,7 @@ fn run(rt: &HostRuntime) -> Result<u8, Misuse> {
 // be printed. Returns 1 if memory runs out or the help can't be printed.
 fn print_usage(rt: &HostRuntime, error: &Error) -> u8 {
     if error.kind() == ErrorKind::OutOfMemory {
-        return print_error(rt, None, CliFault::Memory.line());
+        return print_error(rt, Context::NONE, CliFault::Memory.line());
     }
     let printed = error.print(rt);
     if error.use_stderr() {
@@ -417,7 +338,7 @@ fn print_usage(rt: &HostRuntime, error: &Error) -> u8 {
     }
     match printed {
         Ok(()) => 0,
-        Err(_) => print_error(rt, None, CliFault::Output.line()),
+        Err(_) => print_error(rt, Context::NONE, CliFault::Output.line()),
     }
 }
 
@@ -448,7 +369,7 @@ fn print_bad_capacity(rt: &HostRuntime, text: &str) -> u8 {
 // Prints the reason why no command starts, and returns the status.
 fn report(rt: &HostRuntime, misuse: &Misuse) -> u8 {
     match misuse {
-        Misuse::NoMemory => print_error(rt, None, CliFault::Memory.line()),
+        Misuse::NoMemory => print_error(rt, Context::NONE, CliFault::Memory.line()),
         Misuse::Usage(error) => print_usage(rt, error),
         Misuse::NoText => print_misuse(rt, "a word of the command line isn't UTF-8"),
         Misuse::NoCommand => print_misuse(rt, "no command"),

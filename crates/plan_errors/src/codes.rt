@@ -45,6 +45,7 @@ pub(crate) enum Code {
     BadNodes,
     NoResource,
     LateEnd,
+    Infeasible,
     BadDate,
     BadDays,
     BeyondCalendar,
@@ -123,6 +124,7 @@ impl Code {
             "S7" => Some(Code::BadNodes),
             "S8" => Some(Code::NoResource),
             "S9" => Some(Code::LateEnd),
+            "S10" => Some(Code::Infeasible),
             "G1" => Some(Code::BadDate),
             "G2" => Some(Code::BadDays),
             "G3" => Some(Code::BeyondCalendar),
@@ -201,6 +203,7 @@ impl Code {
             Code::BadNodes => "S7",
             Code::NoResource => "S8",
             Code::LateEnd => "S9",
+            Code::Infeasible => "S10",
             Code::BadDate => "G1",
             Code::BadDays => "G2",
             Code::BeyondCalendar => "G3",
@@ -257,7 +260,7 @@ impl Code {
             Code::BadMachine => "a machine number is too large",
             Code::LongTable => "the table is too large",
             Code::NoTableText => "the table isn't UTF-8 text",
-            Code::NoDurations => "no column has the durations",
+            Code::NoDurations => "a required column is missing",
             Code::ColumnTwice => "two columns have the same header",
             Code::BadDuration => "a duration isn't a number",
             Code::BadId => "an id is empty or malformed",
@@ -278,6 +281,7 @@ impl Code {
             Code::BadNodes => "the number of nodes is invalid",
             Code::NoResource => "the project has no such resource",
             Code::LateEnd => "the schedule ends too late",
+            Code::Infeasible => "the start times aren't feasible",
             Code::BadDate => "the first date is invalid",
             Code::BadDays => "the weekday marks are invalid",
             Code::BeyondCalendar => "the last day is after 9999-12-31",
@@ -435,6 +439,9 @@ impl Code {
             }
             Code::LateEnd => {
                 "S9 late\nThe schedule ends after 10,000,000.\nStart the activities earlier, or use larger time units.\n"
+            }
+            Code::Infeasible => {
+                "S10 VERDICT\nThe start times aren't feasible. The verdict is the line that plan check prints: the first activity that starts before a predecessor ends, else the first instant at which a resource or a machine is overloaded.\nCorrect the start times. Check them with plan check.\n"
             }
             Code::BadDate => {
                 "G1 date\nThe first date isn't a date from 1900-01-01 to 2199-12-31 in the form 2024-03-01.\nCorrect the date.\n"

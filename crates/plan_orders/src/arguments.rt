@@ -44,14 +44,12 @@ const ABOUT_COLUMN: usize = 14;
 enum Form {
     /// Any text, even if it begins with a hyphen: the command tests it.
     Text,
-    /// Any text, or none.
-    OptionalText,
     /// A name; a text that begins with a hyphen is an option.
     Name,
+    /// A name, or none.
+    OptionalName,
     /// One or more names.
     Names,
-    /// One or more texts, the first of which may begin with a hyphen.
-    Texts,
     /// A port.
     Port,
     /// The kind of a template.
@@ -111,7 +109,7 @@ impl Form {
     fn is_required(self) -> bool {
         matches!(
             self,
-            Form::Text | Form::Name | Form::Names | Form::Texts | Form::Port | Form::Kind
+            Form::Text | Form::Name | Form::Names | Form::Port | Form::Kind
         )
     }
 }
@@ -204,20 +202,20 @@ const FILE_UNLESS_STARTS: Argument = Argument {
 // The file of starts of a command that always has one.
 const GIVEN_STARTS: Argument = Argument {
     name: "STARTS",
-    form: Form::Text,
+    form: Form::Name,
     help: "the start times: numbers, a printed schedule or its CSV; - for standard input",
 };
 
 // The files of starts of a command that compares two schedules.
 const STARTS_A: Argument = Argument {
     name: "STARTS_A",
-    form: Form::Text,
+    form: Form::Name,
     help: "the start times of schedule A, as for plan check; - for standard input",
 };
 
 const STARTS_B: Argument = Argument {
     name: "STARTS_B",
-    form: Form::Text,
+    form: Form::Name,
     help: "the start times of schedule B",
 };
 
@@ -236,14 +234,14 @@ const HOLIDAYS: Argument = Argument {
 
 const INSTANCE: Argument = Argument {
     name: "INSTANCE",
-    form: Form::Text,
+    form: Form::Name,
     help: "the name of an instance in the file, or - if the file has no names",
 };
 
 // The instance of a job shop file, for commands that also take project files.
 const INSTANCE_IF_SHOP: Argument = Argument {
     name: "INSTANCE",
-    form: Form::OptionalText,
+    form: Form::OptionalName,
     help: "for a job shop file: the name of an instance, or - if the file has no names",
 };
 
@@ -683,7 +681,7 @@ const HELP_COMMANDS: [Entry; 1] = [Entry {
     arguments: &[
         Argument {
             name: "CODE",
-            form: Form::Texts,
+            form: Form::Names,
             help: "the code of an error, in capitals or not, or the whole error line",
         },
         FORMAT,
@@ -744,10 +742,9 @@ impl Group {
 // Makes an argument of clap without its parser.
 fn plain<'a>(alloc: Global, argument: &Argument) -> Arg<'a> {
     let form = argument.form;
-    let hyphen = matches!(form, Form::Text | Form::OptionalText | Form::Texts);
     Arg::new(alloc, argument.name)
         .required(form.is_required())
-        .allow_hyphen_values(hyphen)
+        .allow_hyphen_values(form == Form::Text)
         .help(argument.help)
 }
 
@@ -755,7 +752,7 @@ fn plain<'a>(alloc: Global, argument: &Argument) -> Arg<'a> {
 fn arg_of<'a>(alloc: Global, argument: &Argument) -> Result<Arg<'a>, AllocError> {
     let arg = plain(alloc, argument);
     Ok(match argument.form {
-        Form::Names | Form::Texts => arg.num_args(1..),
+        Form::Names => arg.num_args(1..),
         Form::Kind => arg.value_parser(KINDS),
         Form::Port => arg.value_parser(value_parser!(u16).range(1..=65535)),
         Form::Count => arg
