@@ -235,8 +235,8 @@ fn explain<W: Sink>(alloc: Global, line: &str, rows: Rows, writer: &mut W) -> Re
     }
 }
 
-// Runs a task of `solve`, and writes to standard output and to a log. The log is complete unless the
-// task fails; an output that can't be written comes behind it.
+// Runs a task of `solve`, and writes to standard output and to a log. If only the output can't be
+// written, the log is complete.
 fn do_solve(
     rt: &HostRuntime,
     task: Task<'_>,

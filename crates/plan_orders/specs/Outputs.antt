@@ -1,4 +1,4 @@
--- How a command writes a file that the command line names (docs/definitions.md, "Outputs").
+-- How a command writes a file that the command line names (docs/logs.md, "The file LOG").
 use Rattle.std.specs.Prelude.{◌≡◌, ◌≢◌, ℕ, List, Contains, codes}
 use Rattle.plan_orders.specs.declared.outputs.FileId.{FileId}
 use Rattle.plan_orders.specs.declared.outputs.Found.{Found}
@@ -11,9 +11,9 @@ abbrev pub IsFileAmong : List FileId → Found → Type 0
 IsFileAmong files (found.Regular file) = Contains files file
 IsFileAmong files other = ⊥
 
--- the output is a file that can be replaced without loss: it is neither standard output, which `-`
--- names, nor a file that the command reads or that its standard output or error writes
-pub record MayReplace (name : List ℕ) (output : Found) (inputs streams : List FileId) : Type 0 where
+-- nothing else is lost if the output is written: it isn't standard output, which `-` names, nor a
+-- regular file that the command reads or that its standard output or standard error writes
+pub record MayWrite (name : List ℕ) (output : Found) (inputs streams : List FileId) : Type 0 where
   pub named : name ≢ codes "-"
   pub no_input : ¬ (IsFileAmong inputs output)
   pub no_stream : ¬ (IsFileAmong streams output)
@@ -32,10 +32,10 @@ IsWayFor name output inputs streams way.RefuseInput =
 IsWayFor name output inputs streams way.RefuseStream =
     (name ≢ codes "-") × (¬ (IsFileAmong inputs output)) × IsFileAmong streams output
 IsWayFor name output inputs streams way.RefuseFolder =
-    MayReplace name output inputs streams × (output ≡ found.Folder)
+    MayWrite name output inputs streams × (output ≡ found.Folder)
 IsWayFor name output inputs streams way.RefuseLink =
-    MayReplace name output inputs streams × (output ≡ found.BrokenLink)
+    MayWrite name output inputs streams × (output ≡ found.BrokenLink)
 IsWayFor name output inputs streams way.Straight =
-    MayReplace name output inputs streams × (output ≡ found.Device)
+    MayWrite name output inputs streams × (output ≡ found.Device)
 IsWayFor name output inputs streams way.Beside =
-    MayReplace name output inputs streams × IsReplaceable output
+    MayWrite name output inputs streams × IsReplaceable output
