@@ -41,7 +41,7 @@ pub enum Way {
 
 // Whether a file is one of these.
 fn is_among(files: &[FileId], file: FileId) -> bool
-    ensures { IsTrue result ↔ Contains files.now file.entry }
+    ensures { IsTrue result ↔ Contains files.now file }
 {
     for other in files {
         if other.device == file.device && other.inode == file.inode {
@@ -53,7 +53,7 @@ fn is_among(files: &[FileId], file: FileId) -> bool
 
 // Whether an output is a regular file, one of these.
 fn is_file_among(files: &[FileId], found: Found) -> bool
-    ensures { IsTrue result ↔ IsFileAmong files.now found.entry }
+    ensures { IsTrue result ↔ IsFileAmong files.now found }
 {
     match found {
         Found::Regular(file) => is_among(files, file),
@@ -64,7 +64,7 @@ fn is_file_among(files: &[FileId], found: Found) -> bool
 /// Returns the way to write the output with this name: `inputs` are the files that the command
 /// reads, `streams` those behind standard output and standard error.
 pub fn way_to_write(name: &str, found: Found, inputs: &[FileId], streams: &[FileId]) -> Way
-    ensures way { IsWayFor name.now found.entry inputs.now streams.now result }
+    ensures way { IsWayFor name.now found inputs.now streams.now result }
 {
     if name == "-" {
         return Way::RefuseDash;
