@@ -4,12 +4,14 @@
 mod file_log;
 mod hints;
 mod progress;
+mod streams;
 
-use self::file_log::FileLog;
+use self::file_log::{FileLog, LogFault};
 use self::hints::{
     asked_hints, print_error, print_file_error, print_office_error, print_version_hint,
 };
 use self::progress::ProgressLine;
+use self::streams::fill_closed;
 use clap::Error;
 use clap::error::ErrorKind;
 use plan_cli::{
@@ -24,7 +26,7 @@ use plan_formats::{Format, error_json};
 use plan_io::{MemSink, Sink, StdSink, write_whole};
 use plan_orders::{
     FileOrder, Lists, OfficeOrder, Order, capacities_of, command, help, order_of, overrides_of,
-    texts_of,
+    texts_of, version,
 };
 use plan_print::print_on_files;
 use plan_serve::{Service, init_on_file, replay_on_files, serve_on_port};
@@ -51,6 +53,31 @@ enum Misuse {
 impl From<AllocError> for Misuse {
     fn from(_: AllocError) -> Misuse {
         Misuse::NoMemory
+    }
+}
+
+/// The error of an order on files.
+#[derive(Drop)]
+enum FileFault {
+    Task(CliFault),
+    Log(LogFault),
+}
+
+impl From<CliFault> for FileFault {
+    fn from(fault: CliFault) -> FileFault {
+        FileFault::Task(fault)
+    }
+}
+
+impl From<LogFault> for FileFault {
+    fn from(fault: LogFault) -> FileFault {
+        FileFault::Log(fault)
+    }
+}
+
+impl From<AllocError> for FileFault {
+    fn from(_: AllocError) -> FileFault {
+        FileFault::Task(CliFault::Memory)
     }
 }
 
@@ -212,8 +239,27 @@ fn explain<W: Sink>(alloc: Global, line: &str, rows: Rows, writer: &mut W) -> Re
     }
 }
 
+// Runs a task of `solve`, and writes to standard output and to a log. If only the output can't be
+// written, the log is complete.
+fn do_solve(
+    rt: &HostRuntime,
+    task: Task<'_>,
+    rows: Rows,
+    seconds: Option<u32>,
+    log: Option<&str>,
+    path: &str,
+) -> Result<(), FileFault> {
+    let mut line = ProgressLine::within(rt, seconds);
+    let mut log = FileLog::create(rt, log, path)?;
+    let done = do_task(rt, task, rows, &mut line, &mut log, path);
+    let ended = log.end(rt, matches!(done, Ok(()) | Err(CliFault::Output)));
+    done?;
+    ended?;
+    Ok(())
+}
+
 // Runs an order on files, and writes to standard output. Returns the status.
-fn do_file_order(rt: &HostRuntime, order: FileOrder<'_>, rows: Rows) -> Result<u8, CliFault> {
+fn do_file_order(rt: &HostRuntime, order: FileOrder<'_>, rows: Rows) -> Result<u8, FileFault> {
     let mut writer = StdSink::new(io::writer(rt));
     match order {
         FileOrder::Task(task, path) => {
@@ -228,12 +274,7 @@ fn do_file_order(rt: &HostRuntime, order: FileOrder<'_>, rows: Rows) -> Result<u
             file,
             seconds,
             log,
-        } => {
-            let mut line = ProgressLine::within(rt, seconds);
-            let mut log = FileLog::create(rt, log)?;
-            do_task(rt, task, rows, &mut line, &mut log, file)?;
-            log.end()?;
-        }
+        } => do_solve(rt, task, rows, seconds, log, file)?,
         FileOrder::Texts {
             task,
             file,
@@ -245,7 +286,7 @@ fn do_file_order(rt: &HostRuntime, order: FileOrder<'_>, rows: Rows) -> Result<u
             file,
             texts,
             ..
-        } => return do_check(rt, task, rows, texts, file),
+        } => return Ok(do_check(rt, task, rows, texts, file)?),
         FileOrder::Print(print) => print_on_files(rt, print, &mut writer)?,
         FileOrder::New(template) => template_run(template, &mut writer)?,
         FileOrder::Explain(words) => {
@@ -264,6 +305,31 @@ fn print_json_error(rt: &HostRuntime, line: &str) -> u8 {
     1
 }
 
+// Prints an error line that has no hint, as text or as JSON. Returns the status 1.
+fn print_line(rt: &HostRuntime, rows: Rows, line: &str) -> u8 {
+    if rows == Rows::In(Format::Json) {
+        return print_json_error(rt, line);
+    }
+    let _ = eprintln!(rt; "{line}");
+    1
+}
+
+// Prints the error of an order on files, and returns the status.
+fn print_fault(rt: &HostRuntime, order: &FileOrder<'_>, rows: Rows, fault: &FileFault) -> u8 {
+    let line = match fault {
+        FileFault::Task(fault) => fault.line(),
+        FileFault::Log(LogFault::NoMemory) => CliFault::Memory.line(),
+        FileFault::Log(LogFault::Output) => CliFault::Output.line(),
+        FileFault::Log(LogFault::Usage(what)) => return print_misuse(rt, what.as_str()),
+        // The line names its cause.
+        FileFault::Log(LogFault::Line(line)) => return print_line(rt, rows, line.as_str()),
+    };
+    if rows == Rows::In(Format::Json) {
+        return print_json_error(rt, line);
+    }
+    print_file_error(rt, order, line)
+}
+
 // Runs an order, and returns the status.
 fn do_order(rt: &HostRuntime, order: Order<'_>) -> Result<u8, Misuse> {
     match order {
@@ -273,8 +339,7 @@ fn do_order(rt: &HostRuntime, order: Order<'_>) -> Result<u8, Misuse> {
             }
             Ok(match do_file_order(rt, order, rows) {
                 Ok(status) => status,
-                Err(fault) if rows == Rows::In(Format::Json) => print_json_error(rt, fault.line()),
-                Err(fault) => print_file_error(rt, &order, fault.line()),
+                Err(fault) => print_fault(rt, &order, rows, &fault),
             })
         }
         Order::Office(order) => Ok(match do_cleanly(rt, order) {
@@ -304,12 +369,12 @@ fn run(rt: &HostRuntime) -> Result<u8, Misuse> {
     let alloc = rt.alloc();
     let args = env::args(rt).map_err(|error| args_misuse(&error))?;
     let arguments: Vec<String> = args.collect(alloc)?;
-    let help = help(alloc)?;
+    let (help, version) = (help(alloc)?, version(alloc)?);
     let first = match arguments.get(1) {
         Some(word) => Some(word.as_str()),
         None => None,
     };
-    let parser = command(alloc, help.as_str(), first)?;
+    let parser = command(alloc, help.as_str(), version.as_str(), first)?;
     let parsed = parser.try_get_matches_from(arguments.as_slice());
     let matches = parsed.map_err(Misuse::Usage)?;
     let capacities = capacities_of(alloc, &matches)?.map_err(|text| bad_capacity(alloc, text))?;
@@ -379,6 +444,7 @@ fn report(rt: &HostRuntime, misuse: &Misuse) -> u8 {
 }
 
 fn main(rt: HostRuntime) -> ExitCode {
+    fill_closed(&rt);
     let status = match run(&rt) {
         Ok(status) => status,
         Err(misuse) => report(&rt, &misuse),

@@ -1,7 +1,11 @@
 //! The commands of `plan`, their arguments and their help.
 
+use crate::digest::SOURCES;
 use clap::{Arg, ArgAction, Command, value_parser};
 use std::alloc::{AllocError, Global};
+
+// The number of the release.
+const RELEASE: &str = "0.5.0";
 
 // The start of the help.
 const HELP_START: &str =
@@ -903,15 +907,23 @@ fn entry_named(name: &str) -> Option<&'static Entry> {
     None
 }
 
-/// Returns the parser of the command line, which prints this text as its help. If the first
-/// argument names a command, the parser knows only this one, because each command costs time.
+/// Returns the version of the program: the number of its release, and a line with the digest of its
+/// sources.
+pub fn version(alloc: Global) -> Result<String, AllocError> {
+    format!(in alloc; "{RELEASE}\nsources {SOURCES}")
+}
+
+/// Returns the parser of the command line, which prints these texts as its help and its version. If
+/// the first argument names a command, the parser knows only this one, because each command costs
+/// time.
 pub fn command<'a>(
     alloc: Global,
     help: &'a str,
+    version: &'a str,
     first: Option<&str>,
 ) -> Result<Command<'a>, AllocError> {
     let mut command = Command::new(alloc, "plan")
-        .version("0.4.0")
+        .version(version)
         .override_help(help)
         .subcommand_required(true);
     if let Some(entry) = first.and_then(entry_named) {
