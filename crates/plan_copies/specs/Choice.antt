@@ -14,7 +14,7 @@ form_of byte = cond (nat_le 48 byte && nat_le byte 57) 48 byte
 
 -- the bytes are a time and the ending of a database: the form, with any digits
 abbrev pub is_time : List ℕ → Bool
-is_time bytes = pointwise nat_eq (map form_of bytes) FORM
+is_time bytes = pointwise nat_eq (map form_of bytes) FORM.now
 
 -- the name is the prefix of a database's copies, followed by a time
 abbrev pub is_copy_name : List ℕ → List ℕ → Bool
