@@ -5,6 +5,7 @@
 mod backup;
 mod bytes;
 mod check;
+mod choice;
 mod devices;
 mod expiry;
 mod fault;
