@@ -19,8 +19,8 @@ use plan_cli::{
     explain_run, explain_run_in, run_on_file, run_on_files, template_run,
 };
 use plan_copies::{
-    CopyFault, backup_on_files, check_on_file, has_log, memory_line, remove_stray_log,
-    restore_on_files, scratch_fault, scratch_folder, settle_on_file,
+    CopyFault, backup_on_files, check_on_file, check_orphans, has_log, memory_line,
+    remove_stray_log, restore_on_files, scratch_fault, scratch_folder, settle_on_file,
 };
 use plan_formats::{Format, error_json};
 use plan_io::{MemSink, Sink, StdSink, write_whole};
@@ -129,7 +129,10 @@ fn do_serve(rt: &HostRuntime, service: &Service<'_>) -> Result<(), CopyFault> {
 fn do_office_order(rt: &HostRuntime, order: OfficeOrder<'_>) -> Result<(), CopyFault> {
     let mut writer = StdSink::new(io::writer(rt));
     match order {
-        OfficeOrder::Init { database } => init_on_file(rt, database).map_err(CopyFault::Office),
+        OfficeOrder::Init { database } => {
+            check_orphans(rt, database)?;
+            init_on_file(rt, database).map_err(CopyFault::Office)
+        }
         OfficeOrder::Check { database, folder } => do_check_office(rt, database, folder),
         OfficeOrder::Settle { database } => settle_on_file(rt, database, &mut writer),
         OfficeOrder::Backup {
