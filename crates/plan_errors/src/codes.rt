@@ -375,19 +375,19 @@ impl Code {
                 "T1 too long\nThe table, or the project file that it becomes, is larger than 1,048,576 bytes.\nDelete rows, or split the project.\n"
             }
             Code::NoTableText => {
-                "T2 not text line N\nLine N isn't UTF-8, or a name in it contains a control character.\nSave the table as CSV UTF-8, and delete line breaks in names.\n"
+                "T2 not text line N\nLine N isn't UTF-8, or a name or a predecessor in it contains a control character.\nSave the table as CSV UTF-8, and delete line breaks in names.\n"
             }
             Code::NoDurations => {
                 "T3 no column NAME\nNo column has the header duration (with --shop: order, machine or time); or the table is empty.\nAdd a header line with this column.\n"
             }
             Code::ColumnTwice => {
-                "T4 column NAME twice\nTwo columns have the same header.\nRename or delete one.\n"
+                "T4 column NAME twice\nTwo columns have the same header, or two words for one column: name and task, or predecessors, after and depends on.\nRename or delete one.\n"
             }
             Code::BadDuration => {
                 "T5 line N duration\nThe duration or time in line N isn't a number: one to nine digits, no sign, no fraction.\nCorrect the duration. For fractions use a finer time unit, for example hours.\n"
             }
             Code::BadId => {
-                "T6 line N id\nThe id in line N is empty, has more than 32 characters, or contains a blank, a comma or a semicolon. With --shop: the name of an order or a machine is empty.\nShorten the id, or replace its blanks.\n"
+                "T6 line N id\nThe id in line N is empty, has more than 32 characters, or contains a blank, a comma, a semicolon or a control character. With --shop: the name of an order or a machine is empty.\nShorten the id, or replace its blanks.\n"
             }
             Code::IdTwice => {
                 "T7 line N id ID twice\nThe id in line N is the id of an earlier row.\nGive each row its own id.\n"
@@ -405,7 +405,7 @@ impl Code {
                 "T11 cycle A B ..\nThe rows with these ids form a cycle: each precedes the next, and the last precedes A.\nDelete one of these predecessors.\n"
             }
             Code::TableLimit => {
-                "T12 limit line N\nA limit is exceeded in line N: 500 rows, 16 resources, durations and amounts up to 10,000, all durations together up to 1,000,000, names up to 200 bytes. With --shop: 1 to 50 orders and 1 to 20 machines. Line 0 is the whole list.\nChoose a coarser time unit, or split the project.\n"
+                "T12 limit line N\nA limit is exceeded in line N: 1 to 500 rows, 16 resources, durations and amounts up to 10,000, all durations together up to 1,000,000, names up to 200 bytes. With --shop: 1 to 50 orders and 1 to 20 machines. Line 0 is the whole list.\nChoose a coarser time unit, or split the project.\n"
             }
             Code::BadCells => {
                 "T13 line N cells\nLine N has more cells than the header, or a quote that opens in line N isn't closed.\nDelete the extra cells, put quotes around a cell with a separator, or close the quote.\n"
