@@ -1,10 +1,9 @@
 -- Steps of the loops of choice.rt.
 use Rattle.std.specs.Prelude.{◌≡◌, ◌&&◌, ◌+◌, ◌<◌, ℕ, List, Bool, true, false, cond, Contains, map, take, drop, length, get_or, [], ◌∷◌, ◌++◌, nat_eq, Decides, count_by, filter, All}
-use Rattle.std.proofs.Common.{rules, ap, sym, ◌∙◌, subst, refl, true≢false, is_lt, take_all, ◌≤◌}
-use Rattle.std.proofs.lemmas.List.{take_more, map-append, get_or-map}
+use Rattle.std.proofs.Common.{append-nil, rules, ap, sym, ◌∙◌, subst, refl, true≢false, is_lt, ◌≤◌}
+use Rattle.std.proofs.lemmas.List.{take_more, map-append, get_or-map, length-map, take_all}
 use Rattle.std.proofs.lemmas.Grind.{same_number_lists}
 use Rattle.std.specs.Prelude.{slice_index}
-use Rattle.std.proofs.Math.ListN.{length-map}
 use Rattle.std.proofs.lemmas.List.Sums.{sum_by_push}
 use Rattle.std.proofs.lemmas.List.Elements.{All-push, All-contains, filter-append, filter_passes}
 use Rattle.std.proofs.lemmas.Cmp.{tied_itself}
@@ -23,13 +22,13 @@ form_at bytes form i l e = sym (get_or-map form_of bytes i 0 0 l) ∙ ap (λ xs.
 -- a list has a form if each of its bytes has
 pub same_forms : (bytes form : List ℕ) → length bytes ≡ length form
     → ((k : ℕ) → k < length bytes → form_of (slice_index bytes k) ≡ slice_index form k) → map form_of bytes ≡ form
-same_forms bytes form e h = same_number_lists (map form_of bytes) form (length-map form_of bytes ∙ e)
-    (λ k l. let inside : k < length bytes = subst (λ n. k < n) (length-map form_of bytes) l in
+same_forms bytes form e h = same_number_lists (map form_of bytes) form (length-map bytes form_of ∙ e)
+    (λ k l. let inside : k < length bytes = subst (λ n. k < n) (length-map bytes form_of) l in
     get_or-map form_of bytes k 0 0 inside ∙ h k inside)
 
 -- all elements are tested
 pub all_done : {X Y : Type 0} (f : X → Y) (P : Y → Type 0) (xs : List X) (i : ℕ) → length xs ≤ i → All P (map f (take i xs)) → All P (map f xs)
-all_done f P xs i l h = subst (λ ys. All P (map f ys)) (take_all xs i l) h
+all_done f P xs i l h = subst (λ ys. All P (map f ys)) (take_all i xs l) h
 
 module _ {X Y : Type 0} (f : X → Y) (xs : List X) (i : ℕ) (x : X) (l : i < length xs) (e : x ≡ get_or xs i x) where
   -- one element more is mapped
@@ -44,6 +43,17 @@ module _ {X Y : Type 0} (f : X → Y) (xs : List X) (i : ℕ) (x : X) (l : i < l
   -- and filtered
   pub filter_map_more : (p : Y → Bool) → filter p (map f (take (i + 1) xs)) ≡ filter p (map f (take i xs)) ++ cond (p (f x)) (f x ∷ []) []
   filter_map_more p = ap (filter p) map_more ∙ filter-append p (map f (take i xs)) (f x ∷ [])
+
+  -- a list of the elements that pass, after one more that passes or doesn't
+  pub filter_yes : (p : Y → Bool) (ys zs : List Y) → p (f x) ≡ true → ys ≡ filter p (map f (take i xs))
+      → zs ≡ ys ++ f x ∷ [] → zs ≡ filter p (map f (take (i + 1) xs))
+  filter_yes p ys zs t h e = e ∙ ap (λ l. l ++ f x ∷ []) h
+      ∙ sym (filter_map_more p ∙ ap (λ b. filter p (map f (take i xs)) ++ cond b (f x ∷ []) []) t)
+
+  pub filter_no : (p : Y → Bool) (ys zs : List Y) → p (f x) ≡ false → ys ≡ filter p (map f (take i xs))
+      → zs ≡ ys → zs ≡ filter p (map f (take (i + 1) xs))
+  filter_no p ys zs t h e = e ∙ h
+      ∙ sym (filter_map_more p ∙ ap (λ b. filter p (map f (take i xs)) ++ cond b (f x ∷ []) []) t ∙ append-nil (filter p (map f (take i xs))))
 
   -- and tested
   pub all_more : (P : Y → Type 0) → All P (map f (take i xs)) → P (f x) → All P (map f (take (i + 1) xs))

@@ -1,7 +1,7 @@
 //! The choice of the copies of a folder that a backup removes.
 
-ghost use Rattle.std.specs.Prelude.{◌≡◌, ◌<◌, ◌≤◌, IfSome, IfNone, IsOk, Contains, true, map, filter, length, All, Decides, false, IfOk, IfErr};
-ghost use Rattle.std.specs.Prelude.{string_bytes, count_by};
+ghost use Rattle.std.specs.Prelude.{◌≡◌, ◌+◌, ◌≤◌, IfSome, IfNone, IsOk, Contains, true, map, filter, length, All, Decides, false, IfOk, IfErr};
+ghost use Rattle.std.specs.Prelude.{string_bytes, OnOk, ◌++◌, ◌∷◌, []};
 ghost use Rattle.plan_copies.specs.Choice.{count_between, form_of, is_before, is_copy_name};
 ghost use Rattle.plan_copies.specs.Choice.{is_earlier, is_expired, is_later, IsLate};
 
@@ -106,6 +106,18 @@ fn is_expired(names: &[String], prefix: &str, new: &str, keep: usize, name: &str
         && count_between(names, prefix, new, name) + 1 >= keep
 }
 
+// Adds a name to a list.
+fn add(alloc: Global, list: &mut Vec<String>, name: &str) -> Result<(), ChoiceFault>
+    ensures ok { OnOk result (map string_bytes list.new.items
+        ≡ map string_bytes list.old.items ++ name.now ∷ []) }
+    ensures failed { IfErr result (λ e. e ≡ ChoiceFault.Memory) }
+{
+    let Ok(name) = name.to_string(alloc) else {
+        return Err(ChoiceFault::Memory);
+    };
+    list.push(name).map_err(|_| ChoiceFault::Memory)
+}
+
 /// Returns the names of the copies that a backup removes: all but the latest `keep` of those whose
 /// names begin with this prefix, the new one counted.
 pub fn expired(
@@ -133,12 +145,7 @@ pub fn expired(
     for entry in names {
         let name = entry.as_str();
         if is_expired(names, prefix, new, keep, name) {
-            let Ok(name) = name.to_string(alloc) else {
-                return Err(ChoiceFault::Memory);
-            };
-            if old.push(name).is_err() {
-                return Err(ChoiceFault::Memory);
-            }
+            add(alloc, &mut old, name)?;
         }
     }
     Ok(old)
