@@ -341,20 +341,28 @@ fn print_line(rt: &HostRuntime, rows: Rows, line: &str) -> u8 {
     1
 }
 
-// Prints the error of an order on files, and returns the status.
-fn print_file_error(rt: &HostRuntime, order: FileOrder<'_>, rows: Rows, fault: &FileFault) -> u8 {
-    let line = match fault {
-        FileFault::Task(fault) => fault.line(),
-        FileFault::Log(LogFault::NoMemory) => CliFault::Memory.line(),
-        FileFault::Log(LogFault::Output) => CliFault::Output.line(),
-        FileFault::Log(LogFault::Usage(what)) => return print_misuse(rt, what.as_str()),
-        // The line names its cause.
-        FileFault::Log(LogFault::Line(line)) => return print_line(rt, rows, line.as_str()),
-    };
+// Prints the error line of an order on files, with its hint or as JSON. Returns the status 1.
+fn print_task_error(rt: &HostRuntime, order: FileOrder<'_>, rows: Rows, line: &str) -> u8 {
     if rows == Rows::In(Format::Json) {
         return print_json_error(rt, line);
     }
     print_error(rt, order.file_of(line), line)
+}
+
+// Prints the error of an order on files, and returns the status. An error line of a log names its
+// cause, so it has no hint.
+fn print_file_error(rt: &HostRuntime, order: FileOrder<'_>, rows: Rows, fault: &FileFault) -> u8 {
+    match fault {
+        FileFault::Task(fault) => print_task_error(rt, order, rows, fault.line()),
+        FileFault::Log(LogFault::NoMemory) => {
+            print_task_error(rt, order, rows, CliFault::Memory.line())
+        }
+        FileFault::Log(LogFault::Output) => {
+            print_task_error(rt, order, rows, CliFault::Output.line())
+        }
+        FileFault::Log(LogFault::Usage(what)) => print_misuse(rt, what.as_str()),
+        FileFault::Log(LogFault::Line(line)) => print_line(rt, rows, line.as_str()),
+    }
 }
 
 // Returns the office of an order, as hints name it.
