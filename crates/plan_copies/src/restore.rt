@@ -185,30 +185,37 @@ fn code_of(fault: CheckFault) -> &'static str {
     }
 }
 
-// Copies the log of a database into it. Returns nothing if the database isn't a sound office.
-fn settle_old(rt: &HostRuntime, database: &str) -> Result<Option<Settled>, CopyFault> {
+// Copies the log of a database into it, and closes its files. Returns nothing if the database isn't
+// a sound office.
+fn close_old(rt: &HostRuntime, database: &str) -> Result<Option<Settled>, CopyFault> {
     let mut text = MemSink::new(Vec::new(rt.alloc()));
-    let had_log = has_log(rt, database);
     let looked = fs::metadata(rt, database);
-    let (done, files) = settle_from(rt, database, looked, Unknown, &mut text);
+    let (done, closed) = settle_from(rt, database, looked, Unknown, &mut text);
+    let files = match closed {
+        Some(closed) => closed.ok(),
+        None => None,
+    };
     match done {
-        Ok(()) => {
-            if let Some(Ok(files)) = files {
-                let summary = text.into_bytes();
-                return Ok(Some(Settled { files, summary }));
-            }
-        }
+        Ok(()) => {}
         Err(ServeFault::Locked) => return Err(busy_fault(rt, database)),
         // The text is in memory.
         Err(ServeFault::Memory | ServeFault::Output) => {
             return Err(CopyFault::Office(ServeFault::Memory));
         }
-        Err(_) => drop(files),
+        Err(_) => return Ok(None),
     }
-    if !had_log {
+    let summary = text.into_bytes();
+    Ok(files.map(|files| Settled { files, summary }))
+}
+
+// The same. If the database isn't a sound office, no new log stays beside it.
+fn settle_old(rt: &HostRuntime, database: &str) -> Result<Option<Settled>, CopyFault> {
+    let had_log = has_log(rt, database);
+    let settled = close_old(rt, database)?;
+    if settled.is_none() && !had_log {
         remove_stray_log(rt, database);
     }
-    Ok(None)
+    Ok(settled)
 }
 
 // Returns the summary of a database that got another name, or the error of its check.
