@@ -90,8 +90,8 @@ pub enum Task<'a> {
     },
     /// The slack of each activity in a feasible schedule: the greatest delay such that each delay
     /// up to it is feasible, while all others keep their starts and the makespan stays. The last
-    /// line is a chain of activities without slack. Errors: those of [`Task::Check`], `S10` with the
-    /// verdict if the starts aren't feasible, `S9` (the end is after 10,000,000).
+    /// line is a chain of activities without slack. Errors: those of [`Task::Check`], `S10` with
+    /// the verdict if the starts aren't feasible, `S9` (the end is after 10,000,000).
     Slack {
         starts: &'a [u8],
         capacities: &'a [Capacity<'a>],

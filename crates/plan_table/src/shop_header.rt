@@ -1,5 +1,5 @@
 //! The header of a list of orders: `order`, and then pairs of `machine` and `time`. Columns without a
-//! header may stand behind them.
+//! header may follow.
 
 ghost use Rattle.std.specs.Prelude.{◌≡◌, map};
 ghost use Rattle.plan_table.specs.Reading.{Gives};
