@@ -105,15 +105,6 @@ text_fits : (other : Bool) (line : List ℕ) (ms : Members) → MembersFit 1 ms 
 text_fits true line ms fit = put_fits 1 (codes "text") (string line) ms (refl, omega arith) fit
 text_fits false line ms fit = fit
 
-found_fits : (found : List (List ℕ)) (line : List ℕ) (ms : Members) → MembersFit 1 ms → MembersFit 1 (lines.with_members found line ms)
-found_fits found line ms fit =
-    text_fits (lines.has_other found) line _
-    (if_fits (codes "resource") (lines.number_behind (codes "resource") found) _
-    (if_fits (codes "machine") (lines.number_behind (codes "machine") found) _
-    (if_fits (codes "line") (lines.number_behind (codes "line") found) _
-    (cycle_fits (lines.front_numbers (lines.behind (codes "cycle") found)) _
-    (if_fits (codes "activity") (lines.number_behind (codes "activity") found) ms fit)))))
-
 sentence_fits : (found : List (List ℕ)) (ms : Members) → MembersFit 1 ms → MembersFit 1 (lines.with_sentence found ms)
 sentence_fits found ms fit =
     if_fits (codes "predecessor") (lines.predecessor_in found) _
@@ -129,12 +120,20 @@ verdict_fits : (code : List ℕ) (found : List (List ℕ)) (ms : Members) → Me
 verdict_fits code found ms fit =
     either_fits (bytes_eq code (codes "S10")) (lines.with_sentence found ms) ms (sentence_fits found ms fit) fit
 
+found_fits : (code : List ℕ) (found : List (List ℕ)) (line : List ℕ) (ms : Members) → MembersFit 1 ms → MembersFit 1 (lines.with_members code found line ms)
+found_fits code found line ms fit =
+    text_fits (lines.has_other found) line _
+    (if_fits (codes "resource") (lines.number_behind (codes "resource") found) _
+    (if_fits (codes "machine") (lines.number_behind (codes "machine") found) _
+    (if_fits (codes "line") (lines.number_behind (codes "line") found) _
+    (cycle_fits (lines.front_numbers (lines.behind (codes "cycle") found)) _
+    (if_fits (codes "activity") (lines.number_behind (codes "activity") found) _ (verdict_fits code found ms fit))))))
+
 error_members_fit : (found : List (List ℕ)) (line : List ℕ) → MembersFit 1 (lines.error_members found line)
 error_members_fit [] line = tt
 error_members_fit (code ∷ found) line =
-    found_fits found line _
-    (verdict_fits code found _
-    (put_fits 1 (codes "code") (string (utf8_lossy code)) no_members (refl, omega arith) tt))
+    found_fits code found line _
+    (put_fits 1 (codes "code") (string (utf8_lossy code)) no_members (refl, omega arith) tt)
 
 -- the value of an error line
 pub error_fits : (line : List ℕ) → Fits 2 (lines.error_data line)

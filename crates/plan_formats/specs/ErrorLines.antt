@@ -73,19 +73,6 @@ abbrev pub with_text : List (List ℕ) → List ℕ → Members → Members
 with_text found line members =
     if has_other found then put (codes "text") (json.string line) members else members
 
--- the members that the words behind a code add
-abbrev pub with_members : List (List ℕ) → List ℕ → Members → Members
-with_members found line members =
-    with_text found line
-    (with_number found
-    (with_number found
-    (with_number found
-    (with_cycle found
-    (with_number found members (codes "activity")))
-    (codes "line"))
-    (codes "machine"))
-    (codes "resource"))
-
 -- the first number among words
 abbrev pub first_among : List (List ℕ) → Option ℕ
 first_among [] = None
@@ -110,12 +97,24 @@ abbrev pub with_verdict : List ℕ → List (List ℕ) → Members → Members
 with_verdict code found members =
     if bytes_eq code (codes "S10") then with_sentence found members else members
 
+-- the members that the words behind a code add
+abbrev pub with_members : List ℕ → List (List ℕ) → List ℕ → Members → Members
+with_members code found line members =
+    with_text found line
+    (with_number found
+    (with_number found
+    (with_number found
+    (with_cycle found
+    (with_number found (with_verdict code found members) (codes "activity")))
+    (codes "line"))
+    (codes "machine"))
+    (codes "resource"))
+
 -- the members of a line with these words
 abbrev pub error_members : List (List ℕ) → List ℕ → Members
 error_members [] line = no_members
 error_members (code ∷ found) line =
-    with_members found line
-    (with_verdict code found (put (codes "code") (json.string (utf8_lossy code)) no_members))
+    with_members code found line (put (codes "code") (json.string (utf8_lossy code)) no_members)
 
 -- an error line as an object
 abbrev pub error_data : List ℕ → Data

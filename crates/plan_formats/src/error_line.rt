@@ -122,24 +122,6 @@ fn put_text(
     Ok(())
 }
 
-// Sets the members of an error line with this code and these words behind it.
-fn put_members(
-    alloc: Global,
-    object: &mut Map<String, Value>,
-    words: &[&[u8]],
-    line: &str,
-) -> Result<(), AllocError>
-    ensures { OnOk result (members_view object.new.entries ≡ spec.with_members
-        (map (λ word. word.now) words.now) line.now (members_view object.old.entries)) }
-{
-    put_number(alloc, object, words, "activity")?;
-    put_cycle(alloc, object, words)?;
-    put_number(alloc, object, words, "line")?;
-    put_number(alloc, object, words, "machine")?;
-    put_number(alloc, object, words, "resource")?;
-    put_text(alloc, object, words, line)
-}
-
 // Returns the first number among words, if there is one.
 fn first_among(words: &[&[u8]]) -> Option<u64>
     ensures { result ≡ spec.first_among (map (λ word. word.now) words.now) }
@@ -199,6 +181,26 @@ fn put_verdict(
     Ok(())
 }
 
+// Sets the members of an error line with this code and these words behind it.
+fn put_members(
+    alloc: Global,
+    object: &mut Map<String, Value>,
+    code: &[u8],
+    words: &[&[u8]],
+    line: &str,
+) -> Result<(), AllocError>
+    ensures { OnOk result (members_view object.new.entries ≡ spec.with_members code.now
+        (map (λ word. word.now) words.now) line.now (members_view object.old.entries)) }
+{
+    put_verdict(alloc, object, code, words)?;
+    put_number(alloc, object, words, "activity")?;
+    put_cycle(alloc, object, words)?;
+    put_number(alloc, object, words, "line")?;
+    put_number(alloc, object, words, "machine")?;
+    put_number(alloc, object, words, "resource")?;
+    put_text(alloc, object, words, line)
+}
+
 // Returns an error line as an object.
 fn error_value(alloc: Global, line: &str) -> Result<Value, AllocError>
     ensures { IfOk result (λ value. view value ≡ spec.error_data line.now) }
@@ -208,8 +210,7 @@ fn error_value(alloc: Global, line: &str) -> Result<Value, AllocError>
     if let [first, rest @ ..] = words.as_slice() {
         let code = String::from_utf8_lossy(alloc, first)?;
         put(&mut object, alloc, "code", Value::String(code))?;
-        put_verdict(alloc, &mut object, first, rest)?;
-        put_members(alloc, &mut object, rest, line)?;
+        put_members(alloc, &mut object, first, rest, line)?;
     }
     Ok(Value::Object(object))
 }
