@@ -241,6 +241,7 @@ def try_house():
 
 
 def try_drawn_results(count, seed):
+    try_house()
     draw = random.Random(seed)
     with tempfile.TemporaryDirectory() as folder:
         for n in range(count):
@@ -253,7 +254,6 @@ def main():
     parser.add_argument("--seed", type=int, default=1, help="where the projects begin")
     words = parser.parse_args()
     try:
-        try_house()
         try_drawn_results(words.projects, words.seed)
     except Wrong as wrong:
         sys.exit(str(wrong))

@@ -31,15 +31,19 @@ fits_inside caps used from x u needs since before fits y k below within =
     let at : from + (u - from) ≡ u + y = omega (arith, since, below) in
     omega (arith, fits (u - from) k (omega (arith, since, before)) within, ap (λ (t : ℕ). used t k) at)
 
+-- the index of an instant
+pub index_at : (xs : List ℕ) (u : ℕ) → Contains xs u → (m : ℕ) × (m < length xs) × (get_or xs m 0 ≡ u)
+index_at xs u there = (there.0, there.1, omega (arith, there.2, get_or_default xs there.0 u 0 there.1))
+
 -- in rising order an instant before that at an index has a lower index
 pub index_below : (xs : List ℕ) (n u : ℕ) → IsRising xs → n < length xs → Contains xs u → u < get_or xs n 0 → (m : ℕ) × (m < n) × (get_or xs m 0 ≡ u)
 index_below xs n u rising inside there before =
-    let m = there.0 in
-    let at : get_or xs m 0 ≡ u = omega (arith, there.2, get_or_default xs m u 0 there.1) in
+    let found = index_at xs u there in
+    let m = found.0 in
     elim (cases_lt m n) [
-      | inl low ↦ (m, low, at)
+      | inl low ↦ (m, low, found.2)
       | inr high ↦ elim (cases_eq m n) [
-        | inl same ↦ absurd (omega (arith, ap (λ (i : ℕ). get_or xs i 0) same, at, before))
-        | inr apart ↦ absurd (omega (arith, rising n m (omega (arith, high, apart)) there.1, at, before))
+        | inl same ↦ absurd (omega (arith, ap (λ (i : ℕ). get_or xs i 0) same, found.2, before))
+        | inr apart ↦ absurd (omega (arith, rising n m (omega (arith, high, apart)) found.1, found.2, before))
       ]
     ]

@@ -58,7 +58,7 @@ fn push_cells(text: &mut String, columns: &[&str], row: &Value) -> Result<(), Al
 }
 
 // Appends the line of a row.
-#[tactic(auto, unfolding(crate::specs::JsonTable::row_text))]
+#[tactic(auto, using(crate::proofs::JsonLemmas::row_text_of_names))]
 fn push_row(text: &mut String, columns: &[&str], row: &Value) -> Result<(), AllocError>
     ensures { OnOk result (string_bytes text.new ≡ string_bytes text.old
         ++ spec.row_text (map (λ name. name.now) columns.now) (view row.now)) }
@@ -70,7 +70,8 @@ fn push_row(text: &mut String, columns: &[&str], row: &Value) -> Result<(), Allo
 // Appends the lines of rows.
 fn push_rows(text: &mut String, columns: &[&str], rows: &[Value]) -> Result<(), AllocError>
     ensures { OnOk result (string_bytes text.new ≡ string_bytes text.old
-        ++ spec.rows_text (map (λ name. name.now) columns.now) (items_view rows.now)) }
+        ++ flat_map (λ row. spec.row_text (map (λ name. name.now) columns.now) (view row))
+        rows.now) }
 {
     for row in rows {
         push_row(text, columns, row)?;
@@ -99,7 +100,7 @@ fn push_names(text: &mut String, columns: &[&str]) -> Result<(), AllocError>
 }
 
 // Appends the line with the names of the columns.
-#[tactic(auto, unfolding(crate::specs::JsonTable::head_text))]
+#[tactic(auto, using(crate::proofs::JsonLemmas::head_text_of_names))]
 fn push_head(text: &mut String, columns: &[&str]) -> Result<(), AllocError>
     ensures { OnOk result (string_bytes text.new
         ≡ string_bytes text.old ++ spec.head_text (map (λ name. name.now) columns.now)) }
@@ -119,7 +120,7 @@ fn rows_in(value: &Value) -> &[Value]
 }
 
 // Returns the table of a document.
-#[tactic(auto, unfolding(crate::specs::JsonTable::table_text))]
+#[tactic(auto, using(crate::proofs::JsonLemmas::rows_text_of_values), unfolding(crate::specs::JsonTable::table_text))]
 fn table_of(alloc: Global, columns: &[&str], value: &Value) -> Result<String, AllocError>
     ensures { IfOk result (λ table. string_bytes table
         ≡ spec.table_text (map (λ name. name.now) columns.now) (view value.now)) }
@@ -134,7 +135,11 @@ fn table_of(alloc: Global, columns: &[&str], value: &Value) -> Result<String, Al
 /// each object in its array `rows`. A cell is empty if it is no whole number. Fails with
 /// `MissingHead` (F3) at line 1 if the text isn't JSON.
 #[tactic(auto, unfolding(crate::specs::JsonTable::table_in))]
-pub(crate) fn json_table(alloc: Global, columns: &[&str], text: &[u8]) -> Result<String, ReadError>
+pub(crate) fn table_of_json(
+    alloc: Global,
+    columns: &[&str],
+    text: &[u8],
+) -> Result<String, ReadError>
     ensures { Gives (λ table. string_bytes table) result
         (spec.table_in (map (λ name. name.now) columns.now) text.now) }
 {
