@@ -51,7 +51,7 @@ fn push_cells(text: &mut String, columns: &[&str], row: &Value) -> Result<(), Al
         ++ flat_map (λ column. spec.cell_text (spec.number_at (view row.now) column.now))
         columns.now) }
 {
-    for column in columns {
+    for &column in columns {
         push_cell(text, number_at(row, column))?;
     }
     Ok(())
@@ -93,7 +93,7 @@ fn push_names(text: &mut String, columns: &[&str]) -> Result<(), AllocError>
     ensures { OnOk result (string_bytes text.new ≡ string_bytes text.old
         ++ flat_map (λ column. column.now ++ codes ",") columns.now) }
 {
-    for column in columns {
+    for &column in columns {
         push_name(text, column)?;
     }
     Ok(())
