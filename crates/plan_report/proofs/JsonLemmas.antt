@@ -1,6 +1,8 @@
 -- The table of a JSON document, by the names and the values that the program keeps.
-use Rattle.std.proofs.Common.{ℕ, ◌≡◌, List, [], ◌∷◌, ◌++◌, map, flat_map, codes, refl, ap}
+use Rattle.std.proofs.Common.{ℕ, ◌≡◌, List, [], ◌∷◌, ◌++◌, Result, Ok, Err, if◌then◌else◌, map, flat_map, codes, refl, sym, ◌∙◌, ap}
+use Rattle.std.proofs.lemmas.List.{append_assoc}
 use Rattle.std.proofs.lemmas.List.Folds.{flat_map-map}
+use Rattle.std.specs.Result.{OnOk, is_ok}
 use Rattle.std.specs.Borrow.{Bor}
 use Rattle.serde_json.specs.Data.{Data}
 use Rattle.serde_json.specs.View.{view, items_view}
@@ -26,3 +28,10 @@ pub rows_text_of_values : (columns : List (List ℕ)) (rows : List Value) → ro
     ≡ flat_map (λ row. row_text columns (view row)) rows
 rows_text_of_values columns [] = refl
 rows_text_of_values columns (row ∷ rows) = ap (λ (text : List ℕ). row_text columns (view row) ++ text) (rows_text_of_values columns rows)
+
+-- a text with one more part, as the text with both parts behind it
+pub written_behind : {T E : Type 0} (r : Result T E) (new before old first next whole : List ℕ)
+    → new ≡ (if is_ok r then before ++ next else before) → before ≡ old ++ first → whole ≡ first ++ next → OnOk r (new ≡ old ++ whole)
+written_behind (Ok u) new before old first next whole bytes so_far parts =
+    bytes ∙ ap (λ (text : List ℕ). text ++ next) so_far ∙ append_assoc old first next ∙ ap (λ (text : List ℕ). old ++ text) (sym parts)
+written_behind (Err u) new before old first next whole bytes so_far parts = tt

@@ -58,7 +58,6 @@ fn push_cells(text: &mut String, columns: &[&str], row: &Value) -> Result<(), Al
 }
 
 // Appends the line of a row.
-#[tactic(auto, using(crate::proofs::JsonLemmas::row_text_of_names))]
 fn push_row(text: &mut String, columns: &[&str], row: &Value) -> Result<(), AllocError>
     ensures { OnOk result (string_bytes text.new ≡ string_bytes text.old
         ++ spec.row_text (map (λ name. name.now) columns.now) (view row.now)) }
@@ -100,7 +99,6 @@ fn push_names(text: &mut String, columns: &[&str]) -> Result<(), AllocError>
 }
 
 // Appends the line with the names of the columns.
-#[tactic(auto, using(crate::proofs::JsonLemmas::head_text_of_names))]
 fn push_head(text: &mut String, columns: &[&str]) -> Result<(), AllocError>
     ensures { OnOk result (string_bytes text.new
         ≡ string_bytes text.old ++ spec.head_text (map (λ name. name.now) columns.now)) }
