@@ -7,6 +7,7 @@ pub mod LinkLemmas
 pub mod ReachLemmas
 pub mod ChainLemmas
 pub mod NumberLemmas
+pub mod JsonLemmas
 pub mod SheetLemmas
 pub mod TextLemmas
 pub mod EntryLemmas
