@@ -165,8 +165,11 @@ def try_hint_characters(room):
         found = plan("cpm", name, cwd=room, env=HINTED)
         same(f"the hint for {name!r}", found, (1, b"", wanted.encode()))
         wanted = f"E91 store\nhint: there is no {shown}\n"
-        found = plan("settle", name, cwd=room, env=HINTED)
+        found = plan("serve", name, str(free_port()), cwd=room, env=HINTED)
         same(f"the hint for the office {name!r}", found, (1, b"", wanted.encode()))
+        wanted = f"E91 store: there is no {shown}; check the name\n"
+        found = plan("settle", name, cwd=room, env=HINTED)
+        same(f"the line for the office {name!r}", found, (1, b"", wanted.encode()))
 
 
 # Command lines with a word that is no option of the command, and that word without its value.
