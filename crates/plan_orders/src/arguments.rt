@@ -207,7 +207,7 @@ const FILE_UNLESS_STARTS: Argument = Argument {
 const GIVEN_STARTS: Argument = Argument {
     name: "STARTS",
     form: Form::Name,
-    help: "the start times: numbers, a printed schedule or its CSV; - for standard input",
+    help: "the start times: numbers, a printed schedule, its CSV or JSON; - for standard input",
 };
 
 // The files of starts of a command that compares two schedules.
@@ -650,7 +650,7 @@ const SERVER_COMMANDS: [Entry; 7] = [
         name: "restore",
         about: "Puts a copy in the place of an office, and prints both digests",
         examples: "The server has to be stopped. The old database gets another name.\n\n\
-            Example:\n  plan restore copies/office-20260301T030512Z.db office.db",
+            Example:\n  plan restore copies/office-1f2e3d4c-20260301T030512Z.db office.db",
         arguments: &[
             Argument {
                 name: "COPY",

@@ -132,6 +132,14 @@ fn push_file<'a>(names: &mut Vec<&'a str>, name: &'a str) -> Result<(), AllocErr
     Ok(())
 }
 
+// Appends the names of the files of some texts.
+fn push_texts<'a>(names: &mut Vec<&'a str>, texts: &[NamedText<'a>]) -> Result<(), AllocError> {
+    for text in texts {
+        push_file(names, text.name)?;
+    }
+    Ok(())
+}
+
 // Appends the names of the files of a print, except that of the project or the job shop.
 fn push_print_files<'a>(names: &mut Vec<&'a str>, print: Print<'a>) -> Result<(), AllocError> {
     if let NamedOrigin::Starts(name) = print.origin {
@@ -180,11 +188,7 @@ impl<'a> FileOrder<'a> {
     fn text_files(&self, alloc: Global) -> Result<Vec<&'a str>, AllocError> {
         let mut names = Vec::new(alloc);
         match *self {
-            FileOrder::Texts { texts, .. } => {
-                for text in texts {
-                    push_file(&mut names, text.name)?;
-                }
-            }
+            FileOrder::Texts { texts, .. } => push_texts(&mut names, texts)?,
             FileOrder::Print(print) => push_print_files(&mut names, print)?,
             _ => {}
         }
