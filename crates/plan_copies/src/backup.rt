@@ -155,7 +155,9 @@ fn check_made(
     match read_again(rt, path, scratch.as_str()) {
         Ok(summary) if digest_in(&summary) == digest => Ok(()),
         // The summary is in memory.
-        Err(CheckFault::Office(ServeFault::Output)) => Err(CopyFault::Office(ServeFault::Memory)),
+        Err(CheckFault::Office(ServeFault::Memory | ServeFault::Output)) => {
+            Err(CopyFault::Office(ServeFault::Memory))
+        }
         Err(CheckFault::Copy(fault)) if fault != PairFault::Missing => {
             Err(copy_fault(alloc, CheckFault::Copy(fault), path, place.folder.as_str()))
         }

@@ -2,4 +2,4 @@
 
 /// The digest of all sources of the program but this file, in hexadecimal digits, as
 /// `./release --digest` prints it.
-pub(crate) const SOURCES: &str = "a30d50bd3f0bfd3177f3226056030dbb1f5eca8510606fd2ed53e57949515648";
+pub(crate) const SOURCES: &str = "96ff97da6503a648a658f1ede26e2a2ed3c115a74777da8acedc42889c83d915";
