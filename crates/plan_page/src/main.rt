@@ -1,0 +1,291 @@
+//! The program `plan` without its server: the commands on files, for a page in a browser.
+#![tactic(auto)]
+
+mod file_log;
+mod progress;
+
+use self::file_log::FileLog;
+use self::progress::ProgressLine;
+use clap::Error;
+use clap::error::ErrorKind;
+use plan_cli::{
+    CliFault, Log, NamedText, ProofWatcher, Rows, SolveWatcher, Task, Unlogged, Unwatched,
+    explain_run, explain_run_in, hint, run_on_file, run_on_files, template_run,
+};
+use plan_formats::{Format, error_json};
+use plan_io::{MemSink, Sink, StdSink, write_whole};
+use plan_orders::{
+    FileOrder, Lists, Order, capacities_of, command, help, order_of, overrides_of, texts_of,
+};
+use plan_print::print_on_files;
+use std::alloc::{AllocError, Global};
+use std::env;
+use std::io::{self, IsTerminal, Write};
+use std::process::ExitCode;
+
+/// The status of `plan check --status` if the schedule isn't active.
+const NOT_ACTIVE: u8 = 3;
+
+/// The reason why no command starts.
+#[derive(Drop)]
+enum Misuse {
+    NoMemory,
+    Usage(Error),
+    NoText,
+    NoCommand,
+    NoOffice,
+    /// Two arguments with these names are standard input.
+    OneInput(&'static str, &'static str),
+    BadCapacity(String),
+}
+
+impl From<AllocError> for Misuse {
+    fn from(_: AllocError) -> Misuse {
+        Misuse::NoMemory
+    }
+}
+
+// Runs a task on a file, and writes to standard output.
+fn do_task<V: ProofWatcher + SolveWatcher, L: Log>(
+    rt: &HostRuntime,
+    task: Task<'_>,
+    rows: Rows,
+    watcher: &mut V,
+    log: &mut L,
+    path: &str,
+) -> Result<(), CliFault> {
+    let mut writer = StdSink::new(io::writer(rt));
+    run_on_file(rt, task, rows, watcher, log, path, &mut writer)
+}
+
+// Writes a verdict to standard output. Returns the status: 0 if it is `active`, else 3.
+fn do_check(
+    rt: &HostRuntime,
+    task: Task<'_>,
+    rows: Rows,
+    texts: &[NamedText<'_>],
+    path: &str,
+) -> Result<u8, CliFault> {
+    let mut text = MemSink::new(Vec::new(rt.alloc()));
+    run_on_files(rt, task, rows, texts, path, &mut text)?;
+    let text = text.into_bytes();
+    let mut writer = StdSink::new(io::writer(rt));
+    write_whole(&mut writer, &text).map_err(|_| CliFault::Output)?;
+    // No other verdict contains this word.
+    Ok(if text.windows(6).any(|word| word == b"active".as_slice()) {
+        0
+    } else {
+        NOT_ACTIVE
+    })
+}
+
+// Writes the explanation of an error line.
+fn explain<W: Sink>(alloc: Global, line: &str, rows: Rows, writer: &mut W) -> Result<(), CliFault> {
+    match rows {
+        Rows::In(format) => explain_run_in(alloc, line, format, writer),
+        Rows::Plain | Rows::Named => explain_run(alloc, line, writer),
+    }
+}
+
+// Runs an order on files, and writes to standard output. Returns the status.
+fn do_file_order(rt: &HostRuntime, order: FileOrder<'_>, rows: Rows) -> Result<u8, CliFault> {
+    let mut writer = StdSink::new(io::writer(rt));
+    match order {
+        FileOrder::Task(task, path) => {
+            do_task(rt, task, rows, &mut Unwatched, &mut Unlogged, path)?;
+        }
+        FileOrder::Watched(task, path) => {
+            let mut line = ProgressLine::new(rt);
+            do_task(rt, task, rows, &mut line, &mut Unlogged, path)?;
+        }
+        FileOrder::Solve {
+            task,
+            file,
+            seconds,
+            log,
+        } => {
+            let mut line = ProgressLine::within(rt, seconds);
+            let mut log = FileLog::create(rt, log)?;
+            do_task(rt, task, rows, &mut line, &mut log, file)?;
+            log.end()?;
+        }
+        FileOrder::Texts {
+            task,
+            file,
+            texts,
+            is_status: false,
+        } => run_on_files(rt, task, rows, texts, file, &mut writer)?,
+        FileOrder::Texts {
+            task,
+            file,
+            texts,
+            ..
+        } => return do_check(rt, task, rows, texts, file),
+        FileOrder::Print(print) => print_on_files(rt, print, &mut writer)?,
+        FileOrder::New(template) => template_run(template, &mut writer)?,
+        FileOrder::Explain(words) => {
+            let line = words.join(rt.alloc(), " ")?;
+            explain(rt.alloc(), line.as_str(), rows, &mut writer)?;
+        }
+    }
+    Ok(0)
+}
+
+// Returns whether PLAN_HINTS asks for hints: 1 does, 0 asks for none.
+fn asked_hints(rt: &HostRuntime) -> Option<bool> {
+    let asked = env::var(rt, "PLAN_HINTS").ok()?;
+    match asked.as_str() {
+        "1" => Some(true),
+        "0" => Some(false),
+        _ => None,
+    }
+}
+
+// Whether hints are printed: PLAN_HINTS decides if it is 1 or 0, else they are for a terminal only.
+fn has_hints(rt: &HostRuntime) -> bool {
+    asked_hints(rt).unwrap_or_else(|| rt.stderr().is_terminal())
+}
+
+// Prints a hint, if there is one.
+fn print_hint(rt: &HostRuntime, hint: Result<Option<String>, AllocError>) {
+    if let Ok(Some(text)) = hint {
+        let _ = eprintln!(rt; "{text}");
+    }
+}
+
+// Prints an error line and, if hints are printed, its hint. Returns the status 1.
+fn print_error(rt: &HostRuntime, file: Option<&str>, line: &str) -> u8 {
+    let _ = eprintln!(rt; "{line}");
+    if has_hints(rt) {
+        print_hint(rt, hint(rt.alloc(), file, line));
+    }
+    1
+}
+
+// Prints an error line as JSON. Returns the status 1.
+fn print_json_error(rt: &HostRuntime, line: &str) -> u8 {
+    if let Ok(text) = error_json(rt.alloc(), line) {
+        let _ = rt.stderr().write_all(&text);
+    }
+    1
+}
+
+// Runs an order, and returns the status.
+fn do_order(rt: &HostRuntime, order: Order<'_>) -> Result<u8, Misuse> {
+    match order {
+        Order::File(order, rows) => {
+            if let Some((first, second)) = order.shared_input() {
+                return Err(Misuse::OneInput(first, second));
+            }
+            Ok(match do_file_order(rt, order, rows) {
+                Ok(status) => status,
+                Err(fault) if rows == Rows::In(Format::Json) => print_json_error(rt, fault.line()),
+                Err(fault) => print_error(rt, order.file_of(fault.line()), fault.line()),
+            })
+        }
+        Order::Office(_) => Err(Misuse::NoOffice),
+    }
+}
+
+// Returns the reason why the arguments can't be read: memory ran out, or one isn't UTF-8.
+fn args_misuse(error: &io::Error) -> Misuse {
+    if error.kind() == io::ErrorKind::OutOfMemory {
+        Misuse::NoMemory
+    } else {
+        Misuse::NoText
+    }
+}
+
+// Returns the misuse of a text that gives no capacity.
+fn bad_capacity(alloc: Global, text: &str) -> Misuse {
+    text.to_string(alloc)
+        .map_or(Misuse::NoMemory, Misuse::BadCapacity)
+}
+
+// Reads the command line, runs its order, and returns the status.
+fn run(rt: &HostRuntime) -> Result<u8, Misuse> {
+    let alloc = rt.alloc();
+    let args = env::args(rt).map_err(|error| args_misuse(&error))?;
+    let arguments: Vec<String> = args.collect(alloc)?;
+    let help = help(alloc)?;
+    let first = match arguments.get(1) {
+        Some(word) => Some(word.as_str()),
+        None => None,
+    };
+    let parser = command(alloc, help.as_str(), first)?;
+    let parsed = parser.try_get_matches_from(arguments.as_slice());
+    let matches = parsed.map_err(Misuse::Usage)?;
+    let capacities = capacities_of(alloc, &matches)?.map_err(|text| bad_capacity(alloc, text))?;
+    let overrides = overrides_of(alloc, &matches)?.map_err(|text| bad_capacity(alloc, text))?;
+    let texts = texts_of(alloc, &matches)?;
+    let lists = Lists {
+        capacities: &capacities,
+        overrides: &overrides,
+        texts: &texts,
+    };
+    let Some(order) = order_of(&matches, lists) else {
+        return Err(Misuse::NoCommand);
+    };
+    do_order(rt, order)
+}
+
+// Prints clap's help or usage. Returns 0 for the help and 2 for the usage, even if the usage can't
+// be printed. Returns 1 if memory runs out or the help can't be printed.
+fn print_usage(rt: &HostRuntime, error: &Error) -> u8 {
+    if error.kind() == ErrorKind::OutOfMemory {
+        return print_error(rt, None, CliFault::Memory.line());
+    }
+    let printed = error.print(rt);
+    if error.use_stderr() {
+        return 2;
+    }
+    match printed {
+        Ok(()) => 0,
+        Err(_) => print_error(rt, None, CliFault::Output.line()),
+    }
+}
+
+// Prints the error of the command line, and returns the status of usage.
+fn print_misuse<R: Eprint>(rt: &R, what: &str) -> u8 {
+    let _ = eprintln!(rt; "error: {what}\n\nFor more information, try '--help'.");
+    2
+}
+
+// Prints the error of two arguments that are standard input, and returns the status of usage.
+fn print_one_input<R: Eprint>(rt: &R, first: &str, second: &str) -> u8 {
+    let _ = eprintln!(rt;
+        "error: {first} and {second} can't both be standard input\n\n\
+        For more information, try '--help'."
+    );
+    2
+}
+
+// Prints the error of a text that gives no capacity, and returns the status of usage.
+fn print_bad_capacity(rt: &HostRuntime, text: &str) -> u8 {
+    let _ = eprintln!(rt;
+        "error: invalid value '{text}' for '--capacity <NAME=N>': N is a number from 0 to 10000\n\n\
+        For more information, try '--help'."
+    );
+    2
+}
+
+// Prints the reason why no command starts, and returns the status.
+fn report(rt: &HostRuntime, misuse: &Misuse) -> u8 {
+    match misuse {
+        Misuse::NoMemory => print_error(rt, None, CliFault::Memory.line()),
+        Misuse::Usage(error) => print_usage(rt, error),
+        Misuse::NoText => print_misuse(rt, "a word of the command line isn't UTF-8"),
+        Misuse::NoCommand => print_misuse(rt, "no command"),
+        Misuse::NoOffice => print_misuse(rt, "the commands of an office need the program itself"),
+        Misuse::BadCapacity(text) => print_bad_capacity(rt, text),
+        Misuse::OneInput(first, second) => print_one_input(rt, first, second),
+    }
+}
+
+fn main(rt: HostRuntime) -> ExitCode {
+    let status = match run(&rt) {
+        Ok(status) => status,
+        Err(misuse) => report(&rt, &misuse),
+    };
+    ExitCode::from(status)
+}
