@@ -1,7 +1,7 @@
 // Runs the module plan.wasm of the folder in PLAN_WEB for tests/clients/engine. Each line of standard
 // input is a call as JSON: words, the bytes of standard input, named files and variables of the
 // environment. Each line of standard output is its result: the status, both outputs, the files, and
-// the milliseconds that it took. Bytes are in base64.
+// the milliseconds of processor time that it took. Bytes are in base64.
 
 import { createInterface } from "node:readline";
 import { readFileSync } from "node:fs";
@@ -17,9 +17,10 @@ const textOf = (bytes) => Buffer.from(bytes).toString("base64");
 for await (const line of createInterface({ input: process.stdin })) {
   const call = JSON.parse(line);
   const files = Object.entries(call.files).map(([name, text]) => [name, bytesOf(text)]);
-  const began = performance.now();
+  const began = process.cpuUsage();
   const done = run(module, { ...call, input: bytesOf(call.input), files });
-  const took = performance.now() - began;
+  const used = process.cpuUsage(began);
+  const took = (used.user + used.system) / 1000;
   const kept = Object.fromEntries([...done.files].map(([name, bytes]) => [name, textOf(bytes)]));
   const result = { status: done.status, output: textOf(done.output), errors: textOf(done.errors) };
   process.stdout.write(`${JSON.stringify({ ...result, files: kept, took })}\n`);

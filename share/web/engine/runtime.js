@@ -203,7 +203,9 @@ export function run(module, call) {
   try {
     status = instance.exports.start();
   } catch (error) {
-    outputs[1].write(outputs[1].length, encoder.encode(`plan.wasm stopped: ${error.message}\n`));
+    const line = encoder.encode(`plan.wasm stopped: ${error.message}\n`);
+    outputs[1].write(outputs[1].length, line);
+    call.wrote?.(2, line);
   }
   const kept = new Map([...files.named].map(([name, bytes]) => [name, bytes.whole().slice()]));
   return { status, output: outputs[0].whole().slice(), errors: outputs[1].whole().slice(), files: kept };

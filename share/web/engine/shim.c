@@ -85,12 +85,15 @@ static u64 size_of(u32 class) {
     return (u64)(class % 4 + 5) << shift << 4;
 }
 
+// Returns whether memory grows by so many pages. The answer -1 has 32 bits in the lowered module.
+static int grow(u64 pages) { return (u32)__builtin_wasm_memory_grow(0, pages) != ~0u; }
+
 // Moves the end of the memory in use to `to`. Returns whether there is memory up to it.
 static int raise(byte *to) {
     if (to > end) {
         u64 pages = ((u64)(to - end) + 65535) / 65536, more = pages + (u64)end / 65536 / 4;
-        if (__builtin_wasm_memory_grow(0, more) == (u64)-1) {
-            if (__builtin_wasm_memory_grow(0, pages) == (u64)-1)
+        if (!grow(more)) {
+            if (!grow(pages))
                 return 0;
             more = pages;
         }
