@@ -59,7 +59,8 @@ class Bytes {
   }
 }
 
-// Named files in memory. A folder exists if a file in it does.
+// Named files in memory. A name is a folder if it is that of a file up to a slash. A file can be
+// created in any folder.
 class Files {
   constructor(files) {
     this.named = new Map();
@@ -88,7 +89,6 @@ class Files {
   }
 
   create(name) {
-    if (!this.isFolder(name.slice(0, Math.max(name.lastIndexOf("/"), 0)))) return -NO_FILE;
     const made = new Bytes(new Uint8Array(0));
     this.named.set(name, made);
     return made;

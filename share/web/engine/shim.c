@@ -146,9 +146,10 @@ static byte *resize(byte *block, u64 size) {
     return other;
 }
 
-// The answer of an allocation: whether there is a block, and the block or else some address.
+// The answer of an allocation: whether there is a block, and the block or else some address. The
+// program reads the first byte of `ok`.
 typedef struct {
-    _Bool ok;
+    u64 ok;
     void *block;
 } tried;
 
@@ -173,6 +174,9 @@ long rattle_arg(u64 index, byte *at, u64 room) { return page_argument(index, (u6
 long rattle_env(const char *name, byte *at, u64 room) {
     return page_variable((u64)name, length_of(name), (u64)at, room);
 }
+
+// The names of the variables can't be listed.
+long rattle_env_at(u64 index, byte *at, u64 room) { return -1; }
 
 // Files. A call that fails returns -1 and sets the error number.
 
@@ -220,6 +224,9 @@ int isatty(int file) {
     error = 25;
     return 0;
 }
+
+// There are no signals.
+long __sysv_signal(int signal, long action) { return 0; }
 
 // The time in seconds and nanoseconds; page_clock returns milliseconds.
 int clock_gettime(int clock, long *time) {
