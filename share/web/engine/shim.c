@@ -236,7 +236,7 @@ int clock_gettime(int clock, long *time) {
     return 0;
 }
 
-// Arithmetic. The instructions of x86-64 that the module names, and the product of 128-bit numbers.
+// Arithmetic. The instructions of x86-64 that the module names, and shifts and products of 128 bits.
 
 double arithmetic_fence(double value) { return value; }
 
@@ -245,6 +245,22 @@ vector shuffle_bytes(vector bytes, vector places) {
     for (int i = 0; i < 16; i++)
         result[i] = places[i] & 128 ? 0 : bytes[places[i] & 15];
     return result;
+}
+
+__int128 __ashlti3(__int128 value, int count) {
+    u64 low = value, high = value >> 64;
+    if (count >= 64)
+        return (__int128)((unsigned __int128)(low << (count - 64)) << 64);
+    high = count == 0 ? high : high << count | low >> (64 - count);
+    return (__int128)((unsigned __int128)high << 64 | low << count);
+}
+
+__int128 __lshrti3(__int128 value, int count) {
+    u64 low = value, high = value >> 64;
+    if (count >= 64)
+        return high >> (count - 64);
+    low = count == 0 ? low : low >> count | high << (64 - count);
+    return (__int128)((unsigned __int128)(high >> count) << 64 | low);
 }
 
 __int128 __multi3(__int128 left, __int128 right) {
