@@ -1,7 +1,7 @@
-// Runs the module plan.wasm of the folder in PLAN_WEB for tests/clients/engine. Each line of standard
-// input is a call as JSON: words, the bytes of standard input, named files and variables of the
-// environment. Each line of standard output is its result: the status, both outputs, the files, and
-// the milliseconds of processor time that it took. Bytes are in base64.
+// Runs the module plan.wasm of the folder in PLAN_WEB for tests/clients/engine. Each line of
+// standard input is a call as JSON: words, the bytes of standard input, named files and variables of
+// the environment. Each line of standard output is its result: the status, both outputs, the files,
+// and the milliseconds of processor time that it took. Bytes are in base64.
 
 import { createInterface } from "node:readline";
 import { readFileSync } from "node:fs";

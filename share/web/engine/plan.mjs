@@ -2,8 +2,8 @@
 //
 //     node share/web/engine/plan.mjs cpm examples/six.sm
 //
-// A word, or the value of an option, that names a file gives the module that file. Files that the module
-// writes are written when it ends.
+// A word, or the value of an option, that names a file gives the module that file. Files that the
+// module writes are written when it ends.
 
 import { existsSync, readFileSync, statSync, writeFileSync } from "node:fs";
 import { load, run } from "./runtime.js";
@@ -19,7 +19,8 @@ const files = new Map(names.map((name) => [name, readFileSync(name)]));
 const input = values.includes("-") ? readFileSync(0) : new Uint8Array(0);
 
 const wrote = (file, bytes) => writeFileSync(file, bytes);
-const done = run(module, { words: ["plan", ...words], input, files, variables: process.env, wrote });
+const call = { words: ["plan", ...words], input, files, variables: process.env, wrote };
+const done = run(module, call);
 process.exitCode = done.status;
 for (const [name, bytes] of done.files) {
   if (files.has(name) && Buffer.compare(files.get(name), bytes) === 0) continue;

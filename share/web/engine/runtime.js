@@ -70,7 +70,8 @@ class Files {
   }
 
   isFolder(name) {
-    return name === "" || name === "/" || [...this.named.keys()].some((it) => it.startsWith(`${name}/`));
+    const names = [...this.named.keys()];
+    return name === "" || name === "/" || names.some((it) => it.startsWith(`${name}/`));
   }
 
   // Opens a file. Returns its bytes, `null` for a folder, or a negative error number.
@@ -103,10 +104,11 @@ class Files {
   }
 }
 
-// Returns the functions of "page" that shim.c calls, for one run. `memory` returns the module's bytes.
+// Returns the functions of "page" that shim.c calls, for one run. `memory` returns the bytes of the
+// module.
 function functionsOf(call, files, outputs, memory) {
   const words = call.words.map((word) => encoder.encode(word));
-  const open = [new Bytes(call.input), outputs[0], outputs[1]].map((bytes) => ({ bytes, place: 0 }));
+  const open = [new Bytes(call.input), ...outputs].map((bytes) => ({ bytes, place: 0 }));
   const textAt = (at, length) => decoder.decode(memory().slice(at, at + length));
 
   // Copies a text into a room. Returns its length, -1 without a text, -2 if the room is too small.
@@ -174,7 +176,9 @@ function functionsOf(call, files, outputs, memory) {
       }
       return failed;
     },
-    remove: (name, length) => (files.named.delete(normal(textAt(name >>> 0, length))) ? 0 : -NO_FILE),
+    remove(name, length) {
+      return files.named.delete(normal(textAt(name >>> 0, length))) ? 0 : -NO_FILE;
+    },
     clock: (clock) => (clock === 0 ? Date.now() : performance.now()),
   };
 }
@@ -184,7 +188,7 @@ function functionsOf(call, files, outputs, memory) {
 //   input      the bytes of standard input
 //   files      pairs of a name and its bytes
 //   variables  the environment: an object of texts (optional)
-//   wrote      is called with 1 or 2 and the bytes of each write to standard output or error (optional)
+//   wrote      is called with 1 or 2 and the bytes of each write to that output (optional)
 //   renamed    is called with the name and the bytes of each file that is renamed (optional)
 // Returns the exit status, the bytes of both outputs, and all files as a map.
 export function run(module, call) {
@@ -208,5 +212,6 @@ export function run(module, call) {
     call.wrote?.(2, line);
   }
   const kept = new Map([...files.named].map(([name, bytes]) => [name, bytes.whole().slice()]));
-  return { status, output: outputs[0].whole().slice(), errors: outputs[1].whole().slice(), files: kept };
+  const [output, errors] = outputs.map((bytes) => bytes.whole().slice());
+  return { status, output, errors, files: kept };
 }

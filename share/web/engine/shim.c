@@ -1,7 +1,6 @@
-// What the module of WebAssembly takes from a system: memory, bytes, arguments, files and the clock.
-// `./release --web` compiles it beside the program for wasm64; wasm-opt then lowers all addresses to
-// 32 bits. The functions of "page" are those of runtime.js. Their numbers are 32-bit or doubles, and
-// a negative answer is an error number of Linux.
+// What the module of WebAssembly takes from a system: memory, bytes, arguments, files, the clock.
+// `./release --web` compiles it for wasm64; wasm-opt then lowers the addresses to 32 bits. The
+// functions of "page" are those of runtime.js. A negative answer is an error number of Linux.
 typedef unsigned char byte;
 typedef unsigned int u32;
 typedef unsigned long u64;
@@ -37,7 +36,6 @@ void *memcpy(void *to, const void *from, u64 count) {
 }
 
 void *memmove(void *to, const void *from, u64 count) { return __builtin_memmove(to, from, count); }
-
 void *memset(void *to, int value, u64 count) { return __builtin_memset(to, value, count); }
 
 int memcmp(const void *left, const void *right, u64 count) {
@@ -52,6 +50,8 @@ int memcmp(const void *left, const void *right, u64 count) {
 
 int bcmp(const void *left, const void *right, u64 count) { return memcmp(left, right, count); }
 
+#define NAME(text) (u64)text, length_of(text)
+
 static u32 length_of(const char *text) {
     u32 count = 0;
     while (text[count])
@@ -60,15 +60,13 @@ static u32 length_of(const char *text) {
 }
 
 // Memory. A block has a class of sizes: 16 to 128 bytes in steps of 16, then four sizes for each
-// doubling. A free block waits in the list of its class. The 16 bytes before a block contain its class.
+// doubling. A free block is in the list of its class. The 16 bytes before it contain its class.
 
-#define HEAD 16
-#define CLASSES 128
+enum { HEAD = 16, CLASSES = 128 };
 #define MOST 0xf0000000u
 
 extern byte __heap_base;
-static byte *top, *end;
-static byte *spare[CLASSES];
+static byte *top, *end, *spare[CLASSES];
 
 static u32 class_of(u64 size) {
     u64 units = size == 0 ? 0 : (size - 1) / 16;
@@ -92,11 +90,8 @@ static int grow(u64 pages) { return (u32)__builtin_wasm_memory_grow(0, pages) !=
 static int raise(byte *to) {
     if (to > end) {
         u64 pages = ((u64)(to - end) + 65535) / 65536, more = pages + (u64)end / 65536 / 4;
-        if (!grow(more)) {
-            if (!grow(pages))
-                return 0;
-            more = pages;
-        }
+        if (!grow(more) && !grow(more = pages))
+            return 0;
         end += more * 65536;
     }
     top = to;
@@ -108,10 +103,8 @@ static byte *take(u64 size) {
         return 0;
     u32 class = class_of(size);
     byte *block = spare[class];
-    if (block) {
-        spare[class] = *(byte **)block;
-        return block;
-    }
+    if (block)
+        return spare[class] = *(byte **)block, block;
     if (!raise(top + HEAD + size_of(class)))
         return 0;
     block = top - size_of(class);
@@ -132,12 +125,8 @@ static byte *resize(byte *block, u64 size) {
     u64 old = size_of(class);
     if (size <= old)
         return block;
-    if (block + old == top) {
-        if (!raise(block + size_of(class_of(size))))
-            return 0;
-        *(u32 *)(block - HEAD) = class_of(size);
-        return block;
-    }
+    if (block + old == top && raise(block + size_of(class_of(size))))
+        return *(u32 *)(block - HEAD) = class_of(size), block;
     byte *other = take(size);
     if (other) {
         memcpy(other, block, old);
@@ -154,36 +143,21 @@ typedef struct {
 } tried;
 
 static byte nothing;
-
 static tried answer_of(byte *block) { return (tried){block != 0, block ? block : &nothing}; }
-
 tried rattle_alloc(u64 size, u64 alignment) { return answer_of(take(size)); }
-
-tried rattle_realloc(void *block, u64 kept, u64 size, u64 alignment) {
-    return answer_of(resize(block, size));
-}
-
+tried rattle_realloc(void *block, u64 kept, u64 n, u64 a) { return answer_of(resize(block, n)); }
 void rattle_dealloc(void *block) { give_back(block); }
 
 // Arguments and variables: the length, -1 for none, -2 if the room is too small.
 
 u64 rattle_arg_count(void) { return page_arguments(); }
-
 long rattle_arg(u64 index, byte *at, u64 room) { return page_argument(index, (u64)at, room); }
-
-long rattle_env(const char *name, byte *at, u64 room) {
-    return page_variable((u64)name, length_of(name), (u64)at, room);
-}
-
-// The names of the variables can't be listed.
-long rattle_env_at(u64 index, byte *at, u64 room) { return -1; }
+long rattle_env(const char *name, byte *at, u64 n) { return page_variable(NAME(name), (u64)at, n); }
 
 // Files. A call that fails returns -1 and sets the error number.
 
 static int error;
-
 int rattle_errno(void) { return error; }
-
 void rattle_set_errno(int number) { error = number; }
 
 static long result_of(double answer) {
@@ -195,38 +169,21 @@ static long result_of(double answer) {
 
 static u32 at_most(u64 count) { return count < 1 << 30 ? count : 1 << 30; }
 
-int open(const char *name, int flags, ...) {
-    return result_of(page_open((u64)name, length_of(name), flags));
-}
-
+int open(const char *name, int flags, ...) { return result_of(page_open(NAME(name), flags)); }
 int close(int file) { return result_of(page_close(file)); }
-
-long read(int file, void *at, u64 count) {
-    return result_of(page_read(file, (u64)at, at_most(count)));
-}
-
-long write(int file, const void *at, u64 count) {
-    return result_of(page_write(file, (u64)at, at_most(count)));
-}
-
-long __write(int file, const void *at, u64 count) { return write(file, at, count); }
-
+long read(int file, void *at, u64 n) { return result_of(page_read(file, (u64)at, at_most(n))); }
+long write(int file, void *at, u64 n) { return result_of(page_write(file, (u64)at, at_most(n))); }
+long __write(int file, void *at, u64 n) { return write(file, at, n); }
 long lseek(int file, long offset, int from) { return result_of(page_seek(file, offset, from)); }
-
-int rename(const char *from, const char *to) {
-    return result_of(page_rename((u64)from, length_of(from), (u64)to, length_of(to)));
-}
-
-int unlink(const char *name) { return result_of(page_remove((u64)name, length_of(name))); }
+int rename(char *old, char *new) { return result_of(page_rename(NAME(old), NAME(new))); }
+int unlink(const char *name) { return result_of(page_remove(NAME(name))); }
 
 // No file is a terminal: the error is ENOTTY.
-int isatty(int file) {
-    error = 25;
-    return 0;
-}
+int isatty(int file) { return error = 25, 0; }
 
-// There are no signals.
+// There are no signals, and no names of variables.
 long __sysv_signal(int signal, long action) { return 0; }
+long rattle_env_at(u64 index, byte *at, u64 room) { return -1; }
 
 // The time in seconds and nanoseconds; page_clock returns milliseconds.
 int clock_gettime(int clock, long *time) {
@@ -236,7 +193,7 @@ int clock_gettime(int clock, long *time) {
     return 0;
 }
 
-// Arithmetic. The instructions of x86-64 that the module names, and shifts and products of 128 bits.
+// Arithmetic. Instructions of x86-64 that the module names, and shifts and products of 128 bits.
 
 double arithmetic_fence(double value) { return value; }
 
@@ -247,36 +204,37 @@ vector shuffle_bytes(vector bytes, vector places) {
     return result;
 }
 
+typedef union { __int128 whole; struct { u64 low, high; }; } wide;
+
 __int128 __ashlti3(__int128 value, int count) {
-    u64 low = value, high = value >> 64;
-    if (count >= 64)
-        return (__int128)((unsigned __int128)(low << (count - 64)) << 64);
-    high = count == 0 ? high : high << count | low >> (64 - count);
-    return (__int128)((unsigned __int128)high << 64 | low << count);
+    wide v = {value};
+    if (count > 0)
+        v.high = count >= 64 ? v.low << (count - 64) : v.high << count | v.low >> (64 - count);
+    return v.low = count >= 64 ? 0 : v.low << count, v.whole;
 }
 
 __int128 __lshrti3(__int128 value, int count) {
-    u64 low = value, high = value >> 64;
-    if (count >= 64)
-        return high >> (count - 64);
-    low = count == 0 ? low : low >> count | high << (64 - count);
-    return (__int128)((unsigned __int128)(high >> count) << 64 | low);
+    wide v = {value};
+    if (count > 0)
+        v.low = count >= 64 ? v.high >> (count - 64) : v.low >> count | v.high << (64 - count);
+    return v.high = count >= 64 ? 0 : v.high >> count, v.whole;
 }
 
 __int128 __multi3(__int128 left, __int128 right) {
-    u64 a = left, b = right, low = (a & 0xffffffff) * (b & 0xffffffff);
-    u64 mid = (a >> 32) * (b & 0xffffffff) + (low >> 32);
-    u64 other = (a & 0xffffffff) * (b >> 32) + (mid & 0xffffffff);
-    u64 high = (a >> 32) * (b >> 32) + (mid >> 32) + (other >> 32);
-    high += a * (u64)(right >> 64) + (u64)(left >> 64) * b;
-    return (__int128)((unsigned __int128)high << 64 | other << 32 | (low & 0xffffffff));
+    wide l = {left}, r = {right}, product;
+    u64 low = (l.low & 0xffffffff) * (r.low & 0xffffffff);
+    u64 middle = (l.low >> 32) * (r.low & 0xffffffff) + (low >> 32);
+    u64 other = (l.low & 0xffffffff) * (r.low >> 32) + (middle & 0xffffffff);
+    product.low = other << 32 | (low & 0xffffffff);
+    product.high = (l.low >> 32) * (r.low >> 32) + (middle >> 32) + (other >> 32);
+    product.high += l.low * r.high + l.high * r.low;
+    return product.whole;
 }
 
-// The features of the processor, as the ones that the module asks for: all.
+// The features of the processor: all that the module asks for.
 void *__x86_get_cpuid_feature_leaf(u32 leaf) {
-    static const u32 all[16] = {~0u, ~0u, ~0u, ~0u, ~0u, ~0u, ~0u, ~0u,
-                                ~0u, ~0u, ~0u, ~0u, ~0u, ~0u, ~0u, ~0u};
-    return (void *)all;
+    static u64 all[8] = {-1, -1, -1, -1, -1, -1, -1, -1};
+    return all;
 }
 
 // Runs the program. Returns its exit status.
