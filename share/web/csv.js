@@ -40,8 +40,12 @@ function decoded(bytes) {
   return new TextDecoder().decode(bytes);
 }
 
+const CONTROL = /[\u0000-\u001f\u007f-\u009f]/;
+
+const firstLineOf = (text) => text.split("\n").find((line) => line.trim()) ?? "";
+
 const separatorOf = (text) =>
-  ["\t", ";", ","].find((mark) => text.split(/[\r\n]/, 1)[0].includes(mark)) ?? ",";
+  ["\t", ";", ","].find((mark) => firstLineOf(text).includes(mark)) ?? ",";
 
 /** Returns the records of a text by RFC 4180, each with the line on which it begins. */
 export function recordsOf(text, mark = separatorOf(text)) {
@@ -64,8 +68,9 @@ export function recordsOf(text, mark = separatorOf(text)) {
 }
 
 function readList(bytes) {
-  const [header = { line: 0, cells: [] }, ...rest] = recordsOf(decoded(bytes));
-  return { header, filled: rest.filter(({ cells }) => cells.some((cell) => cell.trim())) };
+  const [header = { line: 0, cells: [] }, ...filled] =
+    recordsOf(decoded(bytes)).filter(({ cells }) => cells.some((cell) => cell.trim()));
+  return { header, filled };
 }
 
 function checkCount({ cells }, { line, cells: { length } }) {
@@ -80,7 +85,7 @@ function amountOf(text, words, line, place) {
 
 function nameOf(text, line, place) {
   if (new TextEncoder().encode(text).length > MOST.name) failAtLimit(line, place);
-  if (/[\u0000-\u001f]/.test(text)) fail(`T2 not text line ${line}`, line, place);
+  if (CONTROL.test(text)) fail(`T2 not text line ${line}`, line, place);
   return text;
 }
 
@@ -96,6 +101,7 @@ function columnsOf({ line, cells }) {
     const head = SYNONYMS.get(words) ?? words;
     const isTwice = columns.some((column) => column.head === head);
     if (isTwice) fail(`T4 column ${name} twice`, line, place);
+    nameOf(name, line, place);
     if (head) columns.push({ head, name, place, isResource: !FIXED.includes(head) });
   });
   if (!columns.some(({ head }) => head === "duration")) fail("T3 no column duration", line);
@@ -113,7 +119,7 @@ function rowOf({ line, cells }, columns, lines, number) {
     if (isResource) {
       row.needs.push(text ? amountOf(text, `T9 line ${line} need ${name}`, line, place) : 0);
     } else if (head === "id") {
-      if (!/^[^\s,;]{1,32}$/u.test(text)) failHere(`T6 line ${line} id`);
+      if (!/^[^\s,;]{1,32}$/u.test(text) || CONTROL.test(text)) failHere(`T6 line ${line} id`);
       if (lines.get(text) !== line) failHere(`T7 line ${line} id ${text} twice`);
       row.id = text;
     } else if (head === "name") {
@@ -123,6 +129,7 @@ function rowOf({ line, cells }, columns, lines, number) {
     } else {
       row.after = [...new Set(text.split(/[\s,;]+/).filter(Boolean))];
       const missing = row.after.find((id) => !lines.has(id));
+      if (CONTROL.test(missing ?? "")) failHere(`T2 not text line ${line}`);
       if (missing) failHere(`T8 line ${line} predecessor ${missing}`);
     }
   }
@@ -158,9 +165,11 @@ export function readTable(bytes, given = new Map()) {
   const resources = columns.filter(({ isResource }) => isResource);
   const idPlace = columns.find(({ head }) => head === "id")?.place;
   const idOf = ({ cells }) => (cells[idPlace] ?? "").trim();
-  const isCapacity = (record) => idOf(record) === "capacity";
+  const isCapacity = (record) => idOf(record).toLowerCase() === "capacity";
   const lines = new Map();
-  filled.filter((record) => !isCapacity(record)).forEach((record, at) => {
+  const activities = filled.filter((record) => !isCapacity(record));
+  if (activities.length > MOST.rows) failAtLimit(activities[MOST.rows].line);
+  activities.forEach((record, at) => {
     const id = idPlace === undefined ? String(at + 1) : idOf(record);
     if (id && !lines.has(id)) lines.set(id, record.line);
   });
@@ -178,8 +187,9 @@ export function readTable(bytes, given = new Map()) {
     }
     rows.push(rowOf(record, columns, lines, rows.length + 1));
     work += rows.at(-1).duration;
-    if (rows.length > MOST.rows || work > MOST.work) failAtLimit(line);
+    if (work > MOST.work) failAtLimit(line);
   }
+  if (!rows.length) failAtLimit(0);
   const names = resources.map(({ name }) => name);
   const capacities = names.map((name) => given.get(name) ?? found.get(name));
   const lacking = names[capacities.indexOf(undefined)];
@@ -226,7 +236,8 @@ ${rows.map(({ name }, at) => (name ? `name ${at + 2} ${name}\n` : "")).join("")
 // -- orders
 
 function checkOrderHeader({ cells }) {
-  for (let at = 0; at < Math.max(3, cells.length | 1); at += 1) {
+  const count = cells.findLastIndex((cell) => cell.trim()) + 1;
+  for (let at = 0; at < Math.max(3, count | 1); at += 1) {
     const head = at % 2 ? "machine" : at ? "time" : "order";
     if (cells[at]?.trim().toLowerCase() !== head) fail(`T3 no column ${head}`, 0, at);
   }
@@ -277,7 +288,7 @@ export function shopText({ orders, machines, steps }) {
     `${orders.length} ${machines.length}`, ...rows, ""].join("\n");
 }
 
-const headsOf = (text) => text.split(/\r?\n/, 1)[0].toLowerCase()
+const headsOf = (text) => firstLineOf(text).toLowerCase()
   .split(/[\t;,]/).map((cell) => cell.trim().replace(/^"(.*)"$/, "$1").trim());
 
 export const isTable = (text) => headsOf(text).includes("duration");

@@ -27,6 +27,8 @@ S1: ["Activity A takes time and needs more of resource R than its capacity, so i
 S4: ["Machine M is bound to a code with capacity 0, and a step that takes time needs it.",
 "Publish a capacity of 1 or more for the code, or bind the machine to another code."],
 S5: ["A search was requested, and the project has more than 40 activities, or the shop more than 100 steps."],
+S10: ["The start times aren't feasible. The verdict is the line that plan check prints: the first activity that starts before a predecessor ends, else the first instant at which a resource or a machine is overloaded.",
+"Correct the start times. Check them with plan check."],
 G3: ["A day of the result is after 9999-12-31.",
 "Mark more working days, or choose a coarser time unit."],
 E02: ["The desk has no plan of this number. For a new key: there is no such desk."],

@@ -3,12 +3,15 @@ a terminal, and its numbers for a shop that takes long. The time limit of `plan 
 
     tests/trials/run terminal    prove with few nodes, at once
     tests/trials/run limited     solve, within ten seconds
+    tests/trials/run processor_time    solve on a large project, with its processor time
     tests/trials/run watched     prove, within half a minute; only in whole runs
 """
 
 import os
 import pty
+import random
 import re
+import resource
 import shutil
 import subprocess
 import time
@@ -24,6 +27,10 @@ LINE = rb"\rbest (\d+), lower bound (\d+), (\d+) (?:nodes|conflicts), (\d+) s\x1
 CLEARED = b"\r\x1b[K"
 # The time limit of `plan solve`, and how much longer it may take on a busy machine.
 LIMIT, GRACE = 3, 5
+# A large project: its activities, the longest duration, its resources and their capacity.
+COUNT, LONGEST, KINDS, CAPACITY = 500, 100, 4, 20
+# The processor time, in seconds, that a search may use after its time limit of a second.
+LATE = 0.6
 
 
 def tree(room, name, program):
@@ -146,3 +153,48 @@ def try_limited(_):
     status, output, terminal = ended(*begun(*few))
     same("a conflict limit without a terminal", piped(*few), (status, output, b""))
     judge_bounds([*told(terminal), bounds_of(output)])
+
+
+def large_project():
+    """A project file, drawn: each activity has two predecessors among the 40 in front of it."""
+    draw = random.Random(1)
+    inner = range(2, COUNT)
+    before = {j: draw.sample(range(max(1, j - 40), j), min(2, j - 1)) for j in inner}
+    behind = {i: [j for j in inner if i in before[j]] or [COUNT] for i in range(1, COUNT)}
+    behind[COUNT] = []
+    arcs = [" ".join(map(str, [i, 1, len(behind[i]), *behind[i]])) for i in range(1, COUNT + 1)]
+    drawn = {j: [draw.randint(0, CAPACITY // 2) for _ in range(KINDS)] for j in inner}
+    times = {j: draw.randint(LONGEST // 20, LONGEST) for j in inner}
+    rows = [(j, 1, times.get(j, 0), *drawn.get(j, [0] * KINDS)) for j in range(1, COUNT + 1)]
+    names = " ".join(f"R {k}" for k in range(1, KINDS + 1))
+    head = ["projects: 1", f"jobs: {COUNT}", f"- renewable: {KINDS}", "- nonrenewable: 0"]
+    head += ["- doubly constrained: 0", "PRECEDENCE RELATIONS:"]
+    head += ["jobnr. modes successors", *arcs, "REQUESTS/DURATIONS:"]
+    head += [f"jobnr. mode duration {names}", "-" * 20, *(" ".join(map(str, row)) for row in rows)]
+    capacities = " ".join([str(CAPACITY)] * KINDS)
+    return "\n".join([*head, "RESOURCEAVAILABILITIES:", names, capacities, ""])
+
+
+def times_of(*command):
+    """The output of a command, the seconds of the clock that it took, and those of a processor."""
+    before, start = resource.getrusage(resource.RUSAGE_CHILDREN), time.monotonic()
+    done = piped(*command)
+    passed, behind = time.monotonic() - start, resource.getrusage(resource.RUSAGE_CHILDREN)
+    used = behind.ru_utime + behind.ru_stime - before.ru_utime - before.ru_stime
+    same(f"the status and the errors of {command[1:]}", (done[0], done[2]), (0, b""))
+    return done[1], passed, used
+
+
+def try_processor_time(room):
+    """`plan solve --seconds 1` on a large project ends soon after the second. The processor time past
+    the limit is at most LATE: the same share as of the whole run, because other work on a busy
+    machine also takes time of the clock."""
+    path = os.path.join(room, "large.sm")
+    with open(path, "w", encoding="ascii") as file:
+        file.write(large_project())
+    output, passed, used = times_of(PROGRAM, "solve", "--seconds", "1", path)
+    if not output.startswith(b"between ") or passed < 1:
+        raise Wrong(f"the search ended after {passed:.1f} s: {output[:100]!r}")
+    late = (passed - 1) * used / passed
+    if late > LATE:
+        raise Wrong(f"{used:.1f} s of a processor in {passed:.1f} s, {late:.1f} s after the limit")

@@ -1,8 +1,8 @@
 #!/usr/bin/env python3
 """Reads the pages of `plan report` back, over drawn projects and job shops with names: html.parser
 reads the page, xml.etree each of its images. Title, note, bars and the table are compared with the
-results of other commands as JSON (`schedule`, `shop`, `days`, `cpm`), with `plan slack`, and with
-the drawn names.
+results of other commands as JSON (`schedule`, `shop`, `days`, `cpm`), with the slacks of the model,
+and with the drawn names.
 
     tests/trials/reports.py               1,000 files; prints nothing on success
     tests/trials/reports.py CASES SEED    so many, drawn from this seed
@@ -30,8 +30,32 @@ from drawing.words import rule
 from events import NAMES, named_lines, shown_name, with_names
 from holidays import MARKS, STARTS, small_file
 from images import SVG, label, lines_of, place
+from model.projects import read_project
+from model.verdicts import slack
 
 VOID = {"meta"}
+# The model tries each delay, so that it counts the slacks of schedules up to this makespan.
+LONGEST = 300
+# Three activities that take no time.
+POINTS = b"""projects : 1
+jobs (incl. supersource/sink ): 3
+- renewable : 1 R
+- nonrenewable : 0 N
+- doubly constrained : 0 D
+PRECEDENCE RELATIONS:
+jobnr. #modes #successors successors
+1 1 1 2
+2 1 1 3
+3 1 0
+REQUESTS/DURATIONS:
+jobnr. mode duration R 1
+1 1 0 0
+2 1 0 1
+3 1 0 0
+RESOURCEAVAILABILITIES:
+R 1
+1
+"""
 FIGURE = re.compile(r"(?s)<figure>\n(<svg.*?</svg>)\n</figure>")
 
 
@@ -75,9 +99,10 @@ class Page(html.parser.HTMLParser):
 
 
 class Schedule:
-    """What other commands say of a schedule: its rows, the days of each row, floats and slacks."""
+    """What other commands and the model say of a schedule: its rows, the days of each row, floats and
+    slacks."""
 
-    def __init__(self, folder, words, dates):
+    def __init__(self, folder, text, words, dates):
         self.is_shop = len(words) > 2
         own, rest = words[0], words[1:]
         command = "shop" if self.is_shop else "schedule"
@@ -90,9 +115,16 @@ class Schedule:
             self.days = [(row["first"] or "-", row["last"] or "-") for row in days]
         if not self.is_shop:
             self.floats = [row["TF"] for row in json.loads(plan(folder, "cpm", "--format", "json", *rest)[1])["rows"]]
-            starts = written(folder, "schedule", self.table[1])
-            lines = plan(folder, "slack", *rest, starts)[1].decode().splitlines()[1:-1]
-            self.slacks = [int(line.split()[4]) for line in lines]
+            self.slacks = self.counted_slacks(read_project(text))
+            if self.slacks is None:
+                starts = written(folder, "schedule", self.table[1])
+                lines = plan(folder, "slack", *rest, starts)[1].decode().splitlines()[1:-1]
+                self.slacks = [int(line.split()[4]) for line in lines]
+
+    def counted_slacks(self, project):
+        """The slacks, or None if there are too many delays to try."""
+        starts = {row["act"]: row["start"] for row in self.rows}
+        return [slack(project, starts, j) for j in starts] if self.makespan <= LONGEST else None
 
     def first_day(self):
         return min(first for first, _ in self.days if first != "-")
@@ -113,20 +145,15 @@ def cells_of(schedule, k, row, names, machines):
     if schedule.is_shop:
         cells.append(label(row["mach"], machines))
     cells += [str(row["end"] - row["start"]), str(row["start"]), str(row["end"])]
-    cells += schedule.days[k] if has_days(schedule) else ()
+    cells += schedule.days[k] if schedule.days else ()
     if not schedule.is_shop:
         cells += [str(schedule.floats[k]), str(schedule.slacks[k])]
     return cells
 
 
-def has_days(schedule):
-    """Whether a report has the days of a schedule: one of makespan 0 has none."""
-    return bool(schedule.days) and schedule.makespan > 0
-
-
 def heads_of(schedule):
     found = ["No.", "Name", *(["Machine"] if schedule.is_shop else []), "Duration", "Start", "End"]
-    found += ["First day", "Last day"] if has_days(schedule) else []
+    found += ["First day", "Last day"] if schedule.days else []
     return found + (["Float", "Slack"] if not schedule.is_shop else [])
 
 
@@ -207,7 +234,7 @@ def try_file(draw, folder):
         same(what, answer, other)
         return other[2].split(b" ")[0].decode()
     same(f"{what}: the status and the errors", (answer[0], answer[2]), (0, b""))
-    schedule = Schedule(folder, [own, file, *instance], dates)
+    schedule = Schedule(folder, text, [own, file, *instance], dates)
     default = instance[0] if is_shop and instance[0] != "-" else "drawn"
     compare(what, answer[1].decode(), schedule, by_job, title or default, names, machines)
     if draw.chance(0.5):
@@ -217,9 +244,20 @@ def try_file(draw, folder):
     return "fine"
 
 
+def try_points(folder):
+    """A report on a calendar has the columns of the days, also if all activities take no time."""
+    file, dates = written(folder, "points", POINTS), [STARTS[0], MARKS[0]]
+    words = ["report", "--start", dates[0], "--days", dates[1], file]
+    status, text, errors = plan(folder, *words)
+    same("a report of makespan 0", (status, errors), (0, b""))
+    schedule = Schedule(folder, POINTS, ["lft", file], dates)
+    compare("a report of makespan 0", text.decode(), schedule, False, "points", {}, {})
+
+
 def try_reports(cases=1000, seed=1, is_verbose=False):
     draw, tally = Draw(Random(seed)), collections.Counter()
     with tempfile.TemporaryDirectory() as folder:
+        try_points(folder)
         for _ in range(cases):
             tally[try_file(draw, folder)] += 1
     if is_verbose:

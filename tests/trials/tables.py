@@ -18,6 +18,7 @@ import os
 import random
 import subprocess
 import sys
+import unicodedata
 
 sys.dont_write_bytecode = True
 TRIALS = os.path.dirname(os.path.abspath(__file__))
@@ -119,9 +120,18 @@ def words_of(cell):
 def checked_name(name, line):
     if len(name.encode()) > LONGEST_NAME:
         raise Refused(f"T12 limit line {line}")
-    if any(ord(c) < 32 for c in name):
+    if has_control(name):
         raise Refused(f"T2 not text line {line}")
     return name
+
+
+def has_control(text):
+    return any(unicodedata.category(c) == "Cc" for c in text)
+
+
+def lower(text):
+    """A text with its ASCII letters in lower case."""
+    return "".join(c.lower() if c.isascii() else c for c in text)
 
 
 def header_of(line, cells):
@@ -129,11 +139,11 @@ def header_of(line, cells):
     kinds, keys, resources = [], [], []
     for cell in cells:
         name = cell.strip(BLANKS)
-        key = name.lower() if name.isascii() else "".join(c.lower() if c.isascii() else c for c in name)
-        if key and key in keys:
+        key = lower(name)
+        kind = COLUMNS.get(key, "resource") if key else "nothing"
+        if key and (key in keys if kind == "resource" else kind in kinds):
             raise Refused(f"T4 column {name} twice")
         keys.append(key)
-        kind = COLUMNS.get(key, "resource") if key else "nothing"
         kinds.append(kind)
         if kind == "resource" and len(resources) == MOST_RESOURCES:
             raise Refused(f"T12 limit line {line}")
@@ -146,7 +156,7 @@ def header_of(line, cells):
 
 
 def is_id(word):
-    return 1 <= len(word) <= LONGEST_ID and not any(c in word for c in BLANKS + "\n,;")
+    return 1 <= len(word) <= LONGEST_ID and not any(c in word for c in BLANKS + "\n,;") and not has_control(word)
 
 
 class Table:
@@ -156,18 +166,25 @@ class Table:
         for line, cells in found[-1:]:
             if cells is None:
                 raise Refused(f"T13 line {line} cells")
+        while found and not any(x.strip(BLANKS) for x in found[0][1]):
+            found = found[1:]
         line, cells = found[0] if found else (1, [])
         self.kinds, keys, self.resources = header_of(line, cells)
         self.id_at = keys.index("id") if "id" in keys else None
         rows = [(n, c) for n, c in found[1:] if any(x.strip(BLANKS) for x in c)]
         ids = [self.id_of(k, c) for k, (_, c) in enumerate(rows)]
-        names = [name for name in ids if name != "capacity" or self.id_at is None][:MOST_ROWS]
+        activities = [(n, name) for (n, _), name in zip(rows, ids) if not self.is_capacity(name)]
+        if len(activities) > MOST_ROWS:
+            raise Refused(f"T12 limit line {activities[MOST_ROWS][0]}")
+        names = [name for _, name in activities]
         self.numbers = {}
         for k, name in enumerate(names):
             self.numbers.setdefault(name, k + 2)
         self.rows, self.capacities, self.seen, self.total = [], None, [], 0
         for (n, c), name in zip(rows, ids):
             self.take(n, c, name)
+        if not self.rows:
+            raise Refused("T12 limit line 0")
         self.amounts = self.all_capacities(given)
         self.refuse_cycles()
 
@@ -176,11 +193,12 @@ class Table:
             return str(k + 1)
         return cells[self.id_at].strip(BLANKS) if self.id_at < len(cells) else ""
 
+    def is_capacity(self, name):
+        return self.id_at is not None and lower(name) == "capacity"
+
     def take(self, line, cells, name):
-        if self.id_at is not None and name == "capacity":
+        if self.is_capacity(name):
             return self.take_capacities(line, cells)
-        if len(self.rows) == MOST_ROWS:
-            raise Refused(f"T12 limit line {line}")
         row = {"name": "", "duration": 0, "before": [], "needs": []}
         resource = 0
         for k, kind in enumerate(self.kinds):
@@ -196,6 +214,8 @@ class Table:
                 row["name"] = checked_name(cell, line)
             elif kind == "predecessors":
                 for word in words_of(cell):
+                    if has_control(word):
+                        raise Refused(f"T2 not text line {line}")
                     if word not in self.numbers:
                         raise Refused(f"T8 line {line} predecessor {word}")
                     row["before"].append(self.numbers[word])
@@ -225,12 +245,13 @@ class Table:
 
     def all_capacities(self, given):
         for name in given:
-            if name not in self.resources:
+            if lower(name) not in map(lower, self.resources):
                 raise Refused(f"T14 no resource {name}")
+        given = {lower(name): amount for name, amount in given.items()}
         amounts = []
         for k, name in enumerate(self.resources):
             own = self.capacities[k] if self.capacities is not None else None
-            found = given.get(name, own)
+            found = given.get(lower(name), own)
             if found is None:
                 raise Refused(f"T10 no capacity {name}")
             amounts.append(found)
@@ -315,7 +336,7 @@ def wanted(data, given):
             line = data[: error.start].count(b"\n") + 1
             raise Refused(f"T2 not text line {line}") from error
         text = text.removeprefix("\ufeff")
-        head = text.split("\n", 1)[0]
+        head = next((line for line in text.split("\n") if line.strip(BLANKS)), "")
         delimiter = "\t" if "\t" in head else ";" if ";" in head else ","
         table = Table(records(text, delimiter), given)
         return 0, Project(table.rows, table.resources, table.amounts).text().encode(), b""
@@ -342,6 +363,7 @@ HEADS = {
     "name": ["name", "task", "Task"],
     "predecessors": ["predecessors", "after", "depends on", "Depends On"],
 }
+CAPACITY = ["capacity", "capacity", "Capacity", "CAPACITY"]
 
 
 def drawn_table(draw):
@@ -368,10 +390,12 @@ def drawn_table(draw):
             row[draw.choice(kinds)] = draw.choice(["x", "-1", "99999", "A B", "1000000000"])
         lines.append([row[kind] for kind in kinds])
     if "id" in kinds and draw.random() < 0.9:
-        row = {"id": "capacity", **{name: str(draw.randrange(1, 9)) for name in resources}}
+        row = {"id": draw.choice(CAPACITY), **{name: str(draw.randrange(1, 9)) for name in resources}}
         lines.insert(draw.randrange(1, len(lines) + 1), [row.get(kind, "") for kind in kinds])
     if draw.random() < 0.2:
         lines.insert(draw.randrange(1, len(lines) + 1), [""] * len(kinds))
+    for _ in range(draw.choice([0, 0, 0, 0, 1, 2])):
+        lines.insert(0, [draw.choice(["", "", " ", "\t "])])
     mark = "\ufeff" if draw.random() < 0.2 else ""
     text = end.join(delimiter.join(drawn_cell(draw, cell, delimiter) for cell in line) for line in lines)
     return mark + text + (end if draw.random() < 0.8 else ""), delimiter
@@ -383,7 +407,7 @@ def damaged(draw, data):
         return data
     k = draw.randrange(len(data))
     return draw.choice([
-        data[:k] + bytes([draw.choice(b'",;\t\n\r A0\x00\xff')]) + data[k + 1 :],
+        data[:k] + bytes([draw.choice(b'",;\t\n\r A0\x00\x7f\xff')]) + data[k + 1 :],
         data[:k] + data[k + 1 :],
         data[:k] + data[k : k + 1] * 2 + data[k + 1 :],
         data[:k],
@@ -433,7 +457,7 @@ def try_drawn_tables(count, seed):
             raise Wrong(f"table {n}: the model's records differ from those of Python's module csv")
         if draw.random() < 1 / 3:
             data = damaged(draw, data)
-        given = {"crew0": draw.randrange(9)} if draw.random() < 0.2 else {}
+        given = {draw.choice(["crew0", "CREW0"]): draw.randrange(9)} if draw.random() < 0.2 else {}
         options = [f"--capacity={name}={amount}" for name, amount in given.items()]
         answer = imported(data, options)
         if answer != wanted(data, given):

@@ -35,6 +35,7 @@ use Rattle.plan_cli.specs.BestRun.{IsBestTableOf, TellsWhyNoBest}
 use Rattle.plan_cli.specs.ProveRun.{IsProofTableOf, TellsWhyNoProof}
 use Rattle.plan_cli.specs.SolveRun.{IsSolvedBy, IsShopSolvedTableOf}
 use Rattle.plan_cli.specs.declared.capacities.Capacity.{Capacity}
+use Rattle.plan_table.specs.Entries.{filled_from}
 use Rattle.plan_table.specs.declared.fault.TableCode.TheVariants as table_code
 use Rattle.plan_table.specs.declared.fault.ReadError.{ReadError}
 use Rattle.plan_table.specs.declared.fault.ReadError.TheVariants as errors
@@ -390,11 +391,13 @@ front_rows file = by_length (cases_lt longest_text (length file))
 
 -- the table in the front of a file is that in the file
 front_table : (given : List Override) (file : List ℕ) → table_read_with given (take (longest_text + 1) file) ≡ table_read_with given file
-front_table given file = ap (λ rows. reads.◌>>=◌ rows (table_in given)) (front_rows file)
+front_table given file =
+    ap (λ rows. reads.◌>>=◌ rows (λ found. table_in given (filled_from found))) (front_rows file)
 
 -- the list of orders in the front of a file is that in the file
 front_orders : (file : List ℕ) → shop_table_read (take (longest_text + 1) file) ≡ shop_table_read file
-front_orders file = ap (λ rows. reads.◌>>=◌ rows shop_in) (front_rows file)
+front_orders file =
+    ap (λ rows. reads.◌>>=◌ rows (λ found. shop_in (filled_from found))) (front_rows file)
 
 -- a result that is fine
 abbrev pub IsRead : {A : Type 0} → Result A reads.Fault → Type 0
@@ -507,8 +510,10 @@ file_short (task.Prove nodes instance) file text (doc, says, rest) = shop_short 
 file_short (task.BestProject budget given) file text (p, says, rest) = project_short file p says
 file_short (task.Solve conflicts capacities) file text (p, says, rest) = project_short file p says
 file_short (task.SolveShop conflicts instance) file text (doc, says, rest) = shop_short instance.now file doc says
-file_short (task.Import given) file text (t, read, shown) = rows_short file (was_read (rows_read file) (table_in (map override_of given.now)) t read)
-file_short task.ImportShop file text (t, read, shown) = rows_short file (was_read (rows_read file) shop_in t read)
+file_short (task.Import given) file text (t, read, shown) =
+    rows_short file (was_read (rows_read file) (λ found. table_in (map override_of given.now) (filled_from found)) t read)
+file_short task.ImportShop file text (t, read, shown) =
+    rows_short file (was_read (rows_read file) (λ found. shop_in (filled_from found)) t read)
 
 -- the text of a task with names for the front of a file is that for the file
 named_front : (task : Task) → HoldsByFront (ShowsTask rows.Named task)

@@ -15,7 +15,7 @@ use Rattle.plan_shop.specs.Docs.{shop_of}
 use Rattle.plan_report.specs.StartsText.{SaysStarts, activity_sheet, step_sheet}
 use Rattle.plan_report.specs.VerdictText.{sentence_of, shop_sentence_of, IsShopVerdict}
 use Rattle.plan_cli.specs.Starts.{TellsNoStarts}
-use Rattle.plan_cli.specs.VerdictText.{verdict_text_of}
+use Rattle.plan_cli.specs.VerdictText.{verdict_text_of, infeasible_line}
 
 -- a text gives the first verdict on starts of an instance whose needs are within its capacities
 pub record TellsVerdict (i : Planned) (starts text : List ℕ) : Type 0 where
@@ -56,14 +56,14 @@ pub record TellsWhyInfeasible (p : Problem) (starts line : List ℕ) : Type 0 wh
   pub infeasible : IsFeasible p starts → ⊥
   pub verdict : Verdict
   pub first : IsFirstVerdict p starts verdict
-  pub told : line ≡ sentence_of verdict
+  pub told : line ≡ infeasible_line (sentence_of verdict)
 
 -- a line gives the first verdict on starts of a job shop that aren't feasible
 pub record TellsShopInfeasible (s : JobShop) (starts line : List ℕ) : Type 0 where
   pub infeasible : IsFeasible (shops.problem_of s) starts → ⊥
   pub verdict : Verdict
   pub first : IsFirstVerdict (shops.problem_of s) starts verdict
-  pub told : line ≡ shop_sentence_of s verdict
+  pub told : line ≡ infeasible_line (shop_sentence_of s verdict)
 
 -- a text gives the first verdict on the starts in a text, for a job shop
 abbrev pub TellsShopVerdict : List ℕ → JobShop → List ℕ → Type 0

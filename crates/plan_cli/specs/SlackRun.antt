@@ -9,6 +9,7 @@ use Rattle.plan_report.specs.declared.slack.SlackFault.{SlackFault}
 use Rattle.plan_report.specs.declared.slack.SlackFault.TheVariants as slack
 use Rattle.plan_cli.specs.ScheduleRun.{TellsNeed}
 use Rattle.plan_cli.specs.CheckRun.{TellsBadStarts}
+use Rattle.plan_cli.specs.VerdictText.{infeasible_line}
 
 -- a text is the table of slacks of the schedule with the starts in a text
 abbrev pub IsSlackOf : List ℕ → Planned → List ℕ → Type 0
@@ -19,7 +20,7 @@ IsSlackOf listed i text =
 -- a line gives the reason why starts have no slack
 abbrev pub TellsSlackFault : SlackFault → List ℕ → Type 0
 TellsSlackFault slack.NoMemory line = ⊥
-TellsSlackFault (slack.NotFeasible verdict) line = line ≡ sentence_of verdict
+TellsSlackFault (slack.NotFeasible verdict) line = line ≡ infeasible_line (sentence_of verdict)
 TellsSlackFault slack.Late line = line ≡ codes "S9 late"
 
 -- a line refuses the slacks of the starts in a text: the text fails a check, or else the starts

@@ -10,7 +10,7 @@ ghost use Rattle.plan_cli.specs.SlackRun as spec;
 use crate::capacities::{Capacity, replaced};
 use crate::projects::{instance_with, read_project};
 use crate::starts::read_starts;
-use crate::verdicts::sentence;
+use crate::verdicts::infeasible_text;
 use plan_errors::{CliFault, refusal_by};
 use plan_psplib::ProjectDoc;
 use plan_report::{SlackFault, slack_text};
@@ -23,7 +23,7 @@ fn slack_refusal(alloc: Global, fault: SlackFault) -> CliFault
 {
     match fault {
         SlackFault::NoMemory => CliFault::Memory,
-        SlackFault::NotFeasible(verdict) => refusal_by(sentence(alloc, verdict)),
+        SlackFault::NotFeasible(verdict) => refusal_by(infeasible_text(alloc, verdict)),
         SlackFault::Late => refusal_by("S9 late".to_string(alloc)),
     }
 }

@@ -46,8 +46,8 @@ pub enum Task<'a> {
         capacities: &'a [Capacity<'a>],
     },
     /// The Gantt chart of a project's schedule: the time units of a cell, and a line of cells for
-    /// each activity. Errors of starts that are listed: those of [`Task::Check`], then the verdict
-    /// if they aren't feasible.
+    /// each activity. Errors of starts that are listed: those of [`Task::Check`], then `S10` with
+    /// the verdict if they aren't feasible.
     Chart {
         origin: Origin<'a>,
         capacities: &'a [Capacity<'a>],
@@ -88,10 +88,10 @@ pub enum Task<'a> {
         starts: &'a [u8],
         instance: &'a str,
     },
-    /// The slack of each activity in a feasible schedule: the time by which it can start later,
-    /// while all others keep their starts and the makespan stays. The last line is a chain of
-    /// activities without slack. Errors: those of [`Task::Check`], the verdict if the starts aren't
-    /// feasible, `S9` (the end is after 10,000,000).
+    /// The slack of each activity in a feasible schedule: the greatest delay such that each delay
+    /// up to it is feasible, while all others keep their starts and the makespan stays. The last
+    /// line is a chain of activities without slack. Errors: those of [`Task::Check`], `S10` with
+    /// the verdict if the starts aren't feasible, `S9` (the end is after 10,000,000).
     Slack {
         starts: &'a [u8],
         capacities: &'a [Capacity<'a>],

@@ -12,7 +12,7 @@ ghost use Rattle.plan_report.specs.VerdictText.{sentence_of, shop_sentence_of};
 ghost use Rattle.plan_shop.specs.Docs.{shop_of};
 ghost use Rattle.plan_shop.specs.Shop.{count_steps};
 ghost use Rattle.plan_shop.specs.Shop as shops;
-ghost use Rattle.plan_cli.specs.VerdictText.{verdict_text_of};
+ghost use Rattle.plan_cli.specs.VerdictText.{verdict_text_of, infeasible_line};
 ghost use Rattle.plan_cli.specs.CheckRun as spec;
 
 use crate::projects::{instance_of, read_project};
@@ -26,21 +26,31 @@ use plan_sgs::{Instance, Verdict, check};
 use plan_shop::{self, Shop};
 use std::alloc::{AllocError, Global};
 
-/// Returns the sentence of a verdict, without an end of line.
-pub(crate) fn sentence(alloc: Global, verdict: Verdict) -> Result<String, AllocError>
-    ensures { IfOk result (λ text. string_bytes text ≡ sentence_of verdict) }
+/// Returns the error line of infeasible starts, for their verdict.
+pub(crate) fn infeasible_text(alloc: Global, verdict: Verdict) -> Result<String, AllocError>
+    ensures { IfOk result (λ text. string_bytes text ≡ infeasible_line (sentence_of verdict)) }
 {
-    let mut text = String::new(alloc);
+    let mut text = "S10 ".to_string(alloc)?;
     push_sentence(&mut text, verdict)?;
     Ok(text)
 }
 
-// Returns the sentence of a verdict on a job shop, without an end of line.
-fn shop_sentence(alloc: Global, shop: &Shop, verdict: Verdict) -> Result<String, AllocError>
-    ensures { IfOk result (λ text. string_bytes text ≡ shop_sentence_of shop.now verdict) }
+// Returns the error line of infeasible starts of a job shop, for their verdict.
+fn shop_infeasible_text(alloc: Global, shop: &Shop, verdict: Verdict) -> Result<String, AllocError>
+    ensures { IfOk result (λ text.
+        string_bytes text ≡ infeasible_line (shop_sentence_of shop.now verdict)) }
+{
+    let mut text = "S10 ".to_string(alloc)?;
+    push_shop_sentence(&mut text, shop, verdict)?;
+    Ok(text)
+}
+
+// Returns the sentence of a verdict, without an end of line.
+fn sentence(alloc: Global, verdict: Verdict) -> Result<String, AllocError>
+    ensures { IfOk result (λ text. string_bytes text ≡ sentence_of verdict) }
 {
     let mut text = String::new(alloc);
-    push_shop_sentence(&mut text, shop, verdict)?;
+    push_sentence(&mut text, verdict)?;
     Ok(text)
 }
 
@@ -67,7 +77,9 @@ pub(crate) fn check_feasible(
 {
     let verdict = check(alloc, instance, starts).map_err(|_| CliFault::Memory)?;
     match verdict {
-        Verdict::Arc(_, _) | Verdict::Over(_, _) => Err(refusal_by(sentence(alloc, verdict))),
+        Verdict::Arc(_, _) | Verdict::Over(_, _) => Err(refusal_by(infeasible_text(
+            alloc, verdict,
+        ))),
         Verdict::Shift(_) | Verdict::Active => Ok(()),
     }
 }
@@ -115,7 +127,7 @@ pub(crate) fn check_shop_feasible(
     let verdict = plan_shop::check(shop, starts);
     match verdict {
         Verdict::Arc(_, _) | Verdict::Over(_, _) => {
-            Err(refusal_by(shop_sentence(alloc, shop, verdict)))
+            Err(refusal_by(shop_infeasible_text(alloc, shop, verdict)))
         }
         Verdict::Shift(_) | Verdict::Active => Ok(()),
     }

@@ -3,3 +3,4 @@ pub mod Stable
 pub mod Checks
 pub mod Settling
 pub mod Memory
+pub mod Choice

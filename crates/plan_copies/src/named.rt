@@ -7,14 +7,15 @@ use crate::check::Scratch;
 use crate::devices::{FileReader, FileWriter};
 use crate::fault::PairFault;
 use crate::pair::{Origin, Target};
+use crate::plain::{create_plain, open_plain};
 use plan_io::{MOST_CALLS, Sink, Tally};
 use plan_serve::{ServeFault, check_office_on_file};
 use sqlite::{FileFrom, FileStore, Start, Unknown};
 use sqlite_trees::store::Store;
 use std::alloc::AllocError;
-use std::fs::{self, OpenOptions};
+use std::fs;
 use std::io::{self, ErrorKind, Read};
-use std::os::unix::fs::{FileExt, OpenOptionsExt};
+use std::os::unix::fs::FileExt;
 
 // The type, the name and the table of a row of the schema, as SQLite stores them.
 const ROW: &[u8] = b"tablelagslags";
@@ -60,7 +61,7 @@ fn has_journal(rt: &HostRuntime, path: &str) -> io::Result<bool> {
         Err(error) if error.kind() == ErrorKind::NotFound => return Ok(false),
         Err(error) => return Err(error),
     }
-    let mut journal = fs::open(rt, path)?;
+    let mut journal = open_plain(rt, path)?;
     let mut first = [0];
     Ok(journal.read(&mut first)? == 1 && first[0] != 0)
 }
@@ -115,7 +116,7 @@ impl Origin for NamedPair {
 
     fn open_database(&mut self) -> Result<FileReader, PairFault> {
         mark(&mut self.opens);
-        match fs::open(&self.rt, self.database.as_str()) {
+        match open_plain(&self.rt, self.database.as_str()) {
             Ok(file) => Ok(FileReader::new(file)),
             Err(error) => Err(origin_fault(&error)),
         }
@@ -123,7 +124,7 @@ impl Origin for NamedPair {
 
     fn open_log(&mut self) -> Result<Option<FileReader>, PairFault> {
         mark(&mut self.opens);
-        match fs::open(&self.rt, self.log.as_str()) {
+        match open_plain(&self.rt, self.log.as_str()) {
             Ok(file) => Ok(Some(FileReader::new(file))),
             Err(error) if error.kind() == ErrorKind::NotFound => Ok(None),
             Err(error) => Err(origin_fault(&error)),
@@ -139,17 +140,11 @@ pub struct NamedCopy {
     log: String,
 }
 
-// Creates a file that only this user can read, or empties it.
+// Creates a file that only this user can read, where there is none.
 fn create(rt: &HostRuntime, path: &str) -> Result<FileWriter, PairFault>
     ensures fair { IfErr result (λ e. e ≢ PairFault.Restless) }
 {
-    let made = OpenOptions::new()
-        .write(true)
-        .create(true)
-        .truncate(true)
-        .mode(0o600)
-        .open(rt, path);
-    match made {
+    match create_plain(rt, path) {
         Ok(file) => Ok(FileWriter::new(file)),
         Err(error) => Err(target_fault(&error)),
     }
@@ -168,7 +163,7 @@ fn remove(rt: &HostRuntime, path: &str) -> Result<(), PairFault>
 // Returns whether a file has the row of the schema for the table that the second version added. If
 // it can't be read, it may have one.
 fn has_table(rt: &HostRuntime, path: &str) -> bool {
-    let file = match fs::open(rt, path) {
+    let file = match open_plain(rt, path) {
         Ok(file) => file,
         Err(error) => return error.kind() != ErrorKind::NotFound,
     };
@@ -207,6 +202,7 @@ impl Target for NamedCopy {
 
     fn create_database(&mut self) -> Result<FileWriter, PairFault> {
         remove(&self.rt, self.log.as_str())?;
+        remove(&self.rt, self.database.as_str())?;
         create(&self.rt, self.database.as_str())
     }
 

@@ -5,34 +5,44 @@ use crate::check::{CheckFault, copy_checked};
 use crate::fault::PairFault;
 use crate::lines::{CopyFault, copy_fault, office_fault, store_fault};
 use crate::named::{NamedCopy, NamedPair, target_fault};
-use crate::room::{Room, folder_of, stamp, stem_of, sync_file, sync_folder};
-use plan_io::Sink;
+use crate::orphans::check_orphans;
+use crate::owner::check_owner;
+use crate::plain::{copy_access, open_plain};
+use crate::replacement::{Replacement, SUFFIXES};
+use crate::room::{Room, folder_of, stamp, stem_of};
+use crate::settle::settle_from;
+use crate::strays::{has_log, remove_stray_log};
+use plan_io::{MemSink, Sink};
 use plan_serve::ServeFault;
 use sqlite::{FileFrom, Files, Unknown};
 use sqlite_std_file::OpenError;
 use std::fs;
 use std::io::{self, ErrorKind};
-use std::os::unix::fs::{MetadataExt, chown};
 
 // The start of the name of the folder in which a database is made.
 const ROOM: &str = ".plan-restore-";
 
-// The suffixes of the files of a database.
-const SUFFIXES: [&str; 3] = ["", "-wal", "-journal"];
-
 // The locked files of a database, if there is one.
 type Locks = Option<Files<FileFrom<Unknown>>>;
+
+// A database whose log was copied into it: its locked files, and its summary.
+#[derive(Drop)]
+struct Settled {
+    files: Files<FileFrom<Unknown>>,
+    summary: Vec<u8>,
+}
+
+// Returns the error of a database that another program has locked.
+fn busy_fault(rt: &HostRuntime, database: &str) -> CopyFault {
+    let rest = " is open in another program; stop its server";
+    store_fault(rt.alloc(), "", database, rest)
+}
 
 // Returns the error of a database whose files can't be locked.
 fn lock_fault(rt: &HostRuntime, error: &OpenError, database: &str) -> CopyFault {
     let alloc = rt.alloc();
     match error {
-        OpenError::Busy => store_fault(
-            alloc,
-            "",
-            database,
-            " is open in another program; stop its server",
-        ),
+        OpenError::Busy => busy_fault(rt, database),
         OpenError::OutOfMemory => CopyFault::Office(ServeFault::Memory),
         OpenError::HotJournal => store_fault(
             alloc,
@@ -55,15 +65,12 @@ fn lock_fault(rt: &HostRuntime, error: &OpenError, database: &str) -> CopyFault 
 // Locks the files of a database, so that no server can open them. An empty log that this makes is
 // removed again.
 fn lock(rt: &HostRuntime, database: &str) -> Result<Locks, CopyFault> {
-    let log = format!(in rt.alloc(); "{database}-wal")?;
-    let had_log = fs::symlink_metadata(rt, log.as_str()).is_ok();
+    check_orphans(rt, database)?;
     if fs::symlink_metadata(rt, database).is_err() {
-        if had_log {
-            let (name, rest) = (log.as_str(), " is there without its database; rename it");
-            return Err(store_fault(rt.alloc(), "", name, rest));
-        }
         return Ok(None);
     }
+    let log = format!(in rt.alloc(); "{database}-wal")?;
+    let had_log = fs::symlink_metadata(rt, log.as_str()).is_ok();
     let files = match sqlite_std_file::open(rt, database, Unknown) {
         Ok(files) => files,
         Err(error) => return Err(lock_fault(rt, &error, database)),
@@ -117,20 +124,14 @@ fn check_names(rt: &HostRuntime, copy: &str, database: &str) -> Result<(), CopyF
     Ok(())
 }
 
-// Gives a file the owner of the database, or of its folder if there is no database. Only root may.
-fn give(rt: &HostRuntime, file: &str, database: &str) -> io::Result<()> {
-    let owner = match fs::metadata(rt, database) {
-        Ok(found) => found,
-        Err(_) => fs::metadata(rt, folder_of(database))?,
-    };
-    let found = fs::metadata(rt, file)?;
-    if found.uid() == owner.uid() && found.gid() == owner.gid() {
-        return Ok(());
+// Gives a new file the mode and the owner of the database, if there is one, and writes it to the
+// disk.
+fn give_access(rt: &HostRuntime, file: &str, database: &str) -> io::Result<()> {
+    let file = open_plain(rt, file)?;
+    if let Ok(found) = fs::symlink_metadata(rt, database) {
+        copy_access(&found, &file)?;
     }
-    match chown(rt, file, Some(owner.uid()), Some(owner.gid())) {
-        Err(error) if error.kind() != ErrorKind::PermissionDenied => Err(error),
-        _ => Ok(()),
-    }
+    file.sync_all()
 }
 
 // Copies a copy into a folder of its own, and tests it. Returns the path and the summary.
@@ -152,41 +153,11 @@ fn prepare(
     let summary = copy_checked(alloc, &mut pair, &mut made).map_err(|fault| copy_fault(
         alloc, fault, copy, folder,
     ))?;
-    let is_ready = give(rt, file.as_str(), database).and_then(|()| sync_file(rt, file.as_str()));
-    if is_ready.is_err() {
+    if give_access(rt, file.as_str(), database).is_err() {
         let fault = CheckFault::Copy(PairFault::Unwritten);
         return Err(copy_fault(alloc, fault, copy, folder));
     }
     Ok((file, summary))
-}
-
-// Renames a file, if there is one.
-fn rename_if_there(rt: &HostRuntime, from: &str, to: &str) -> io::Result<()> {
-    match fs::rename(rt, from, to) {
-        Err(error) if error.kind() != ErrorKind::NotFound => Err(error),
-        _ => Ok(()),
-    }
-}
-
-// Renames a database, its log and its journal, as far as they exist.
-fn rename_all(rt: &HostRuntime, from: &str, to: &str) -> io::Result<()> {
-    for suffix in SUFFIXES {
-        let old = format!(in rt.alloc(); "{from}{suffix}")?;
-        let new = format!(in rt.alloc(); "{to}{suffix}")?;
-        rename_if_there(rt, old.as_str(), new.as_str())?;
-    }
-    Ok(())
-}
-
-// Puts a file in the place of a database, whose files get another name. If that fails, they get
-// their name back.
-fn replace(rt: &HostRuntime, file: &str, database: &str, old: &str) -> io::Result<()> {
-    let done = rename_all(rt, database, old).and_then(|()| fs::rename(rt, file, database));
-    if let Err(error) = done {
-        let _ = rename_all(rt, old, database);
-        return Err(error);
-    }
-    sync_folder(rt, folder_of(database))
 }
 
 // Returns the name that the old database gets.
@@ -214,8 +185,41 @@ fn code_of(fault: CheckFault) -> &'static str {
     }
 }
 
-// Returns the summary of the old database, or the error of its check.
-fn old_summary(rt: &HostRuntime, old: &str, room: &Room<'_>) -> Result<Vec<u8>, CheckFault> {
+// Copies the log of a database into it, and closes its files. Returns nothing if the database isn't
+// a sound office.
+fn close_old(rt: &HostRuntime, database: &str) -> Result<Option<Settled>, CopyFault> {
+    let mut text = MemSink::new(Vec::new(rt.alloc()));
+    let looked = fs::metadata(rt, database);
+    let (done, closed) = settle_from(rt, database, looked, Unknown, &mut text);
+    let files = match closed {
+        Some(closed) => closed.ok(),
+        None => None,
+    };
+    match done {
+        Ok(()) => {}
+        Err(ServeFault::Locked) => return Err(busy_fault(rt, database)),
+        // The text is in memory.
+        Err(ServeFault::Memory | ServeFault::Output) => {
+            return Err(CopyFault::Office(ServeFault::Memory));
+        }
+        Err(_) => return Ok(None),
+    }
+    let summary = text.into_bytes();
+    Ok(files.map(|files| Settled { files, summary }))
+}
+
+// The same. If the database isn't a sound office, no new log stays beside it.
+fn settle_old(rt: &HostRuntime, database: &str) -> Result<Option<Settled>, CopyFault> {
+    let had_log = has_log(rt, database);
+    let settled = close_old(rt, database)?;
+    if settled.is_none() && !had_log {
+        remove_stray_log(rt, database);
+    }
+    Ok(settled)
+}
+
+// Returns the summary of a database that got another name, or the error of its check.
+fn renamed_summary(rt: &HostRuntime, old: &str, room: &Room<'_>) -> Result<Vec<u8>, CheckFault> {
     let no_memory = CheckFault::Copy(PairFault::Memory);
     let file = room.path_of("before.db").map_err(|_| no_memory)?;
     let mut pair = NamedPair::find(rt, old).map_err(CheckFault::Copy)?;
@@ -223,17 +227,12 @@ fn old_summary(rt: &HostRuntime, old: &str, room: &Room<'_>) -> Result<Vec<u8>, 
     copy_checked(rt.alloc(), &mut pair, &mut copy)
 }
 
-// Prints the digest and the new name of the old database, if there is one.
-fn print_old<W: Sink>(
-    rt: &HostRuntime,
-    old: &str,
-    room: &Room<'_>,
-    writer: &mut W,
-) -> Result<(), CopyFault> {
+// Returns the line about a database that got another name, if there was one.
+fn renamed_line(rt: &HostRuntime, old: &str, room: &Room<'_>) -> Result<Option<String>, CopyFault> {
     if fs::symlink_metadata(rt, old).is_err() {
-        return Ok(());
+        return Ok(None);
     }
-    let line = match old_summary(rt, old, room) {
+    Ok(Some(match renamed_summary(rt, old, room) {
         Ok(summary) => {
             let digest = digest_in(&summary);
             format!(in rt.alloc(); "before {digest} {old}\n")?
@@ -242,36 +241,91 @@ fn print_old<W: Sink>(
             let code = code_of(fault);
             format!(in rt.alloc(); "before unreadable ({code}) {old}\n")?
         }
-    };
-    print(writer, line.as_str())
+    }))
 }
 
-// Restores a database in the folder of its own, and prints both digests.
+// Replaces a database that can't be settled, or that doesn't exist. Returns the line about it.
+fn replace_renamed(
+    rt: &HostRuntime,
+    names: Replacement<'_>,
+    room: &Room<'_>,
+) -> Result<Option<String>, CopyFault> {
+    let locks = lock(rt, names.database)?;
+    if names.replace_renamed(rt).is_err() {
+        return Err(office_fault(rt.alloc(), ServeFault::Denied, names.database));
+    }
+    drop(locks);
+    renamed_line(rt, names.old, room)
+}
+
+// Replaces a settled database. Returns the line about it, and the locked files.
+fn replace_settled(
+    rt: &HostRuntime,
+    names: Replacement<'_>,
+    settled: &Settled,
+) -> Result<Option<String>, CopyFault> {
+    if let Err(error) = names.replace_settled(rt) {
+        return Err(room_fault(rt, &error, names.database));
+    }
+    let (digest, old) = (digest_in(&settled.summary), names.old);
+    Ok(Some(format!(in rt.alloc(); "before {digest} {old}\n")?))
+}
+
+// Restores a database in the folder of its own, and prints both digests. `name` is the name that
+// the user gave. An old server that found the old file before the restore stays locked out of it
+// until the end.
 fn restore_in<W: Sink>(
     rt: &HostRuntime,
     copy: &str,
     database: &str,
+    name: &str,
     room: &Room<'_>,
     writer: &mut W,
 ) -> Result<(), CopyFault> {
     let locks = lock(rt, database)?;
     let (file, summary) = prepare(rt, copy, database, room)?;
-    let old = old_name(rt, database)?;
-    if replace(rt, file.as_str(), database, old.as_str()).is_err() {
-        return Err(office_fault(rt.alloc(), ServeFault::Denied, database));
+    let (old, scratch) = (old_name(rt, database)?, room.path_of("old.db")?);
+    let names = Replacement {
+        database,
+        new: file.as_str(),
+        old: old.as_str(),
+        scratch: scratch.as_str(),
+    };
+    let settled = match locks {
+        Some(files) => {
+            drop(files);
+            settle_old(rt, database)?
+        }
+        None => None,
+    };
+    let line = match &settled {
+        Some(settled) => replace_settled(rt, names, settled)?,
+        None => replace_renamed(rt, names, room)?,
+    };
+    if let Some(line) = line {
+        print(writer, line.as_str())?;
     }
-    drop(locks);
-    print_old(rt, old.as_str(), room, writer)?;
     let digest = digest_in(&summary);
     print(
         writer,
-        format!(in rt.alloc(); "restored {digest} {database}\n")?.as_str(),
+        format!(in rt.alloc(); "restored {digest} {name}\n")?.as_str(),
     )
 }
 
+// Returns the path of the file of a database: the file that a link leads to, or the name itself.
+fn file_of(rt: &HostRuntime, database: &str) -> Result<String, CopyFault> {
+    let alloc = rt.alloc();
+    let is_link = fs::symlink_metadata(rt, database).is_ok_and(|found| found.is_symlink());
+    match fs::canonicalize(rt, database) {
+        Ok(real) if is_link => Ok(real.as_str().to_string(alloc)?),
+        _ => Ok(database.to_string(alloc)?),
+    }
+}
+
 /// Puts a copy of an office in the place of the database of this name, whose server is stopped. It
-/// tests the copy first, and gives the old database and its log another name. Prints the digests of
-/// both. If it fails, the database is what it was.
+/// tests the copy first. It copies the log of the old database into it and the old database to
+/// another name; if the old one isn't sound, it gets another name with its log. Prints the digests
+/// of both. If it fails, the office is what it was.
 pub fn restore_on_files<W: Sink>(
     rt: &HostRuntime,
     copy: &str,
@@ -279,9 +333,13 @@ pub fn restore_on_files<W: Sink>(
     writer: &mut W,
 ) -> Result<(), CopyFault> {
     check_names(rt, copy, database)?;
-    let folder = folder_of(database);
-    let room = Room::make(rt, folder, ROOM).map_err(|error| room_fault(rt, &error, database))?;
-    let done = restore_in(rt, copy, database, &room, writer);
+    let file = file_of(rt, database)?;
+    let file = file.as_str();
+    check_owner(rt, database)?;
+    check_owner(rt, file)?;
+    let room = Room::make(rt, folder_of(file), ROOM);
+    let room = room.map_err(|error| room_fault(rt, &error, database))?;
+    let done = restore_in(rt, copy, file, database, &room, writer);
     room.remove();
     done
 }

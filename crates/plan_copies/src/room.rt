@@ -1,5 +1,6 @@
 //! Folders for files that are made before they get their name.
 
+use crate::plain::open_plain;
 use jiff::Timestamp;
 use std::alloc::AllocError;
 use std::fs::{self, DirBuilder, File};
@@ -64,7 +65,7 @@ pub(crate) fn sync_folder(rt: &HostRuntime, folder: &str) -> io::Result<()> {
 
 /// Writes a file to the disk.
 pub(crate) fn sync_file(rt: &HostRuntime, path: &str) -> io::Result<()> {
-    File::open(rt, path)?.sync_all()
+    open_plain(rt, path)?.sync_all()
 }
 
 /// Returns the time in UTC, such as `20260301T030512Z`. If the clock can't be read, it is the

@@ -2,6 +2,7 @@ pub mod Faults
 pub mod Output
 pub mod Codes
 pub mod ExplainRun
+pub mod Subjects
 pub mod HintText
 pub use Rattle.plan_io.specs.Devices
 pub use Rattle.plan_psplib.specs.Lines

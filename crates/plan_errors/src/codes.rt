@@ -45,6 +45,7 @@ pub(crate) enum Code {
     BadNodes,
     NoResource,
     LateEnd,
+    Infeasible,
     BadDate,
     BadDays,
     BeyondCalendar,
@@ -123,6 +124,7 @@ impl Code {
             "S7" => Some(Code::BadNodes),
             "S8" => Some(Code::NoResource),
             "S9" => Some(Code::LateEnd),
+            "S10" => Some(Code::Infeasible),
             "G1" => Some(Code::BadDate),
             "G2" => Some(Code::BadDays),
             "G3" => Some(Code::BeyondCalendar),
@@ -201,6 +203,7 @@ impl Code {
             Code::BadNodes => "S7",
             Code::NoResource => "S8",
             Code::LateEnd => "S9",
+            Code::Infeasible => "S10",
             Code::BadDate => "G1",
             Code::BadDays => "G2",
             Code::BeyondCalendar => "G3",
@@ -257,7 +260,7 @@ impl Code {
             Code::BadMachine => "a machine number is too large",
             Code::LongTable => "the table is too large",
             Code::NoTableText => "the table isn't UTF-8 text",
-            Code::NoDurations => "no column has the durations",
+            Code::NoDurations => "a required column is missing",
             Code::ColumnTwice => "two columns have the same header",
             Code::BadDuration => "a duration isn't a number",
             Code::BadId => "an id is empty or malformed",
@@ -278,6 +281,7 @@ impl Code {
             Code::BadNodes => "the number of nodes is invalid",
             Code::NoResource => "the project has no such resource",
             Code::LateEnd => "the schedule ends too late",
+            Code::Infeasible => "the start times aren't feasible",
             Code::BadDate => "the first date is invalid",
             Code::BadDays => "the weekday marks are invalid",
             Code::BeyondCalendar => "the last day is after 9999-12-31",
@@ -371,19 +375,19 @@ impl Code {
                 "T1 too long\nThe table, or the project file that it becomes, is larger than 1,048,576 bytes.\nDelete rows, or split the project.\n"
             }
             Code::NoTableText => {
-                "T2 not text line N\nLine N isn't UTF-8, or a name in it contains a control character.\nSave the table as CSV UTF-8, and delete line breaks in names.\n"
+                "T2 not text line N\nLine N isn't UTF-8, or a name or a predecessor in it contains a control character.\nSave the table as CSV UTF-8, and delete line breaks in names.\n"
             }
             Code::NoDurations => {
                 "T3 no column NAME\nNo column has the header duration (with --shop: order, machine or time); or the table is empty.\nAdd a header line with this column.\n"
             }
             Code::ColumnTwice => {
-                "T4 column NAME twice\nTwo columns have the same header.\nRename or delete one.\n"
+                "T4 column NAME twice\nTwo columns have the same header, or two words for one column: name and task, or predecessors, after and depends on.\nRename or delete one.\n"
             }
             Code::BadDuration => {
                 "T5 line N duration\nThe duration or time in line N isn't a number: one to nine digits, no sign, no fraction.\nCorrect the duration. For fractions use a finer time unit, for example hours.\n"
             }
             Code::BadId => {
-                "T6 line N id\nThe id in line N is empty, has more than 32 characters, or contains a blank, a comma or a semicolon. With --shop: the name of an order or a machine is empty.\nShorten the id, or replace its blanks.\n"
+                "T6 line N id\nThe id in line N is empty, has more than 32 characters, or contains a blank, a comma, a semicolon or a control character. With --shop: the name of an order or a machine is empty.\nShorten the id, or replace its blanks.\n"
             }
             Code::IdTwice => {
                 "T7 line N id ID twice\nThe id in line N is the id of an earlier row.\nGive each row its own id.\n"
@@ -401,7 +405,7 @@ impl Code {
                 "T11 cycle A B ..\nThe rows with these ids form a cycle: each precedes the next, and the last precedes A.\nDelete one of these predecessors.\n"
             }
             Code::TableLimit => {
-                "T12 limit line N\nA limit is exceeded in line N: 500 rows, 16 resources, durations and amounts up to 10,000, all durations together up to 1,000,000, names up to 200 bytes. With --shop: 1 to 50 orders and 1 to 20 machines. Line 0 is the whole list.\nChoose a coarser time unit, or split the project.\n"
+                "T12 limit line N\nA limit is exceeded in line N: 1 to 500 rows, 16 resources, durations and amounts up to 10,000, all durations together up to 1,000,000, names up to 200 bytes. With --shop: 1 to 50 orders and 1 to 20 machines. Line 0 is the whole list.\nChoose a coarser time unit, or split the project.\n"
             }
             Code::BadCells => {
                 "T13 line N cells\nLine N has more cells than the header, or a quote that opens in line N isn't closed.\nDelete the extra cells, put quotes around a cell with a separator, or close the quote.\n"
@@ -435,6 +439,9 @@ impl Code {
             }
             Code::LateEnd => {
                 "S9 late\nThe schedule ends after 10,000,000.\nStart the activities earlier, or use larger time units.\n"
+            }
+            Code::Infeasible => {
+                "S10 VERDICT\nThe start times aren't feasible. The verdict is the line that plan check prints: the first activity that starts before a predecessor ends, else the first instant at which a resource or a machine is overloaded.\nCorrect the start times. Check them with plan check.\n"
             }
             Code::BadDate => {
                 "G1 date\nThe first date isn't a date from 1900-01-01 to 2199-12-31 in the form 2024-03-01.\nCorrect the date.\n"

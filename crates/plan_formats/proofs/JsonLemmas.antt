@@ -1,5 +1,5 @@
 -- The values of tables and of error lines have no float and are nested a few levels deep.
-use Rattle.std.proofs.Common.{ℕ, zero, suc, ◌≡◌, ◌≤◌, Bool, true, false, if◌then◌else◌, List, [], ◌∷◌, Option, Some, None, Ordering, Less, Equal, Greater, map, fold, codes, length, drop, refl, sym, ap, ◌∙◌}
+use Rattle.std.proofs.Common.{ℕ, zero, suc, ◌≡◌, ◌≤◌, Bool, true, false, if◌then◌else◌, List, [], ◌∷◌, Option, Some, None, Ordering, Less, Equal, Greater, map, fold, codes, bytes_eq, length, drop, refl, sym, ap, ◌∙◌}
 use Rattle.std.proofs.Common.{subst, true≢false, eqb, Result, IfOk, arith}
 use Rattle.std.proofs.lemmas.List.{drop_all}
 use Rattle.std.specs.Cmp.Lexicographic.{slice_cmp}
@@ -105,19 +105,34 @@ text_fits : (other : Bool) (line : List ℕ) (ms : Members) → MembersFit 1 ms 
 text_fits true line ms fit = put_fits 1 (codes "text") (string line) ms (refl, omega arith) fit
 text_fits false line ms fit = fit
 
-found_fits : (found : List (List ℕ)) (line : List ℕ) (ms : Members) → MembersFit 1 ms → MembersFit 1 (lines.with_members found line ms)
-found_fits found line ms fit =
+sentence_fits : (found : List (List ℕ)) (ms : Members) → MembersFit 1 ms → MembersFit 1 (lines.with_sentence found ms)
+sentence_fits found ms fit =
+    if_fits (codes "predecessor") (lines.predecessor_in found) _
+    (if_fits (codes "time") (lines.number_behind (codes "time") found) _
+    (if_fits (codes "step") (lines.number_behind (codes "step") found) _
+    (if_fits (codes "job") (lines.number_behind (codes "job") found) ms fit)))
+
+either_fits : (same : Bool) (a b : Members) → MembersFit 1 a → MembersFit 1 b → MembersFit 1 (if same then a else b)
+either_fits true a b x y = x
+either_fits false a b x y = y
+
+verdict_fits : (code : List ℕ) (found : List (List ℕ)) (ms : Members) → MembersFit 1 ms → MembersFit 1 (lines.with_verdict code found ms)
+verdict_fits code found ms fit =
+    either_fits (bytes_eq code (codes "S10")) (lines.with_sentence found ms) ms (sentence_fits found ms fit) fit
+
+found_fits : (code : List ℕ) (found : List (List ℕ)) (line : List ℕ) (ms : Members) → MembersFit 1 ms → MembersFit 1 (lines.with_members code found line ms)
+found_fits code found line ms fit =
     text_fits (lines.has_other found) line _
     (if_fits (codes "resource") (lines.number_behind (codes "resource") found) _
     (if_fits (codes "machine") (lines.number_behind (codes "machine") found) _
     (if_fits (codes "line") (lines.number_behind (codes "line") found) _
     (cycle_fits (lines.front_numbers (lines.behind (codes "cycle") found)) _
-    (if_fits (codes "activity") (lines.number_behind (codes "activity") found) ms fit)))))
+    (if_fits (codes "activity") (lines.number_behind (codes "activity") found) _ (verdict_fits code found ms fit))))))
 
 error_members_fit : (found : List (List ℕ)) (line : List ℕ) → MembersFit 1 (lines.error_members found line)
 error_members_fit [] line = tt
 error_members_fit (code ∷ found) line =
-    found_fits found line (put (codes "code") (string (utf8_lossy code)) no_members)
+    found_fits code found line _
     (put_fits 1 (codes "code") (string (utf8_lossy code)) no_members (refl, omega arith) tt)
 
 -- the value of an error line

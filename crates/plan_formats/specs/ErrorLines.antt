@@ -2,6 +2,7 @@
 use Rattle.std.specs.Prelude.{ℕ, ◌||◌, Bool, not, if◌then◌else◌, List, [], ◌∷◌, Option, Some, None}
 use Rattle.std.specs.Prelude.{map, bytes_eq, codes}
 use Rattle.std.specs.List.{list_any}
+use Rattle.std.specs.Option.{option_or}
 use Rattle.std.specs.Str.Lossy.{utf8_lossy}
 use Rattle.serde_json.specs.Data.{Data, Members, Items, no_members, object, array, unsigned, put}
 use Rattle.serde_json.specs.Data as json
@@ -72,15 +73,39 @@ abbrev pub with_text : List (List ℕ) → List ℕ → Members → Members
 with_text found line members =
     if has_other found then put (codes "text") (json.string line) members else members
 
+-- the first number among words
+abbrev pub first_among : List (List ℕ) → Option ℕ
+first_among [] = None
+first_among (word ∷ found) = option_or (number word) (first_among found)
+
+-- the number of the predecessor in a sentence: "before 2 ends", or "before step 1 ends"
+abbrev pub predecessor_in : List (List ℕ) → Option ℕ
+predecessor_in found = first_among (behind (codes "before") found)
+
+-- the members that only a verdict on starts has: its step, job, predecessor and instant
+abbrev pub with_sentence : List (List ℕ) → Members → Members
+with_sentence found members =
+    with_if (codes "predecessor") (predecessor_in found)
+    (with_number found
+    (with_number found
+    (with_number found members (codes "job"))
+    (codes "step"))
+    (codes "time"))
+
+-- members, and those of the verdict on starts if the code is that of infeasible starts
+abbrev pub with_verdict : List ℕ → List (List ℕ) → Members → Members
+with_verdict code found members =
+    if bytes_eq code (codes "S10") then with_sentence found members else members
+
 -- the members that the words behind a code add
-abbrev pub with_members : List (List ℕ) → List ℕ → Members → Members
-with_members found line members =
+abbrev pub with_members : List ℕ → List (List ℕ) → List ℕ → Members → Members
+with_members code found line members =
     with_text found line
     (with_number found
     (with_number found
     (with_number found
     (with_cycle found
-    (with_number found members (codes "activity")))
+    (with_number found (with_verdict code found members) (codes "activity")))
     (codes "line"))
     (codes "machine"))
     (codes "resource"))
@@ -89,7 +114,7 @@ with_members found line members =
 abbrev pub error_members : List (List ℕ) → List ℕ → Members
 error_members [] line = no_members
 error_members (code ∷ found) line =
-    with_members found line (put (codes "code") (json.string (utf8_lossy code)) no_members)
+    with_members code found line (put (codes "code") (json.string (utf8_lossy code)) no_members)
 
 -- an error line as an object
 abbrev pub error_data : List ℕ → Data

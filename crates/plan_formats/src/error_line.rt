@@ -1,6 +1,6 @@
 //! Error lines as JSON.
 
-ghost use Rattle.std.specs.Prelude.{◌≡◌, map, IfOk, OnOk, IfSome, string_bytes};
+ghost use Rattle.std.specs.Prelude.{◌≡◌, map, IfOk, OnOk, IfSome, string_bytes, codes};
 ghost use Rattle.std.specs.Option.{option_map};
 ghost use Rattle.serde_json.specs.View.{view, items_view, members_view};
 ghost use Rattle.plan_formats.specs.JsonText.{json_text_of, IsLineOf};
@@ -122,16 +122,77 @@ fn put_text(
     Ok(())
 }
 
+// Returns the first number among words, if there is one.
+fn first_among(words: &[&[u8]]) -> Option<u64>
+    ensures { result ≡ spec.first_among (map (λ word. word.now) words.now) }
+{
+    for word in words {
+        if let Some(n) = number(word) {
+            return Some(n);
+        }
+    }
+    None
+}
+
+// Sets the member `predecessor` to the first number behind the word `before`, if there is one.
+fn put_predecessor(
+    alloc: Global,
+    object: &mut Map<String, Value>,
+    words: &[&[u8]],
+) -> Result<(), AllocError>
+    ensures { OnOk result (members_view object.new.entries ≡ spec.with_if (codes "predecessor")
+        (spec.predecessor_in (map (λ word. word.now) words.now))
+        (members_view object.old.entries)) }
+{
+    if let Some(n) = first_among(behind(words, b"before")) {
+        put(object, alloc, "predecessor", Value::from(n))?;
+    }
+    Ok(())
+}
+
+// Sets the members that only a verdict on starts has.
+fn put_sentence(
+    alloc: Global,
+    object: &mut Map<String, Value>,
+    words: &[&[u8]],
+) -> Result<(), AllocError>
+    ensures { OnOk result (members_view object.new.entries ≡ spec.with_sentence
+        (map (λ word. word.now) words.now) (members_view object.old.entries)) }
+{
+    put_number(alloc, object, words, "job")?;
+    put_number(alloc, object, words, "step")?;
+    put_number(alloc, object, words, "time")?;
+    put_predecessor(alloc, object, words)
+}
+
+// Sets the members of a verdict on starts if the code is that of infeasible starts.
+fn put_verdict(
+    alloc: Global,
+    object: &mut Map<String, Value>,
+    code: &[u8],
+    words: &[&[u8]],
+) -> Result<(), AllocError>
+    ensures { OnOk result (members_view object.new.entries ≡ spec.with_verdict code.now
+        (map (λ word. word.now) words.now) (members_view object.old.entries)) }
+{
+    if code == b"S10".as_slice() {
+        put_sentence(alloc, object, words)?;
+    }
+    Ok(())
+}
+
 // Sets the members of an error line with this code and these words behind it.
 fn put_members(
     alloc: Global,
     object: &mut Map<String, Value>,
+    code: &[u8],
     words: &[&[u8]],
     line: &str,
 ) -> Result<(), AllocError>
-    ensures { OnOk result (members_view object.new.entries ≡ spec.with_members
+    ensures { OnOk result (members_view object.new.entries ≡ spec.with_members code.now
         (map (λ word. word.now) words.now) line.now (members_view object.old.entries)) }
 {
+    put_verdict(alloc, object, code, words)?;
     put_number(alloc, object, words, "activity")?;
     put_cycle(alloc, object, words)?;
     put_number(alloc, object, words, "line")?;
@@ -146,17 +207,19 @@ fn error_value(alloc: Global, line: &str) -> Result<Value, AllocError>
 {
     let words = words_of(alloc, line.as_bytes())?;
     let mut object = Map::new(alloc);
-    if let [code, rest @ ..] = words.as_slice() {
-        let code = String::from_utf8_lossy(alloc, code)?;
+    if let [first, rest @ ..] = words.as_slice() {
+        let code = String::from_utf8_lossy(alloc, first)?;
         put(&mut object, alloc, "code", Value::String(code))?;
-        put_members(alloc, &mut object, rest, line)?;
+        put_members(alloc, &mut object, first, rest, line)?;
     }
     Ok(Value::Object(object))
 }
 
 /// Returns an error line as a line of JSON: an object with its first word as `code`, and the
 /// numbers behind the words `activity`, `line`, `machine` and `resource`, and the array of those
-/// behind `cycle`, under these names. A line that has other words too is the member `text`.
+/// behind `cycle`, under these names. A line that has other words too is the member `text`. The
+/// error S10 also has the numbers behind `job`, `step` and `time`, and the first one behind
+/// `before` as `predecessor`.
 pub fn error_json(alloc: Global, line: &str) -> Result<Vec<u8>, AllocError>
     ensures text { IfOk result (λ text. text.items ≡ json_text_of (spec.error_data line.now)) }
     ensures reads { IfOk result (λ text. IsLineOf text.items (spec.error_data line.now)) }

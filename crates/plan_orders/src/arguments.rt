@@ -1,7 +1,11 @@
 //! The commands of `plan`, their arguments and their help.
 
+use crate::digest::SOURCES;
 use clap::{Arg, ArgAction, Command, value_parser};
 use std::alloc::{AllocError, Global};
+
+// The number of the release.
+const RELEASE: &str = "0.5.0";
 
 // The start of the help.
 const HELP_START: &str =
@@ -44,14 +48,12 @@ const ABOUT_COLUMN: usize = 14;
 enum Form {
     /// Any text, even if it begins with a hyphen: the command tests it.
     Text,
-    /// Any text, or none.
-    OptionalText,
     /// A name; a text that begins with a hyphen is an option.
     Name,
+    /// A name, or none.
+    OptionalName,
     /// One or more names.
     Names,
-    /// One or more texts, the first of which may begin with a hyphen.
-    Texts,
     /// A port.
     Port,
     /// The kind of a template.
@@ -111,7 +113,7 @@ impl Form {
     fn is_required(self) -> bool {
         matches!(
             self,
-            Form::Text | Form::Name | Form::Names | Form::Texts | Form::Port | Form::Kind
+            Form::Text | Form::Name | Form::Names | Form::Port | Form::Kind
         )
     }
 }
@@ -204,20 +206,20 @@ const FILE_UNLESS_STARTS: Argument = Argument {
 // The file of starts of a command that always has one.
 const GIVEN_STARTS: Argument = Argument {
     name: "STARTS",
-    form: Form::Text,
-    help: "the start times: numbers, a printed schedule or its CSV; - for standard input",
+    form: Form::Name,
+    help: "the start times: numbers, a printed schedule, its CSV or JSON; - for standard input",
 };
 
 // The files of starts of a command that compares two schedules.
 const STARTS_A: Argument = Argument {
     name: "STARTS_A",
-    form: Form::Text,
+    form: Form::Name,
     help: "the start times of schedule A, as for plan check; - for standard input",
 };
 
 const STARTS_B: Argument = Argument {
     name: "STARTS_B",
-    form: Form::Text,
+    form: Form::Name,
     help: "the start times of schedule B",
 };
 
@@ -236,14 +238,14 @@ const HOLIDAYS: Argument = Argument {
 
 const INSTANCE: Argument = Argument {
     name: "INSTANCE",
-    form: Form::Text,
+    form: Form::Name,
     help: "the name of an instance in the file, or - if the file has no names",
 };
 
 // The instance of a job shop file, for commands that also take project files.
 const INSTANCE_IF_SHOP: Argument = Argument {
     name: "INSTANCE",
-    form: Form::OptionalText,
+    form: Form::OptionalName,
     help: "for a job shop file: the name of an instance, or - if the file has no names",
 };
 
@@ -648,7 +650,7 @@ const SERVER_COMMANDS: [Entry; 7] = [
         name: "restore",
         about: "Puts a copy in the place of an office, and prints both digests",
         examples: "The server has to be stopped. The old database gets another name.\n\n\
-            Example:\n  plan restore copies/office-20260301T030512Z.db office.db",
+            Example:\n  plan restore copies/office-1f2e3d4c-20260301T030512Z.db office.db",
         arguments: &[
             Argument {
                 name: "COPY",
@@ -683,7 +685,7 @@ const HELP_COMMANDS: [Entry; 1] = [Entry {
     arguments: &[
         Argument {
             name: "CODE",
-            form: Form::Texts,
+            form: Form::Names,
             help: "the code of an error, in capitals or not, or the whole error line",
         },
         FORMAT,
@@ -744,10 +746,9 @@ impl Group {
 // Makes an argument of clap without its parser.
 fn plain<'a>(alloc: Global, argument: &Argument) -> Arg<'a> {
     let form = argument.form;
-    let hyphen = matches!(form, Form::Text | Form::OptionalText | Form::Texts);
     Arg::new(alloc, argument.name)
         .required(form.is_required())
-        .allow_hyphen_values(hyphen)
+        .allow_hyphen_values(form == Form::Text)
         .help(argument.help)
 }
 
@@ -755,7 +756,7 @@ fn plain<'a>(alloc: Global, argument: &Argument) -> Arg<'a> {
 fn arg_of<'a>(alloc: Global, argument: &Argument) -> Result<Arg<'a>, AllocError> {
     let arg = plain(alloc, argument);
     Ok(match argument.form {
-        Form::Names | Form::Texts => arg.num_args(1..),
+        Form::Names => arg.num_args(1..),
         Form::Kind => arg.value_parser(KINDS),
         Form::Port => arg.value_parser(value_parser!(u16).range(1..=65535)),
         Form::Count => arg
@@ -906,15 +907,23 @@ fn entry_named(name: &str) -> Option<&'static Entry> {
     None
 }
 
-/// Returns the parser of the command line, which prints this text as its help. If the first
-/// argument names a command, the parser knows only this one, because each command costs time.
+/// Returns the version of the program: the number of its release, and a line with the digest of its
+/// sources.
+pub fn version(alloc: Global) -> Result<String, AllocError> {
+    format!(in alloc; "{RELEASE}\nsources {SOURCES}")
+}
+
+/// Returns the parser of the command line, which prints these texts as its help and its version. If
+/// the first argument names a command, the parser knows only this one, because each command costs
+/// time.
 pub fn command<'a>(
     alloc: Global,
     help: &'a str,
+    version: &'a str,
     first: Option<&str>,
 ) -> Result<Command<'a>, AllocError> {
     let mut command = Command::new(alloc, "plan")
-        .version("0.4.0")
+        .version(version)
         .override_help(help)
         .subcommand_required(true);
     if let Some(entry) = first.and_then(entry_named) {

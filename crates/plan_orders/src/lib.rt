@@ -1,11 +1,16 @@
-//! The command line of the program `plan`: its commands, their help, and the orders that its
-//! arguments make.
+//! The command line of the program `plan`: its commands, their help, the orders that its arguments
+//! make, and the way to write a file that they name.
 #![tactic(auto)]
 
 mod arguments;
+mod contexts;
+mod digest;
 mod orders;
+mod outputs;
 
-pub use arguments::{command, help};
+pub use arguments::{command, help, version};
+pub use contexts::contents_of;
 pub use orders::{
     FileOrder, Lists, OfficeOrder, Order, capacities_of, order_of, overrides_of, texts_of,
 };
+pub use outputs::{FileId, Found, Way, way_to_write};

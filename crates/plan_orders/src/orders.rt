@@ -48,36 +48,6 @@ pub enum FileOrder<'a> {
     Explain(&'a [&'a str]),
 }
 
-// Returns the name of a file as hints print it.
-fn shown_name(path: &str) -> &str {
-    if path == "-" { "standard input" } else { path }
-}
-
-// Whether an error line is about a text with this role.
-fn is_about(line: &str, role: Role) -> bool {
-    match role {
-        Role::Starts => line.ends_with(" of the starts"),
-        Role::StartsA => line.ends_with(" of the starts A"),
-        Role::StartsB => line.ends_with(" of the starts B"),
-        Role::Holidays => line.starts_with("G5 ") || line.starts_with("G6 "),
-    }
-}
-
-// Returns the name of the file that an error line is about, if it is known: that of a text, or else
-// this one.
-fn file_among<'a>(texts: &[NamedText<'a>], file: &'a str, line: &str) -> Option<&'a str> {
-    for text in texts {
-        if is_about(line, text.role) {
-            return Some(shown_name(text.name));
-        }
-    }
-    if line == "I1 file" && !texts.is_empty() {
-        None
-    } else {
-        Some(shown_name(file))
-    }
-}
-
 // The roles of texts, and their arguments as messages name them.
 const ROLE_NAMES: [(Role, &str); 4] = [
     (Role::Starts, "STARTS"),
@@ -110,19 +80,6 @@ fn print_input(print: &Print<'_>) -> Option<(&'static str, &'static str)> {
     }
 }
 
-// Returns the name of the file that an error line of a print is about, if it is known.
-fn print_file_of<'a>(print: &Print<'a>, line: &str) -> Option<&'a str> {
-    match (print.origin, print.holidays) {
-        (_, Some(holidays)) if is_about(line, Role::Holidays) => Some(shown_name(holidays)),
-        (NamedOrigin::Starts(starts), _) if line.ends_with(" of the starts") => {
-            Some(shown_name(starts))
-        }
-        (NamedOrigin::Rule(_), None) => Some(shown_name(print.file)),
-        _ if line != "I1 file" => Some(shown_name(print.file)),
-        _ => None,
-    }
-}
-
 impl<'a> FileOrder<'a> {
     /// Returns the names of two arguments that are standard input, if there are two.
     pub fn shared_input(&self) -> Option<(&'static str, &'static str)> {
@@ -142,20 +99,6 @@ impl<'a> FileOrder<'a> {
             }
         }
         None
-    }
-
-    /// Returns the name of the file that an error line is about, if it is known.
-    pub fn file_of(&self, line: &str) -> Option<&'a str> {
-        if line == "I3 output" {
-            return None;
-        }
-        match *self {
-            FileOrder::Task(_, path) | FileOrder::Watched(_, path) => Some(shown_name(path)),
-            FileOrder::Solve { file, .. } => Some(shown_name(file)),
-            FileOrder::Texts { file, texts, .. } => file_among(texts, file, line),
-            FileOrder::Print(print) => print_file_of(&print, line),
-            FileOrder::New(_) | FileOrder::Explain(_) => None,
-        }
     }
 }
 
@@ -205,25 +148,6 @@ pub enum OfficeOrder<'a> {
         /// Whether each served connection is logged on standard error.
         is_logged: bool,
     },
-}
-
-impl<'a> OfficeOrder<'a> {
-    /// Returns the name of the office's file, unless an error line is about a socket, standard
-    /// input or another file.
-    pub fn file_of(&self, line: &str) -> Option<&'a str> {
-        if line.starts_with('I') {
-            return None;
-        }
-        match self {
-            OfficeOrder::Init { database }
-            | OfficeOrder::Check { database, .. }
-            | OfficeOrder::Settle { database }
-            | OfficeOrder::Backup { database, .. }
-            | OfficeOrder::Restore { database, .. }
-            | OfficeOrder::Replay { database, .. }
-            | OfficeOrder::Serve { database, .. } => Some(database),
-        }
-    }
 }
 
 /// An order of the command line.

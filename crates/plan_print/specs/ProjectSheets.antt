@@ -1,5 +1,5 @@
 -- The sheets of a project's schedule (docs/definitions.md, "Runs").
-use Rattle.std.specs.Prelude.{◌≡◌, ◌⊎◌, ℕ, List, [], Option, Some, None}
+use Rattle.std.specs.Prelude.{◌≡◌, ◌⊎◌, ℕ, false, List, [], Option, Some, None}
 use Rattle.plan_calendar.specs.WorkingDay.{Workdays}
 use Rattle.plan_net.specs.Network.{Net}
 use Rattle.plan_sgs.specs.Instances.{Planned}
@@ -29,7 +29,7 @@ IsChart title file net starts text =
 abbrev pub IsPlainReport : List ℕ → List ℕ → Planned → List ℕ → List ℕ → Type 0
 IsPlainReport title file i starts text = HasMargins i starts (λ floats slacks.
     text ≡ project_page title (names_behind activity_key file) (names_behind resource_key file)
-    i starts [] floats slacks)
+    i starts false [] floats slacks)
 
 -- a text is the report of starts on a calendar, with the names in the file
 abbrev pub IsReportOn : List ℕ → List ℕ → Planned → List ℕ → Workdays → List ℕ → Type 0

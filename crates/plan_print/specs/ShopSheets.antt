@@ -30,7 +30,7 @@ abbrev pub IsPlainShopReport : List ℕ → Bool → List ℕ → List ℕ → J
     → Type 0
 IsPlainShopReport title by_job instance file s starts text =
     text ≡ shop_page title (instance_names machine_key instance file)
-    (instance_names order_key instance file) s starts by_job []
+    (instance_names order_key instance file) s starts by_job false []
 
 -- a text is the report of starts on a calendar, with the names in the file
 abbrev pub IsShopReportOn : List ℕ → Bool → List ℕ → List ℕ → JobShop → List ℕ → Workdays

@@ -18,6 +18,7 @@ mod refutation;
 mod search;
 mod state;
 mod watcher;
+mod work;
 
 pub use course::Course;
 pub use fault::ProveFault;

@@ -3,12 +3,14 @@
 use crate::finder::{Finder, Hint};
 use crate::graph::{Graph, Pair};
 use crate::state::{End, State, at};
+use crate::work::Work;
 use std::alloc::{AllocError, Global};
 
 /// A first-in, first-out queue of the steps whose head or tail has risen, each at most once. A
 /// machine is stale if one of its steps was handled since its last deduction. The queue also keeps
-/// the stale machines, the finder of their hints, and the number of failures of each pair. No
-/// clause depends on the contents: a missing step can only cost the search a deduction.
+/// the stale machines, the finder of their hints, the number of failures of each pair, and the work
+/// since the last look at the clock. No clause depends on the contents: a missing step can only cost
+/// the search a deduction.
 #[derive(Drop)]
 pub struct Queue {
     ring: Vec<u32>,
@@ -18,6 +20,7 @@ pub struct Queue {
     stale: Vec<bool>,
     finder: Finder,
     pub weights: Vec<u32>,
+    work: Work,
 }
 
 // Returns the index after another one in a ring.
@@ -47,6 +50,7 @@ impl Queue {
             } else {
                 vec![in alloc; 1; graph.pairs.len()]?
             },
+            work: Work::new(),
         })
     }
 
@@ -83,6 +87,9 @@ impl Queue {
     /// Removes the first step, and marks its machine as stale.
     pub fn pop(&mut self, graph: &Graph) -> Option<u32> {
         let step = self.take()?;
+        if let Some(rules) = graph.rules.get(step as usize) {
+            self.work.add(rules.len());
+        }
         let machine = at(&graph.machines, step) as usize;
         if machine < self.stale.len() {
             self.stale[machine] = true;
@@ -107,7 +114,18 @@ impl Queue {
         clique: &[u32],
         machine: usize,
     ) -> Option<Hint> {
+        self.work.add(clique.len().saturating_mul(clique.len()));
         self.finder.look(limit, state, clique, machine)
+    }
+
+    /// Returns whether the watcher should be asked whether the search should end.
+    pub fn is_due(&self) -> bool {
+        self.work.is_due()
+    }
+
+    /// Starts the count of work again: the watcher was asked.
+    pub fn restart_work(&mut self) {
+        self.work.restart();
     }
 
     /// Returns the hint that the step at an index of the clique goes behind others, or ahead of

@@ -18,7 +18,7 @@ pub enum Outcome {
     Refuted,
     /// All pairs are decided. These are the heads.
     Leaf(Vec<u32>),
-    /// The search used all its nodes.
+    /// The search used all its nodes, or the clock is due.
     Stopped,
 }
 
@@ -103,7 +103,8 @@ pub fn first_states(alloc: Global, graph: &Graph) -> Result<Vec<State>, AllocErr
 /// nodes. The search is a depth-first branch and bound over disjunctive pairs (Carlier and Pinson
 /// 1989; Brucker, Jurisch and Sievers 1994). The failures that the queue has counted in earlier
 /// searches guide the choice of pairs, and the side that the guiding schedule has is visited first.
-/// A stopped search can be continued from the states that it leaves.
+/// The search stops before a node if the queue has counted so much work that the clock is due. A
+/// stopped search can be continued from the states that it leaves.
 pub fn refute(
     alloc: Global,
     graph: &Graph,
@@ -121,6 +122,9 @@ pub fn refute(
     ensures nodes { nodes.new ≤ nodes.old }
 {
     for _node in 0..*nodes {
+        if queue.is_due() {
+            break;
+        }
         let Some(state) = waiting.pop() else {
             return Ok(Outcome::Refuted);
         };

@@ -3,7 +3,7 @@
 ghost use Rattle.std.specs.Prelude.{◌≡◌, ◌+◌, ◌≤◌, IfOk};
 ghost use Rattle.plan_prove.specs.Graphs.{NoneIsBelow};
 ghost use Rattle.plan_prove.specs.States.{AreRefuted};
-ghost use Rattle.plan_prove.specs.Progress.{HearsKnown, HearsTruth};
+ghost use Rattle.plan_prove.specs.Progress.{HearsKnown, HearsNothing, HearsTruth};
 ghost use Rattle.plan_prove.specs.Proofs as spec;
 ghost use Rattle.plan_prove.specs.declared.refutation.Outcome.TheVariants.{Refuted, Stopped};
 
@@ -22,7 +22,8 @@ use std::mem;
 /// The greatest number of short searches with the same number of nodes.
 const MOST_HALVINGS: u32 = 64;
 
-/// The number of nodes between two reports to a watcher, which can then end the search.
+/// The number of nodes between two reports to a watcher, which can then end the search. It can also
+/// end the search after each 200,000 units of work ([`crate::work::Work`]).
 const NODES_BETWEEN: u64 = 1_000;
 
 /// A search: the graph of a shop, its queue, the proof so far and its course. It counts the nodes
@@ -85,10 +86,21 @@ impl Search {
     {
         let makespan = self.proof.schedule.makespan;
         watcher.tell(makespan, self.proof.lower, self.most - self.left);
+        self.ask(watcher);
+    }
+
+    // Asks the watcher whether the search should end.
+    fn ask<W: Watcher>(&mut self, watcher: &mut W)
+        ensures taken { spec.HasTaken self.old self.new }
+        ensures left { self.new.left ≡ self.old.left }
+        ensures told { HearsNothing (W.was_told watcher.old) (W.was_told watcher.new) }
+    {
+        self.queue.restart_work();
         self.is_late = watcher.is_late();
     }
 
-    // Counts used nodes, and reports to the watcher if it is time to.
+    // Counts used nodes, and reports to the watcher if it is time to. If the clock is due, it asks
+    // the watcher.
     fn count<W: Watcher>(&mut self, used: u64, watcher: &mut W)
         requires used { used ≤ self.old.left }
         requires left { self.old.left ≤ self.old.most }
@@ -101,6 +113,8 @@ impl Search {
         if self.until_told == 0 {
             self.until_told = NODES_BETWEEN;
             self.report(watcher);
+        } else if self.queue.is_due() {
+            self.ask(watcher);
         }
     }
 

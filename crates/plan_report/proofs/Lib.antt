@@ -1,12 +1,13 @@
 pub mod MakespanLemmas
 pub mod MoveLemmas
-pub mod CandidateLemmas
 pub mod SlackLemmas
+pub mod FitLemmas
 pub mod DueLemmas
 pub mod LinkLemmas
 pub mod ReachLemmas
 pub mod ChainLemmas
 pub mod NumberLemmas
+pub mod JsonLemmas
 pub mod SheetLemmas
 pub mod TextLemmas
 pub mod EntryLemmas

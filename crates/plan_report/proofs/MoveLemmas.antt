@@ -1,5 +1,5 @@
 -- A list of starts in which one activity has moved to a later start.
-use Rattle.std.proofs.Common.{ℕ, ◌≡◌, ◌≢◌, ◌+◌, ◌-◌, ◌≤◌, ◌<◌, max, inl, inr, List, length, get_or, set, Some, sym, ◌∙◌, ap, arith}
+use Rattle.std.proofs.Common.{ℕ, suc, ◌≡◌, ◌≢◌, ◌+◌, ◌-◌, ◌≤◌, ◌<◌, inl, inr, List, length, get_or, set, Some, sym, ◌∙◌, ap, arith}
 use Rattle.std.proofs.lemmas.Bool.{cases_lt, cases_eq}
 use Rattle.std.proofs.lemmas.List.{length-set, get_or-set_same, get_or-set_other}
 use Rattle.plan_profile.specs.Usage.{Fits}
@@ -72,23 +72,25 @@ pub record IsAskedFor (p : Problem) (s : List ℕ) (j end : ℕ) (caps : List �
   pub lasts : d ≡ duration p j
   pub each : (k : ℕ) → need p j k ≡ get_or needs k 0
 
-pub after_from_fits : (p : Problem) (s : List ℕ) (j t from end : ℕ) (caps : List ℕ) (used : ℕ → ℕ → ℕ) (d : ℕ) (needs : List ℕ) → IsAskedFor p s j end caps used d needs
-    → from ≡ max t (get_or s j 0 + d) → t + d ≤ end → Fits caps used from (t + d - from) needs → HasRoomAfter p s j t
-after_from_fits p s j t from end caps used d needs asked is ends fits u k begun done lasts within =
-    let long = asked.lasts in
-    let since : from ≤ u = omega (arith, is, begun, done, long) in
-    let at : from + (u - from) ≡ u = omega (arith, since) in
-    let room : used (from + (u - from)) k + get_or needs k 0 ≤ get_or caps k 0 = fits (u - from) k (omega (arith, since, lasts, long)) (omega (arith, within, ap length asked.capacities)) in
-    let held : used u k ≡ usage p (all_placed s) u k = asked.held u k (omega (arith, lasts, ends, long)) within in
+-- needs that fit behind the end of the activity leave room at each delay
+pub after_from_fits : (p : Problem) (s : List ℕ) (j x end : ℕ) (caps : List ℕ) (used : ℕ → ℕ → ℕ) (d : ℕ) (needs : List ℕ) → IsAskedFor p s j end caps used d needs
+    → get_or s j 0 + duration p j + x ≤ end → Fits caps used (get_or s j 0 + duration p j) x needs → (z : ℕ) → z ≤ x → HasRoomAfter p s j (get_or s j 0 + z)
+after_from_fits p s j x end caps used d needs asked ends fits z most u k begun done lasts within =
+    let from = get_or s j 0 + duration p j in
+    let at : from + (u - from) ≡ u = omega (arith, done) in
+    let room : used (from + (u - from)) k + get_or needs k 0 ≤ get_or caps k 0 = fits (u - from) k (omega (arith, done, lasts, most)) (omega (arith, within, ap length asked.capacities)) in
+    let held : used u k ≡ usage p (all_placed s) u k = asked.held u k (omega (arith, lasts, most, ends)) within in
     omega (arith, room, ap (λ (x : ℕ). used x k) at, held, asked.each k, ap (λ (xs : List ℕ). get_or xs k 0) asked.capacities)
 
-pub fits_from_after : (p : Problem) (s : List ℕ) (j t from end : ℕ) (caps : List ℕ) (used : ℕ → ℕ → ℕ) (d : ℕ) (needs : List ℕ) → IsAskedFor p s j end caps used d needs
-    → from ≡ max t (get_or s j 0 + d) → t + d ≤ end → HasRoomAfter p s j t → Fits caps used from (t + d - from) needs
-fits_from_after p s j t from end caps used d needs asked is ends after x k below within =
-    let long = asked.lasts in
+-- and the reverse, if the activity takes time
+pub fits_from_after : (p : Problem) (s : List ℕ) (j x end : ℕ) (caps : List ℕ) (used : ℕ → ℕ → ℕ) (d : ℕ) (needs : List ℕ) → IsAskedFor p s j end caps used d needs
+    → 0 < duration p j → get_or s j 0 + duration p j + x ≤ end → ((z : ℕ) → z ≤ x → HasRoomAfter p s j (get_or s j 0 + z)) → Fits caps used (get_or s j 0 + duration p j) x needs
+fits_from_after p s j x end caps used d needs asked some ends after y k below within =
+    let from = get_or s j 0 + duration p j in
     let within' : k < length p.capacities = omega (arith, within, ap length asked.capacities) in
-    let room = after (from + x) k (omega (arith, is)) (omega (arith, is, long)) (omega (arith, below, long)) within' in
-    omega (arith, room, asked.held (from + x) k (omega (arith, below, ends)) within', asked.each k, ap (λ (xs : List ℕ). get_or xs k 0) asked.capacities)
+    let room = after (suc y) (omega (arith, below)) (from + y) k (omega (arith, some)) (omega arith) (omega arith) within' in
+    let held : used (from + y) k ≡ usage p (all_placed s) (from + y) k = asked.held (from + y) k (omega (arith, below, ends)) within' in
+    omega (arith, room, held, asked.each k, ap (λ (xs : List ℕ). get_or xs k 0) asked.capacities)
 
 -- the arcs are kept if the successors let the activity end that late
 link_moved : (p : Problem) (s : List ℕ) (j t : ℕ) (a : Link) → get_or (set s j t) j 0 ≡ t → get_or s j 0 ≤ t

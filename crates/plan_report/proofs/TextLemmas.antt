@@ -1,7 +1,8 @@
 -- Texts of starts: what they say, and the result of reading them.
-use Rattle.std.proofs.Common.{◌≡◌, ℕ, ◌≤◌, List, [], ◌∷◌, Result, Ok, Err, Vec, length, refl, sym, ◌∙◌, subst}
+use Rattle.std.proofs.Common.{◌≡◌, ℕ, ◌≤◌, List, [], ◌∷◌, Option, Some, None, Result, Ok, Err, Vec, length, refl, sym, ◌∙◌, ap, subst}
 use Rattle.std.specs.Prelude.{All, IfOk, IfErr, MatchResult}
 use Rattle.std.specs.Global.{Global}
+use Rattle.serde_json.specs.Data.{Data}
 use Rattle.plan_psplib.specs.declared.text.fault.Fault.{Fault}
 use Rattle.plan_psplib.specs.declared.text.fault.FileCode.TheVariants as code
 use Rattle.plan_psplib.specs.declared.text.fault.ReadError.{ReadError}
@@ -11,7 +12,8 @@ use Rattle.plan_psplib.specs.Tokens.{Fails, Gives, check}
 use Rattle.plan_psplib.proofs.GoesLemmas.{then_ok, same_ok, ok_bind, check_ok, ok_check}
 use Rattle.plan_gantt.specs.Limits.{latest_start}
 use Rattle.plan_report.specs.Sheet.{Row, Sheet, sheet_at}
-use Rattle.plan_report.specs.StartsText.{IsTableEnd, SaysTable, SaysBy, SaysStarts, begins_with_makespan, behind_result, form_of, rows_by, starts_by, starts_in, table_end, table_starts}
+use Rattle.plan_report.specs.JsonTable.{table_by, table_in, table_text, value_in}
+use Rattle.plan_report.specs.StartsText.{IsTableEnd, SaysTable, SaysJson, SaysBy, SaysStarts, begins_with_makespan, behind_result, form_of, json_starts, rows_by, starts_by, starts_in, table_end, table_starts, without_mark}
 use Rattle.plan_report.specs.declared.starts.Form.{Form}
 use Rattle.plan_report.specs.declared.starts.Form.TheVariants as forms
 use Rattle.plan_report.proofs.NumberLemmas.{numbers_said, numbers_read}
@@ -34,7 +36,7 @@ is_end (row ∷ []) is =
     ok_bind (check (begins_with_makespan row.cells) code.Count row.line) _ tt tt (ok_check (begins_with_makespan row.cells) code.Count row.line is) refl
 is_end (row ∷ next ∷ rows) is = absurd is
 
--- ---- the three forms
+-- ---- the four forms
 
 table_said : (form : Form) (sheet : Sheet) (text starts : List ℕ) → table_starts form sheet text ≡ Ok starts → SaysTable form sheet text starts
 unfolding table_starts
@@ -56,15 +58,40 @@ table_read form sheet text starts says =
     ok_bind (sheet_at sheet rows) _ (starts, says.rest) starts (shows_sheet sheet rows starts says.rest says.shown)
     (ok_bind (table_end says.rest) _ tt starts (is_end says.rest says.ended) refl)
 
+-- the value behind the table of a JSON document
+value_behind : (columns : List (List ℕ)) (o : Option Data) (table : List ℕ) → table_by columns o ≡ Ok table
+    → (value : Data) × (o ≡ Some value) × (table_text columns value ≡ table)
+value_behind columns None table e = absurd (cc)
+value_behind columns (Some value) table e = (value, refl, same_ok (table_text columns value) table e)
+
+json_said : (sheet : Sheet) (text starts : List ℕ) → json_starts sheet text ≡ Ok starts → SaysJson sheet text starts
+unfolding json_starts table_in
+json_said sheet text starts e =
+    then_ok (table_by sheet.columns (value_in (without_mark text))) _ starts e (λ table found e.
+    let behind = value_behind sheet.columns (value_in (without_mark text)) table found in
+    record {
+      value = behind.0;
+      json = behind.1;
+      said = subst (λ (t : List ℕ). SaysTable forms.Csv sheet t starts) (sym behind.2) (table_said forms.Csv sheet table starts e);
+    })
+
+json_read : (sheet : Sheet) (text starts : List ℕ) → SaysJson sheet text starts → json_starts sheet text ≡ Ok starts
+unfolding json_starts table_in
+json_read sheet text starts says =
+    ok_bind (table_by sheet.columns (value_in (without_mark text))) _ (table_text sheet.columns says.value) starts
+    (ap (table_by sheet.columns) says.json) (table_read forms.Csv sheet (table_text sheet.columns says.value) starts says.said)
+
 by_said : (f : Form) (sheet : Sheet) (text starts : List ℕ) → starts_by f sheet text ≡ Ok starts → SaysBy f sheet text starts
 by_said forms.Numbers sheet text starts e = numbers_said (length sheet.entries) text starts e
 by_said forms.Table sheet text starts e = table_said forms.Table sheet text starts e
 by_said forms.Csv sheet text starts e = table_said forms.Csv sheet text starts e
+by_said forms.Json sheet text starts e = json_said sheet text starts e
 
 by_read : (f : Form) (sheet : Sheet) (text starts : List ℕ) → SaysBy f sheet text starts → starts_by f sheet text ≡ Ok starts
 by_read forms.Numbers sheet text starts says = numbers_read (length sheet.entries) text starts says
 by_read forms.Table sheet text starts says = table_read forms.Table sheet text starts says
 by_read forms.Csv sheet text starts says = table_read forms.Csv sheet text starts says
+by_read forms.Json sheet text starts says = json_read sheet text starts says
 
 -- the starts that are read are those in the text
 pub starts_said : (sheet : Sheet) (text starts : List ℕ) → starts_in sheet text ≡ Ok starts → SaysStarts sheet text starts
@@ -100,11 +127,13 @@ by_whole : (f : Form) (sheet : Sheet) (text starts : List ℕ) → SaysBy f shee
 by_whole forms.Numbers sheet text starts says = says.whole
 by_whole forms.Table sheet text starts says = table_whole forms.Table sheet text starts says
 by_whole forms.Csv sheet text starts says = table_whole forms.Csv sheet text starts says
+by_whole forms.Json sheet text starts says = table_whole forms.Csv sheet (table_text sheet.columns says.value) starts says.said
 
 by_early : (f : Form) (sheet : Sheet) (text starts : List ℕ) → SaysBy f sheet text starts → All (λ t. t ≤ latest_start) starts
 by_early forms.Numbers sheet text starts says = says.in_time
 by_early forms.Table sheet text starts says = table_early forms.Table sheet text starts says
 by_early forms.Csv sheet text starts says = table_early forms.Csv sheet text starts says
+by_early forms.Json sheet text starts says = table_early forms.Csv sheet (table_text sheet.columns says.value) starts says.said
 
 -- one start for each entry
 pub says_whole : (sheet : Sheet) (text starts : List ℕ) → SaysStarts sheet text starts → length starts ≡ length sheet.entries

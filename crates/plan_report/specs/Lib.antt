@@ -3,6 +3,7 @@ pub mod Chain
 pub mod SlackText
 pub mod StartNumbers
 pub mod Sheet
+pub mod JsonTable
 pub mod StartsText
 pub mod VerdictText
 pub mod Comparison

@@ -1,6 +1,7 @@
 -- The slack of activities in a schedule (docs/definitions.md, "Reports").
 use Rattle.std.specs.Prelude.{◌≡◌, ◌≢◌, ℕ, ◌+◌, ◌≤◌, ◌<◌, List, length, get_or, set, All}
 use Rattle.plan_net.specs.Network.{IsGreatest}
+use Rattle.plan_profile.specs.Usage.{Fits}
 use Rattle.plan_sgs.specs.Problem.{Problem, count, duration, all_placed, makespan}
 use Rattle.plan_sgs.specs.Problem.{KeepsCapacities, IsFeasible}
 use Rattle.plan_sgs.specs.Verdicts.{IsFirstVerdict}
@@ -14,9 +15,13 @@ pub record CanStartAt (p : Problem) (s : List ℕ) (j t : ℕ) : Type 0 where
   pub feasible : IsFeasible p (set s j t)
   pub no_longer : makespan p (set s j t) ≤ makespan p s
 
--- x is the time by which activity j can start later at most
+-- activity j can wait y time units: each delay from 0 to y is possible
+abbrev pub CanWait : Problem → List ℕ → ℕ → ℕ → Type 0
+CanWait p s j y = (z : ℕ) → z ≤ y → CanStartAt p s j (get_or s j 0 + z)
+
+-- x is the longest time that activity j can wait
 abbrev pub IsSlack : Problem → List ℕ → ℕ → ℕ → Type 0
-IsSlack p s j x = IsGreatest (CanStartAt p s j) (get_or s j 0 + x)
+IsSlack p s j x = IsGreatest (CanWait p s j) x
 
 -- the slack of each activity
 pub record AreSlacks (p : Problem) (s slacks : List ℕ) : Type 0 where
@@ -46,9 +51,6 @@ pub record IsDue (p : Problem) (s : List ℕ) (j due : ℕ) : Type 0 where
 abbrev pub HasRoomAt : Problem → List ℕ → ℕ → ℕ → Type 0
 HasRoomAt p s j t = KeepsCapacities p (all_placed (set s j t))
 
--- t is the latest start from which activity j ends by `due` within the capacities
-pub record IsLatestStart (p : Problem) (s : List ℕ) (j due t : ℕ) : Type 0 where
-  pub since : get_or s j 0 ≤ t
-  pub ends : t + duration p j ≤ due
-  pub room : HasRoomAt p s j t
-  pub latest : (u : ℕ) → get_or s j 0 ≤ u → u + duration p j ≤ due → HasRoomAt p s j u → u ≤ t
+-- needs fit at each of the x instants from `from` on, and x is at most `limit`
+abbrev pub FitsFor : List ℕ → (ℕ → ℕ → ℕ) → ℕ → ℕ → List ℕ → ℕ → Type 0
+FitsFor caps used from limit needs x = (x ≤ limit) × Fits caps used from x needs

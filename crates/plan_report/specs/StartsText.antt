@@ -1,9 +1,10 @@
--- Texts of starts in three forms: bare numbers, a printed table or its CSV (docs/definitions.md,
--- "Reports").
-use Rattle.std.specs.Prelude.{◌≡◌, ℕ, ◌==◌, ◌||◌, Bool, true, false, if◌then◌else◌, List, []}
+-- Texts of starts in four forms: bare numbers, a printed table, its CSV or its JSON
+-- (docs/definitions.md, "Reports").
+use Rattle.std.specs.Prelude.{◌≡◌, ℕ, Some, ◌==◌, ◌||◌, Bool, true, false, if◌then◌else◌, List, []}
 use Rattle.std.specs.Prelude.{◌∷◌, Result, Ok, map, drop, filter, length, codes}
 use Rattle.std.specs.Prelude.{bytes_eq, nat_eq}
 use Rattle.std.specs.List.{range_with_len, slice_split, starts_with}
+use Rattle.serde_json.specs.Data.{Data}
 use Rattle.plan_net.specs.Network.{Net, count_of, duration_of}
 use Rattle.plan_psplib.specs.declared.text.fault.Fault.{Fault}
 use Rattle.plan_psplib.specs.declared.text.fault.FileCode.TheVariants as code
@@ -13,6 +14,7 @@ use Rattle.plan_psplib.specs.Streams.{LineWord, words_of}
 use Rattle.plan_psplib.specs.Tokens.{◌>>=◌, check}
 use Rattle.plan_shop.specs.Shop.{JobShop, count_steps, machine_of, time_of}
 use Rattle.plan_gantt.specs.ShopTable.{job_number, step_number}
+use Rattle.plan_report.specs.JsonTable.{value_in, table_text, table_in}
 use Rattle.plan_report.specs.StartNumbers.{SaysNumbers, numbers_in}
 use Rattle.plan_report.specs.Sheet.{Entry, Row, Sheet, ShowsSheet, sheet_at, nothing_left}
 use Rattle.plan_report.specs.declared.starts.Form.{Form}
@@ -79,10 +81,16 @@ abbrev pub without_mark : List ℕ → List ℕ
 without_mark text =
     if starts_with nat_eq text (0xEF ∷ 0xBB ∷ 0xBF ∷ []) then drop 3 text else text
 
+-- the beginning of a JSON document: a brace
+abbrev pub begins_json : List ℕ → Bool
+begins_json word = starts_with nat_eq word (codes "{")
+
 -- the form of a text with this first word
 abbrev pub form_by : List ℕ → Form
 form_by word =
-    if is_table_word word then forms.Table else if begins_csv word then forms.Csv else forms.Numbers
+    if is_table_word word then forms.Table
+    else (if begins_csv word then forms.Csv
+    else (if begins_json word then forms.Json else forms.Numbers))
 
 -- the form of a text, which may begin with a byte-order mark
 abbrev pub form_of : List ℕ → Form
@@ -97,6 +105,7 @@ abbrev pub cells_by : Form → List ℕ → List (List ℕ)
 cells_by forms.Numbers line = words line
 cells_by forms.Table line = words line
 cells_by forms.Csv line = slice_split is_separator line
+cells_by forms.Json line = words line
 
 -- the rows of a text: the cells of each line that isn't blank
 abbrev pub row_by : Form → NumberedLine → Row
@@ -132,11 +141,18 @@ pub record SaysTable (form : Form) (sheet : Sheet) (text starts : List ℕ) : Ty
   pub shown : ShowsSheet sheet (behind_result (rows_by form text)) starts rest
   pub ended : IsTableEnd rest
 
+-- a text is a JSON document whose table gives starts
+pub record SaysJson (sheet : Sheet) (text starts : List ℕ) : Type 0 where
+  pub value : Data
+  pub json : value_in (without_mark text) ≡ Some value
+  pub said : SaysTable forms.Csv sheet (table_text sheet.columns value) starts
+
 -- a text of a form gives starts
 abbrev pub SaysBy : Form → Sheet → List ℕ → List ℕ → Type 0
 SaysBy forms.Numbers sheet text starts = SaysNumbers (length sheet.entries) text starts
 SaysBy forms.Table sheet text starts = SaysTable forms.Table sheet text starts
 SaysBy forms.Csv sheet text starts = SaysTable forms.Csv sheet text starts
+SaysBy forms.Json sheet text starts = SaysJson sheet text starts
 
 -- a text gives the starts of a sheet, in the form that its first word shows
 pub record SaysStarts (sheet : Sheet) (text starts : List ℕ) : Type 0 where
@@ -157,10 +173,17 @@ table_starts form sheet text = do
   ended ← table_end read.1
   Ok read.0
 
+-- the starts in a JSON document, or the first check that it fails
+unfoldable pub json_starts : Sheet → List ℕ → Result (List ℕ) Fault
+json_starts sheet text = do
+  table ← table_in sheet.columns (without_mark text)
+  table_starts forms.Csv sheet table
+
 abbrev pub starts_by : Form → Sheet → List ℕ → Result (List ℕ) Fault
 starts_by forms.Numbers sheet text = numbers_in (length sheet.entries) text
 starts_by forms.Table sheet text = table_starts forms.Table sheet text
 starts_by forms.Csv sheet text = table_starts forms.Csv sheet text
+starts_by forms.Json sheet text = json_starts sheet text
 
 -- the starts in a text, or the first check that it fails
 unfoldable pub starts_in : Sheet → List ℕ → Result (List ℕ) Fault

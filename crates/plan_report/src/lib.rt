@@ -5,6 +5,7 @@
 mod chain;
 mod columns;
 mod comparison;
+mod json_table;
 mod makespans;
 mod sheet;
 mod shop_comparison;

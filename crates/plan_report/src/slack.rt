@@ -1,15 +1,14 @@
 //! The slack of activities in a schedule.
 
-ghost use Rattle.std.specs.Prelude.{◌≡◌, ◌+◌, ◌-◌, ◌≤◌, ◌↔◌, length, get_or, All, IfOk, IfErr};
-ghost use Rattle.std.specs.Prelude.{IsTrue};
-ghost use Rattle.plan_net.specs.Network.{IsActivity, count_of};
+ghost use Rattle.std.specs.Prelude.{◌≡◌, ◌-◌, ◌≤◌, length, All, IfOk, IfErr};
+ghost use Rattle.plan_net.specs.Network.{IsActivity, IsGreatest, count_of};
+ghost use Rattle.plan_profile.specs.InUse.{capacities, in_use};
 ghost use Rattle.plan_profile.specs.Usage.{IsInTime};
 ghost use Rattle.plan_sgs.specs.Checks.{HoldsBefore};
 ghost use Rattle.plan_sgs.specs.Instances.{problem_of};
 ghost use Rattle.plan_sgs.specs.Problem as problem;
-ghost use Rattle.plan_sgs.specs.Problem.{IsFeasible, KeepsCapacities, all_placed, duration};
-ghost use Rattle.plan_report.specs.Slack.{AreSlacks, HasRoomAt, IsDue, IsLatestStart, IsSlack};
-ghost use Rattle.plan_report.specs.Slack.{RefusesSlack};
+ghost use Rattle.plan_sgs.specs.Problem.{IsFeasible, KeepsCapacities, all_placed};
+ghost use Rattle.plan_report.specs.Slack.{AreSlacks, FitsFor, IsDue, IsSlack, RefusesSlack};
 
 use crate::makespans::makespan_of;
 use plan_profile::{END, Profile};
@@ -105,51 +104,26 @@ fn due_of(instance: &Instance, starts: &[u64], makespan: u64, j: u32) -> u64
     due
 }
 
-// Tests whether activity `j` can start at `t` within the capacities. Until its end in the schedule
-// its needs are part of the usage already.
-fn has_room(instance: &Instance, profile: &Profile, starts: &[u64], j: u32, t: u64) -> bool
-    requires whole { length starts.now ≡ count_of instance.now.project.network }
-    requires activity { IsActivity instance.now.project.network j }
-    requires feasible { IsFeasible (problem_of instance.now) starts.now }
-    requires holds { HoldsBefore END (problem_of instance.now) starts.now profile.now }
-    requires since { get_or starts.now (j - 1) 0 ≤ t }
-    requires ends { t + duration (problem_of instance.now) (j - 1) ≤ END }
-    ensures { IsTrue result ↔ HasRoomAt (problem_of instance.now) starts.now (j - 1) t }
+// Returns the number of instants from `from` on at which needs fit before the first one at which
+// they don't, at most `limit`. The usage is constant between two changes.
+fn longest_fit(profile: &Profile, from: u64, limit: u64, needs: &[u64]) -> u64
+    requires { length needs.now ≡ length (capacities profile.now) }
+    ensures { IsGreatest
+        (FitsFor (capacities profile.now) (in_use profile.now) from limit needs.now) result }
 {
-    let network = instance.network();
-    let needs = instance.needs(j);
-    let start = starts[j as usize - 1];
-    let d = network.duration(j);
-    let from = t.max(start + d);
-    profile.fits(from, t + d - from, needs)
-}
-
-// Returns the latest start from which activity `j` ends by `due` within the capacities. It ends at
-// `due` or at the start of another activity, which has no room beside it.
-fn latest_start(instance: &Instance, profile: &Profile, starts: &[u64], j: u32, due: u64) -> u64
-    requires whole { length starts.now ≡ count_of instance.now.project.network }
-    requires activity { IsActivity instance.now.project.network j }
-    requires feasible { IsFeasible (problem_of instance.now) starts.now }
-    requires holds { HoldsBefore END (problem_of instance.now) starts.now profile.now }
-    requires due { IsDue (problem_of instance.now) starts.now (j - 1) due }
-    requires ends { due ≤ END }
-    ensures { IsLatestStart (problem_of instance.now) starts.now (j - 1) due result }
-{
-    let network = instance.network();
-    let d = network.duration(j);
-    if has_room(instance, profile, starts, j, due - d) {
-        return due - d;
+    if !profile.fits(from, 1, needs) {
+        return 0;
     }
-    let mut latest = starts[j as usize - 1];
-    for &end in starts {
-        if latest + d < end && end <= due && has_room(instance, profile, starts, j, end - d) {
-            latest = end - d;
+    for &change in profile.changes() {
+        if from < change && !profile.fits(change, 1, needs) {
+            return limit.min(change - from);
         }
     }
-    latest
+    limit
 }
 
-// Returns the slack of activity `j`.
+// Returns the slack of activity `j`: the room behind its end, up to the latest end. An activity that
+// takes no time needs no room.
 fn slack_of(instance: &Instance, profile: &Profile, starts: &[u64], makespan: u64, j: u32) -> u64
     requires whole { length starts.now ≡ count_of instance.now.project.network }
     requires activity { IsActivity instance.now.project.network j }
@@ -159,12 +133,18 @@ fn slack_of(instance: &Instance, profile: &Profile, starts: &[u64], makespan: u6
     requires ends { makespan ≤ END }
     ensures { IsSlack (problem_of instance.now) starts.now (j - 1) result }
 {
+    let network = instance.network();
     let due = due_of(instance, starts, makespan, j);
-    latest_start(instance, profile, starts, j, due) - starts[j as usize - 1]
+    let d = network.duration(j);
+    let end = starts[j as usize - 1] + d;
+    if d == 0 {
+        return due - end;
+    }
+    longest_fit(profile, end, due - end, instance.needs(j))
 }
 
-/// Returns the slack of each activity of a schedule: the time by which it can start later while all
-/// others keep their starts and the schedule stays feasible and gets no longer. Index `k` is
+/// Returns the slack of each activity of a schedule: the greatest delay such that each delay up to
+/// it leaves the schedule feasible and no longer, while all others keep their starts. Index `k` is
 /// activity `k + 1`; times are whole time units.
 ///
 /// Fails with [`SlackFault::NotFeasible`] and the verdict if the starts break an arc or overload a

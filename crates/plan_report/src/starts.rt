@@ -1,4 +1,4 @@
-//! Texts of starts in three forms: bare numbers, a printed table or its CSV.
+//! Texts of starts in four forms: bare numbers, a printed table, its CSV or its JSON.
 
 ghost use Rattle.std.specs.Prelude.{◌≡◌, ◌≤◌, ℕ, List, All, IfOk, IfErr, MatchResult};
 ghost use Rattle.std.specs.Prelude.{map, length};
@@ -12,6 +12,7 @@ ghost use Rattle.plan_shop.specs.Shop.{count_steps};
 ghost use Rattle.plan_report.specs.Sheet as sheets;
 ghost use Rattle.plan_report.specs.StartsText as spec;
 
+use crate::json_table::table_of_json;
 use crate::sheet::{Entry, Row, Sheet, check_end, read_sheet};
 use crate::start_numbers::{all_tokens, read_numbers};
 use plan_net::Network;
@@ -28,6 +29,8 @@ pub enum Form {
     Table,
     /// The table as CSV.
     Csv,
+    /// The table as JSON.
+    Json,
 }
 
 /// The names of the columns of a project's starts.
@@ -81,6 +84,13 @@ fn begins_csv(word: &[u8]) -> bool
         || word.starts_with(b"job;")
 }
 
+// Tests whether a word begins a JSON document.
+fn begins_json(word: &[u8]) -> bool
+    ensures { result ≡ spec.begins_json word.now }
+{
+    word.starts_with(b"{")
+}
+
 // Returns the form of a text with this first word.
 fn form_by(word: &[u8]) -> Form
     ensures { result ≡ spec.form_by word.now }
@@ -89,6 +99,8 @@ fn form_by(word: &[u8]) -> Form
         Form::Table
     } else if begins_csv(word) {
         Form::Csv
+    } else if begins_json(word) {
+        Form::Json
     } else {
         Form::Numbers
     }
@@ -130,6 +142,7 @@ fn cells_by(alloc: Global, form: Form, line: &[u8]) -> Result<Vec<&[u8]>, AllocE
         Form::Numbers => words_of(alloc, line),
         Form::Table => words_of(alloc, line),
         Form::Csv => fields_of(alloc, line),
+        Form::Json => words_of(alloc, line),
     }
 }
 
@@ -222,6 +235,16 @@ fn table_starts(
     Ok(starts)
 }
 
+// Returns the starts in a JSON document, or the first check that fails.
+#[tactic(auto, unfolding(crate::specs::StartsText::json_starts))]
+fn json_starts(alloc: Global, sheet: &Sheet<'_>, text: &[u8]) -> Result<Vec<u64>, ReadError>
+    requires { All (λ entry. entry.duration ≤ 10000) sheet.now.entries.items }
+    ensures { Gives (λ v. v.items) result (spec.json_starts (sheets.sheet_of sheet.now) text.now) }
+{
+    let table = table_of_json(alloc, sheet.columns, without_mark(text))?;
+    table_starts(alloc, Form::Csv, sheet, table.as_bytes())
+}
+
 // Returns the starts in a text, or the first check that fails.
 #[tactic(auto, unfolding(crate::specs::StartsText::starts_in))]
 fn read_starts(alloc: Global, sheet: &Sheet<'_>, text: &[u8]) -> Result<Vec<u64>, ReadError>
@@ -233,6 +256,7 @@ fn read_starts(alloc: Global, sheet: &Sheet<'_>, text: &[u8]) -> Result<Vec<u64>
         Form::Numbers => read_numbers(alloc, sheet.entries.len(), text),
         Form::Table => table_starts(alloc, Form::Table, sheet, text),
         Form::Csv => table_starts(alloc, Form::Csv, sheet, text),
+        Form::Json => json_starts(alloc, sheet, text),
     }
 }
 
@@ -299,20 +323,22 @@ fn step_sheet(alloc: Global, shop: &Shop) -> Result<Sheet<'static>, AllocError>
 
 /// Reads the starts of a project's activities, in whole time units: index `k` is activity `k + 1`.
 ///
-/// A text has one of three forms, and its first word shows which:
+/// A text has one of four forms, and its first word shows which:
 /// - numbers: one for each activity, in order;
 /// - a table as `schedule`, `best-project` or `solve` prints it: perhaps a line with the result of
 ///   a search, a line with the names of the columns, a row for each activity, and perhaps the line
 ///   with the makespan. A name may follow on each row. Blank lines don't count;
 /// - the same rows as CSV, with commas or semicolons. Cells of numbers have no quotes. With tabs,
-///   the rows are a table.
+///   the rows are a table;
+/// - a JSON object: its array `rows` has an object for each row, with the names of the columns.
 ///
-/// A byte-order mark before a table is skipped.
+/// A byte-order mark before a table, CSV or JSON is skipped.
 ///
 /// The error is the first check that fails, with its line: `Count` (F9) if a number or a row is
 /// missing or left over, `BadNumber` (F6) for a cell that is no number, `Limit` (F10) for a start
 /// above 10,000,000, `MissingHead` (F3) if the columns aren't those of a project, and `JobOrder`
-/// (F7) if a number isn't that of the row: the activity's number, its duration or its end.
+/// (F7) if a number isn't that of the row: the activity's number, its duration or its end. Row `k`
+/// of a JSON object counts as line `k + 1`; `MissingHead` at line 1 if the text isn't JSON.
 pub fn read_starts_text(
     alloc: Global,
     network: &Network,

@@ -108,6 +108,7 @@ abbrev retitled : Table → List Name → List Name → List Name → Table
 retitled table rows names machines =
     record {
       chart = renamed table.chart rows names;
+      dated = table.dated;
       shop = table.shop;
       machines = machines;
       floats = table.floats;
@@ -182,24 +183,24 @@ same_page a b makespan table rows names machines first count section other same 
     (same_figures table.chart rows names first count)) same) (same_back table rows names machines)
 
 -- the report of a project has the same markup whatever its title and its names are
-pub same_project : (title : List ℕ) (names resources : List Name) (i : Planned) (starts : List ℕ) (days : List Date) (floats slacks : List ℕ) →
-    markup_of (project_page title names resources i starts days floats slacks)
-    ≡ markup_of (project_page [] [] [] i starts days floats slacks)
+pub same_project : (title : List ℕ) (names resources : List Name) (i : Planned) (starts : List ℕ) (dated : Bool) (days : List Date) (floats slacks : List ℕ) →
+    markup_of (project_page title names resources i starts dated days floats slacks)
+    ≡ markup_of (project_page [] [] [] i starts dated days floats slacks)
 unfolding project_page
-same_project title names resources i starts days floats slacks =
+same_project title names resources i starts dated days floats slacks =
     let makespan = greatest_end (activity_bars i.project.network starts) in
     let chart = project_chart names i starts days in
-    same_page title [] makespan (project_table names i starts days floats slacks) [] [] [] 1 (count_of i.project.network)
+    same_page title [] makespan (project_table names i starts dated days floats slacks) [] [] [] 1 (count_of i.project.network)
     (use_section chart resources i starts makespan) (use_section (renamed chart [] []) [] i starts makespan)
     (same_use_section chart [] [] resources [] i starts makespan)
 
 -- the report of a job shop has the same markup whatever its title and its names are
-pub same_shop : (title : List ℕ) (machines orders : List Name) (s : JobShop) (starts : List ℕ) (by_job : Bool) (days : List Date) →
-    markup_of (shop_page title machines orders s starts by_job days) ≡ markup_of (shop_page [] [] [] s starts by_job days)
+pub same_shop : (title : List ℕ) (machines orders : List Name) (s : JobShop) (starts : List ℕ) (by_job dated : Bool) (days : List Date) →
+    markup_of (shop_page title machines orders s starts by_job dated days) ≡ markup_of (shop_page [] [] [] s starts by_job dated days)
 unfolding shop_page
-same_shop title machines orders s starts true days =
-    same_page title [] (greatest_end (step_bars s starts true)) (shop_table machines orders s starts true days) [] [] []
+same_shop title machines orders s starts true dated days =
+    same_page title [] (greatest_end (step_bars s starts true)) (shop_table machines orders s starts true dated days) [] [] []
     (shop_lines s true).0 (shop_lines s true).1 [] [] refl
-same_shop title machines orders s starts false days =
-    same_page title [] (greatest_end (step_bars s starts false)) (shop_table machines orders s starts false days) [] [] []
+same_shop title machines orders s starts false dated days =
+    same_page title [] (greatest_end (step_bars s starts false)) (shop_table machines orders s starts false dated days) [] [] []
     (shop_lines s false).0 (shop_lines s false).1 [] [] refl

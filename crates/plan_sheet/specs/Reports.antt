@@ -27,15 +27,24 @@ project_chart names i starts days =
       bars = activity_bars i.project.network starts;
     }
 
--- the table of a project
-abbrev pub project_table : List Name → Planned → List ℕ → List Date → List ℕ → List ℕ → Table
-project_table names i starts days floats slacks =
-    record { chart = project_chart names i starts days; shop = false; machines = []; floats = floats; slacks = slacks }
+-- the table of a project, perhaps with columns for days
+abbrev pub project_table : List Name → Planned → List ℕ → Bool → List Date → List ℕ → List ℕ → Table
+project_table names i starts dated days floats slacks =
+    record {
+      chart = project_chart names i starts days;
+      dated = dated;
+      shop = false;
+      machines = [];
+      floats = floats;
+      slacks = slacks;
+    }
 
 -- the report of a project with these days, floats and slacks
-unfoldable pub project_page : List ℕ → List Name → List Name → Planned → List ℕ → List Date → List ℕ → List ℕ → List ℕ
-project_page title names resources i starts days floats slacks =
-    page title (greatest_end (activity_bars i.project.network starts)) (project_table names i starts days floats slacks) 1
+unfoldable pub project_page : List ℕ → List Name → List Name → Planned → List ℕ → Bool → List Date
+    → List ℕ → List ℕ → List ℕ
+project_page title names resources i starts dated days floats slacks =
+    page title (greatest_end (activity_bars i.project.network starts))
+    (project_table names i starts dated days floats slacks) 1
     (count_of i.project.network)
     (use_section (project_chart names i starts days) resources i starts (greatest_end (activity_bars i.project.network starts)))
 
@@ -50,15 +59,24 @@ shop_chart machines orders s starts by_job days =
       bars = step_bars s starts by_job;
     }
 
--- the table of a job shop
-abbrev pub shop_table : List Name → List Name → JobShop → List ℕ → Bool → List Date → Table
-shop_table machines orders s starts by_job days =
-    record { chart = shop_chart machines orders s starts by_job days; shop = true; machines = machines; floats = []; slacks = [] }
+-- the table of a job shop, perhaps with columns for days
+abbrev pub shop_table : List Name → List Name → JobShop → List ℕ → Bool → Bool → List Date → Table
+shop_table machines orders s starts by_job dated days =
+    record {
+      chart = shop_chart machines orders s starts by_job days;
+      dated = dated;
+      shop = true;
+      machines = machines;
+      floats = [];
+      slacks = [];
+    }
 
 -- the report of a job shop with these days
-unfoldable pub shop_page : List ℕ → List Name → List Name → JobShop → List ℕ → Bool → List Date → List ℕ
-shop_page title machines orders s starts by_job days =
-    page title (greatest_end (step_bars s starts by_job)) (shop_table machines orders s starts by_job days)
+unfoldable pub shop_page : List ℕ → List Name → List Name → JobShop → List ℕ → Bool → Bool
+    → List Date → List ℕ
+shop_page title machines orders s starts by_job dated days =
+    page title (greatest_end (step_bars s starts by_job))
+    (shop_table machines orders s starts by_job dated days)
     (shop_lines s by_job).0 (shop_lines s by_job).1 []
 
 -- a text has the tags and quotes of one with this property
@@ -74,7 +92,7 @@ pub record IsDatedReport (title : List ℕ) (names resources : List Name) (i : P
     (text : List ℕ) : Type 0 where
   pub days : List Date
   pub are : AreReportDays i starts calendar days
-  pub shown : text ≡ project_page title names resources i starts days floats slacks
+  pub shown : text ≡ project_page title names resources i starts true days floats slacks
 
 -- a day that it shows would be after the last date
 abbrev pub IsReportBeyond : Planned → List ℕ → Workdays → Type 0
@@ -89,7 +107,7 @@ pub record IsDatedShopReport (title : List ℕ) (machines orders : List Name) (s
     (text : List ℕ) : Type 0 where
   pub days : List Date
   pub are : AreShopDays s starts by_job calendar days
-  pub shown : text ≡ shop_page title machines orders s starts by_job days
+  pub shown : text ≡ shop_page title machines orders s starts by_job true days
 
 -- a day that it shows would be after the last date
 abbrev pub IsShopReportBeyond : JobShop → List ℕ → Bool → Workdays → Type 0

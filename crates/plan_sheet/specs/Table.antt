@@ -12,10 +12,11 @@ use Rattle.plan_sheet.specs.declared.bars.Bar.{Bar}
 use Rattle.plan_sheet.specs.declared.table.Table as declared
 use Rattle.plan_sheet.specs.declared.styles.TheConstants.{DAY_HEADS, FIRST_HEADS, FLOAT_HEAD, HEADS_TO, MACHINE_HEAD, NAME_CELL, ROW_NAME, ROW_NUMBER, SLACK_HEAD, TABLE_FROM, TABLE_TO, TIME_HEADS}
 
--- what a table shows: the bars of a chart, their machines with names if it has a column for them,
--- and the floats and slacks of activities, if there are any
+-- what a table shows: the bars of a chart, their days if it has columns for them, their machines
+-- with names if it has a column for them, and the floats and slacks of activities, if there are any
 pub record Table : Type 0 where
   pub chart : Chart
+  pub dated : Bool
   pub shop : Bool
   pub machines : List Name
   pub floats : List ℕ
@@ -26,6 +27,7 @@ abbrev pub table_of : declared.Table → Table
 table_of t =
     record {
       chart = chart_of t.chart.now;
+      dated = t.dated;
       shop = t.shop;
       machines = map name_of t.machines.now;
       floats = t.floats.now;
@@ -43,7 +45,7 @@ text_for wanted text = if wanted then text else []
 -- the heads of the columns behind the times
 unfoldable pub last_heads : Table → List ℕ
 last_heads table =
-    text_if (length table.chart.days) DAY_HEADS.now ++ text_if (length table.floats) FLOAT_HEAD.now
+    text_for table.dated DAY_HEADS.now ++ text_if (length table.floats) FLOAT_HEAD.now
     ++ text_if (length table.slacks) SLACK_HEAD.now
 
 -- the first row, which a printed page repeats
@@ -89,9 +91,9 @@ both_days days bar =
     if nat_lt bar.from bar.to then two_days (day_text days bar.from) (day_text days (bar.to - 1))
     else codes "<td>-</td><td>-</td>"
 
--- the same, if there are days
-abbrev pub day_cells : List Date → Bar → List ℕ
-day_cells days bar = if nat_lt (length days) 1 then [] else both_days days bar
+-- the same, if the table has columns for days
+abbrev pub day_cells : Table → Bar → List ℕ
+day_cells table bar = if table.dated then both_days table.chart.days bar else []
 
 -- a cell with the number of an activity in a list, if the list has one
 abbrev pub cell_of : Option ℕ → List ℕ
@@ -103,7 +105,7 @@ cell_at ns number = cell_of (slice_get ns (number - 1))
 
 -- the cells behind the times
 unfoldable pub last_cells : Table → Bar → List ℕ
-last_cells table bar = day_cells table.chart.days bar ++ cell_at table.floats bar.number ++ cell_at table.slacks bar.number
+last_cells table bar = day_cells table bar ++ cell_at table.floats bar.number ++ cell_at table.slacks bar.number
 
 -- the front of a row: number, name and machine
 unfoldable pub row_front : Table → Bar → List ℕ

@@ -1,6 +1,6 @@
 //! The reports of projects and job shops.
 
-ghost use Rattle.std.specs.Prelude.{◌≡◌, ◌≤◌, [], length, map, slice_index, EachIndex};
+ghost use Rattle.std.specs.Prelude.{◌≡◌, ◌≤◌, [], false, length, map, slice_index, EachIndex};
 ghost use Rattle.std.specs.Prelude.{IfOk, IsErrOf, string_bytes};
 ghost use Rattle.plan_net.specs.Network.{count_of};
 ghost use Rattle.plan_shop.specs.Shop.{count_steps};
@@ -40,7 +40,7 @@ pub struct Margins<'a> {
     pub slacks: &'a [u64],
 }
 
-// Returns the report of a project with these days.
+// Returns the report of a project with these days, and with columns for them if it is dated.
 #[tactic(auto, unfolding(crate::specs::Reports::project_page))]
 fn project_page(
     alloc: Global,
@@ -49,13 +49,15 @@ fn project_page(
     instance: &Instance<'_>,
     starts: &[u64],
     margins: &Margins<'_>,
+    dated: bool,
     days: &[Date],
 ) -> Result<String, AllocError>
     requires starts { length starts.now ≡ count_of instance.now.project.network }
     requires limit { EachIndex starts.now (λ k. slice_index starts.now k ≤ latest_start) }
     ensures text { IfOk result (λ text. string_bytes text ≡ spec.project_page title.now
         (map name_of names.now.activities.now) (map name_of names.now.resources.now)
-        instance.now starts.now days.now margins.now.floats.now margins.now.slacks.now) }
+        instance.now starts.now dated days.now margins.now.floats.now
+        margins.now.slacks.now) }
 {
     let bars = activity_bars(alloc, instance.network(), starts)?;
     let makespan = last_end(&bars);
@@ -69,6 +71,7 @@ fn project_page(
     let section = use_section(alloc, &chart, names.resources, instance, starts, makespan)?;
     let table = Table {
         chart: &chart,
+        dated,
         shop: false,
         machines: &[],
         floats: margins.floats,
@@ -93,13 +96,14 @@ pub fn project_report(
     requires limit { EachIndex starts.now (λ k. slice_index starts.now k ≤ latest_start) }
     ensures text { IfOk result (λ text. string_bytes text ≡ spec.project_page title.now
         (map name_of names.now.activities.now) (map name_of names.now.resources.now)
-        instance.now starts.now [] margins.now.floats.now margins.now.slacks.now) }
+        instance.now starts.now false [] margins.now.floats.now
+        margins.now.slacks.now) }
     // Its markup is the same whatever the title and the names are.
     ensures safe { IfOk result (λ text. markup_of (string_bytes text)
-        ≡ markup_of (spec.project_page [] [] [] instance.now starts.now []
+        ≡ markup_of (spec.project_page [] [] [] instance.now starts.now false []
         margins.now.floats.now margins.now.slacks.now)) }
 {
-    let text = project_page(alloc, title, names, instance, starts, margins, &[])?;
+    let text = project_page(alloc, title, names, instance, starts, margins, false, &[])?;
     Ok(text)
 }
 
@@ -150,11 +154,11 @@ pub fn dated_project_report(
         spec.IsReportBeyond instance.now starts.now calendar.now }
 {
     let days = project_days(alloc, instance, starts, calendar)?;
-    let text = project_page(alloc, title, names, instance, starts, margins, &days)?;
+    let text = project_page(alloc, title, names, instance, starts, margins, true, &days)?;
     Ok(text)
 }
 
-// Returns the report of a job shop with these days.
+// Returns the report of a job shop with these days, and with columns for them if it is dated.
 #[tactic(auto, unfolding(crate::specs::Reports::shop_page))]
 fn shop_page<'a>(
     alloc: Global,
@@ -164,12 +168,14 @@ fn shop_page<'a>(
     shop: &Shop,
     starts: &[u64],
     by_job: bool,
+    dated: bool,
     days: &[Date],
 ) -> Result<String, AllocError>
     requires starts { length starts.now ≡ count_steps shop.now }
     requires limit { EachIndex starts.now (λ k. slice_index starts.now k ≤ latest_start) }
     ensures text { IfOk result (λ text. string_bytes text ≡ spec.shop_page title.now
-        (map name_of machines.now) (map name_of orders.now) shop.now starts.now by_job days.now) }
+        (map name_of machines.now) (map name_of orders.now) shop.now starts.now by_job dated
+        days.now) }
 {
     let bars = step_bars(alloc, shop, starts, by_job)?;
     let makespan = last_end(&bars);
@@ -182,6 +188,7 @@ fn shop_page<'a>(
     };
     let table = Table {
         chart: &chart,
+        dated,
         shop: true,
         machines,
         floats: &[],
@@ -207,12 +214,22 @@ pub fn shop_report<'a>(
     requires starts { length starts.now ≡ count_steps shop.now }
     requires limit { EachIndex starts.now (λ k. slice_index starts.now k ≤ latest_start) }
     ensures text { IfOk result (λ text. string_bytes text ≡ spec.shop_page title.now
-        (map name_of machines.now) (map name_of orders.now) shop.now starts.now by_job []) }
+        (map name_of machines.now) (map name_of orders.now) shop.now starts.now by_job false []) }
     // Its markup is the same whatever the title and the names are.
     ensures safe { IfOk result (λ text. markup_of (string_bytes text)
-        ≡ markup_of (spec.shop_page [] [] [] shop.now starts.now by_job [])) }
+        ≡ markup_of (spec.shop_page [] [] [] shop.now starts.now by_job false [])) }
 {
-    let text = shop_page(alloc, title, machines, orders, shop, starts, by_job, &[])?;
+    let text = shop_page(
+        alloc,
+        title,
+        machines,
+        orders,
+        shop,
+        starts,
+        by_job,
+        false,
+        &[],
+    )?;
     Ok(text)
 }
 
@@ -263,6 +280,8 @@ pub fn dated_shop_report<'a>(
         spec.IsShopReportBeyond shop.now starts.now by_job calendar.now }
 {
     let days = shop_days(alloc, shop, starts, by_job, calendar)?;
-    let text = shop_page(alloc, title, machines, orders, shop, starts, by_job, &days)?;
+    let text = shop_page(
+        alloc, title, machines, orders, shop, starts, by_job, true, &days,
+    )?;
     Ok(text)
 }

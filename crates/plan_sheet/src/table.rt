@@ -24,6 +24,8 @@ use std::fmt::Write;
 #[derive(Drop)]
 pub struct Table<'a> {
     pub chart: &'a Chart<'a>,
+    /// Whether it has columns for the first and the last day.
+    pub dated: bool,
     /// Whether it has a column for the machines of steps.
     pub shop: bool,
     /// The names of machines.
@@ -59,7 +61,7 @@ fn push_last_heads(text: &mut String, table: &Table<'_>) -> Result<(), AllocErro
     ensures { OnOk result (string_bytes text.new
         ≡ string_bytes text.old ++ spec.last_heads (spec.table_of table.now)) }
 {
-    push_if(text, table.chart.days.len(), DAY_HEADS)?;
+    push_for(text, table.dated, DAY_HEADS)?;
     push_if(text, table.floats.len(), FLOAT_HEAD)?;
     push_if(text, table.slacks.len(), SLACK_HEAD)
 }
@@ -200,20 +202,21 @@ fn push_both_days(
     }
 }
 
-// Appends the same, if there are days.
+// Appends the same, if the table has columns for days.
 fn push_day_cells(
     alloc: Global,
     text: &mut String,
-    days: &[Date],
+    table: &Table<'_>,
     bar: Bar,
 ) -> Result<(), AllocError>
-    ensures { OnOk result
-        (string_bytes text.new ≡ string_bytes text.old ++ spec.day_cells days.now bar) }
+    ensures { OnOk result (string_bytes text.new
+        ≡ string_bytes text.old ++ spec.day_cells (spec.table_of table.now) bar) }
 {
-    if days.len() < 1 {
-        return Ok(());
+    if table.dated {
+        push_both_days(alloc, text, table.chart.days, bar)
+    } else {
+        Ok(())
     }
-    push_both_days(alloc, text, days, bar)
 }
 
 // Appends a cell with the number of an activity in a list, if the list has one.
@@ -238,7 +241,7 @@ fn push_last_cells(
     ensures { OnOk result (string_bytes text.new
         ≡ string_bytes text.old ++ spec.last_cells (spec.table_of table.now) bar) }
 {
-    push_day_cells(alloc, text, table.chart.days, bar)?;
+    push_day_cells(alloc, text, table, bar)?;
     push_cell_at(text, table.floats, bar.number)?;
     push_cell_at(text, table.slacks, bar.number)
 }

@@ -31,6 +31,7 @@ mod trail;
 mod watcher;
 mod watches;
 mod windows;
+mod work;
 
 pub use fault::SolveFault;
 pub use log::{Log, Unlogged};

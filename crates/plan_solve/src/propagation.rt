@@ -170,7 +170,9 @@ impl State {
             push_predecessors(model, &mut self.trail, activity)?;
         }
         self.note(model, activity)?;
-        for &order in row(&model.orders_of, activity) {
+        let orders = row(&model.orders_of, activity);
+        self.trail.work.add(orders.len());
+        for &order in orders {
             propagate_bound(model, &mut self.trail, entry.half, order)?;
         }
         Ok(())
@@ -198,7 +200,7 @@ impl State {
         }
     }
 
-    // What follows from all entries by arcs, orders and clauses.
+    // What follows from the entries by arcs, orders and clauses, until the clock is due.
     fn propagate_entries(
         &mut self,
         alloc: Global,
@@ -206,6 +208,9 @@ impl State {
         kernel: &Kernel,
     ) -> Result<(), Stop> {
         for _ in 0..u64::MAX {
+            if self.trail.work.is_due() {
+                break;
+            }
             let Some(entry) = self.trail.next() else {
                 break;
             };
@@ -214,10 +219,10 @@ impl State {
         Ok(())
     }
 
-    // What follows by the resources, until a bound rises.
+    // What follows by the resources, until a bound rises or the clock is due.
     fn propagate_resources(&mut self, model: &Model) -> Result<(), Stop> {
         for _ in 0..u64::MAX {
-            if !self.trail.is_settled() {
+            if self.trail.work.is_due() || !self.trail.is_settled() {
                 return Ok(());
             }
             let Some(activity) = self.stale.pop() else {
@@ -226,24 +231,37 @@ impl State {
             table::propagate(model, &mut self.parts, &mut self.trail, activity)?;
         }
         for _ in 0..model.kinds {
+            if self.trail.work.is_due() {
+                break;
+            }
             let Some(resource) = self.busy.pop() else {
                 break;
             };
+            self.trail.work.add(self.windows.unary_work(resource));
             self.windows.check_unary(&self.trail, resource)?;
         }
         Ok(())
     }
 
-    /// What follows from all bounds that have risen.
-    pub fn propagate(&mut self, alloc: Global, model: &Model, kernel: &Kernel) -> Result<(), Stop> {
+    /// What follows from all bounds that have risen. Returns `false` if the clock is due: the next
+    /// call continues.
+    pub fn propagate(
+        &mut self,
+        alloc: Global,
+        model: &Model,
+        kernel: &Kernel,
+    ) -> Result<bool, Stop> {
         for _ in 0..u64::MAX {
             self.propagate_entries(alloc, model, kernel)?;
             self.propagate_resources(model)?;
+            if self.trail.work.is_due() {
+                return Ok(false);
+            }
             if self.trail.is_settled() && self.stale.is_empty() {
                 break;
             }
         }
-        Ok(())
+        Ok(true)
     }
 
     /// Looks for a window in which a resource has more work than it can do.
@@ -253,6 +271,8 @@ impl State {
         model: &Model,
         horizon: u32,
     ) -> Result<(), Stop> {
+        let work = Windows::whole_work(model, horizon);
+        self.trail.work.add(work as usize);
         self.windows.check_all(alloc, model, &self.trail, horizon)
     }
 
@@ -274,6 +294,7 @@ impl State {
             let Some(half) = self.trail.undo(level) else {
                 break;
             };
+            self.trail.work.add(1);
             if is_marked(&model.is_counted, half / 2) {
                 self.loose.add(half / 2)?;
             }
@@ -288,6 +309,8 @@ impl State {
                 .earliest(activity)
                 .saturating_add(model.duration(activity));
             let first = self.trail.latest(activity);
+            let counted = (self.parts.first(activity), self.parts.behind(activity));
+            self.trail.work.add_span(counted.0, counted.1);
             self.parts.shrink(model, activity, first, behind);
         }
         self.stale.clear();

@@ -20,7 +20,8 @@ use std::alloc::{AllocError, Global};
 /// After how many conflicts a watcher is told how far the search is.
 const CONFLICTS_BETWEEN: u64 = 64;
 
-/// After how many decisions without a conflict a watcher is asked whether the search should end.
+/// After how many decisions without a conflict, or after how much work ([`crate::work::Work`]), a
+/// watcher is asked whether the search should end.
 const DECISIONS_BETWEEN: u32 = 64;
 
 /// How many bytes of lines a log gets together at least, but for the last ones.
@@ -120,7 +121,7 @@ fn next_clash<W: Watcher>(
         match search.advance(alloc, DECISIONS_BETWEEN)? {
             Advance::Clash(clash) => return Ok(Some(clash)),
             Advance::Done => return Ok(None),
-            Advance::Open => {}
+            Advance::Open => search.restart_work(),
         }
         if watcher.is_late() {
             break;

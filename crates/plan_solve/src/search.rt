@@ -132,17 +132,40 @@ impl Search {
     }
 
     // Propagates all bounds; at the first levels of a search for lower bounds also by windows.
-    fn propagate(&mut self, alloc: Global) -> Result<(), Stop>
+    // Returns `false` if the clock is due: the next call continues.
+    fn propagate(&mut self, alloc: Global) -> Result<bool, Stop>
         ensures { self.new.prover ≡ self.old.prover }
     {
-        self.state
-            .propagate(alloc, &self.model, &self.prover.kernel)?;
+        let kernel = &self.prover.kernel;
+        if !self.state.propagate(alloc, &self.model, kernel)? {
+            return Ok(false);
+        }
         let level = self.state.trail.level();
         if level == 0 || level == 1 && self.is_raising {
             let horizon = self.prover.kernel.upper();
             self.state.check_windows(alloc, &self.model, horizon)?;
         }
-        Ok(())
+        Ok(true)
+    }
+
+    // Propagates all bounds without an interruption.
+    fn propagate_whole(&mut self, alloc: Global) -> Result<(), Stop>
+        ensures { self.new.prover ≡ self.old.prover }
+    {
+        self.state.trail.work.hold(true);
+        let outcome = self.propagate(alloc);
+        self.state.trail.work.hold(false);
+        match outcome {
+            Ok(_) => Ok(()),
+            Err(stop) => Err(stop),
+        }
+    }
+
+    /// Starts the count of work again: the watcher was asked.
+    pub fn restart_work(&mut self)
+        ensures { self.new.prover ≡ self.old.prover }
+    {
+        self.state.trail.work.restart();
     }
 
     // Learns from a clause that is false at level 0 that there is nothing to search for any more.
@@ -388,7 +411,8 @@ impl Search {
         Ok(true)
     }
 
-    /// Propagates and decides until a clause is false, for so many decisions at most.
+    /// Propagates and decides until a clause is false or the clock is due, for so many decisions at
+    /// most.
     pub fn advance(&mut self, alloc: Global, decisions: u32) -> Result<Advance, AllocError>
         ensures { self.new.prover.kernel.known.input ≡ self.old.prover.kernel.known.input }
     {
@@ -396,7 +420,8 @@ impl Search {
             match self.propagate(alloc) {
                 Err(Stop::NoMemory) => return Err(AllocError),
                 Err(Stop::Clash(clash)) => return Ok(Advance::Clash(clash)),
-                Ok(()) => {}
+                Ok(false) => return Ok(Advance::Open),
+                Ok(true) => {}
             }
             if !self.branch(alloc)? && !self.improve(alloc)? {
                 return Ok(Advance::Done);
@@ -443,7 +468,7 @@ impl Search {
     fn reduce(&mut self, alloc: Global, conflict: u64) -> Result<bool, AllocError>
         ensures { self.new.prover.kernel.known.input ≡ self.old.prover.kernel.known.input }
     {
-        match self.propagate(alloc) {
+        match self.propagate_whole(alloc) {
             Err(Stop::NoMemory) => return Err(AllocError),
             Err(Stop::Clash(clash)) => {
                 self.refute(alloc, clash)?;

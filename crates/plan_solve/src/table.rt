@@ -21,6 +21,7 @@ fn push_up(
     let first = trail.earliest(activity);
     let end = first.saturating_add(model.duration(activity));
     let behind = end.min(trail.latest(activity));
+    trail.work.add_span(first, behind);
     for instant in (first..behind.max(first)).rev() {
         if parts.at(resource, instant) > room && !parts.is_counted(activity, instant) {
             let literal = at_least(activity, instant.saturating_add(1));
@@ -45,6 +46,7 @@ fn push_down(
     let end = trail.earliest(activity).saturating_add(duration);
     let first = end.max(trail.latest(activity));
     let behind = trail.latest(activity).saturating_add(duration);
+    trail.work.add_span(first, behind);
     for instant in first..behind.max(first) {
         if parts.at(resource, instant) > room && !parts.is_counted(activity, instant) {
             let literal = at_most(activity, instant, duration);
@@ -111,6 +113,9 @@ fn check_slice(
     if first >= behind {
         return Ok(());
     }
+    let users = row(&model.users, resource);
+    trail.work.add_span(first, behind);
+    trail.work.add(users.len());
     let (most, capacity) = (
         peak(parts, resource, first, behind),
         model.capacity(resource),
@@ -119,7 +124,7 @@ fn check_slice(
         let instant = overload(parts, resource, first, behind, capacity).unwrap_or(first);
         return Err(Stop::Clash(Clash::Overload(resource, instant)));
     }
-    for &activity in row(&model.users, resource) {
+    for &activity in users {
         let (low, high) = (trail.earliest(activity), trail.latest(activity));
         let end = high.saturating_add(model.duration(activity));
         let is_tight = model.need(activity, resource).saturating_add(most) > capacity;
@@ -165,6 +170,7 @@ pub fn propagate(
     let old = (parts.first(activity), parts.behind(activity));
     let has_part = first < behind;
     if has_part {
+        trail.work.add_span(first, behind);
         parts.grow(model, activity, first, behind);
     }
     for resource in 0..model.kinds {

@@ -3,6 +3,7 @@
 use crate::lists::{at, put};
 use crate::literals::negated;
 use crate::stop::{Cause, Clash, Stop};
+use crate::work::Work;
 use plan_kernel::{LIMIT, Literal};
 use std::alloc::{AllocError, Global};
 
@@ -29,6 +30,7 @@ pub struct Trail {
     entries: Vec<Entry>,
     starts: Vec<u32>,
     head: usize,
+    pub work: Work,
 }
 
 impl Trail {
@@ -40,6 +42,7 @@ impl Trail {
             entries: Vec::with_capacity(alloc, halves)?,
             starts: Vec::new(alloc),
             head: 0,
+            work: Work::new(),
         })
     }
 

@@ -178,6 +178,7 @@ impl Watches {
             return Ok(false);
         }
         let clause = kernel.clause(watch.clause);
+        trail.work.add(clause.len());
         if let Some(place) = place_of_open(clause, trail, gone.place, left.place) {
             let moved = at_place(clause, place);
             if is_first {
@@ -238,6 +239,7 @@ impl Watches {
             return Ok(());
         }
         let mut list = mem::replace(&mut self.lists[place], Vec::new(alloc));
+        trail.work.add(list.len());
         let outcome = self.scan(kernel, trail, &mut list, half, old, value);
         if place < self.lists.len() {
             self.lists[place] = list;

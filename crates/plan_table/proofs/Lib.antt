@@ -9,6 +9,7 @@ pub mod TextLineLemmas
 pub mod GoodJobLemmas
 pub mod RowListLemmas
 pub mod HeadLemmas
+pub mod HeaderLineLemmas
 pub mod LawLemmas
 pub mod TableTextLemmas
 pub mod NetworkLemmas

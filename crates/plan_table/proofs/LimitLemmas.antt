@@ -1,25 +1,26 @@
 -- What is read of a table is within the limits.
 use Rattle.std.proofs.Common.{◌≡◌, ℕ, ◌+◌, ◌≤◌, ◌<◌, ◌==◌, Bool, true, false, List, [], ◌∷◌, ◌++◌, Option, Some, None, Result, Ok, Err, length, map, refl, ap, ◌∙◌, subst, arith, cond}
 use Rattle.std.specs.Prelude.{nat_le}
-use Rattle.std.specs.List.{AllByRecursion, list_all}
-use Rattle.std.specs.Str.{is_utf8}
-use Rattle.std.proofs.lemmas.Bool.{leb-true}
+use Rattle.std.specs.List.{AllByRecursion, list_all, list_any}
+use Rattle.std.proofs.lemmas.Bool.{and_from, leb-true}
+use Rattle.std.proofs.lemmas.Str.{chars-nil, is_utf8-from_IsUtf8, IsUtf8-nil}
+use Rattle.std.specs.Str.{chars, is_utf8}
 use Rattle.std.proofs.lemmas.List.Sums.{sum_by-cons, sum_by_push}
 use Rattle.plan_psplib.specs.Numbers.{number}
 use Rattle.plan_table.specs.declared.fault.TableCode.{TableCode}
 use Rattle.plan_table.specs.declared.fault.TableCode.TheVariants as code
 use Rattle.plan_table.specs.declared.header.Column.{Column}
 use Rattle.plan_table.specs.declared.header.Column.TheVariants as columns
-use Rattle.plan_table.specs.Limits.{IsName}
+use Rattle.plan_table.specs.Limits.{IsName, is_printable}
 use Rattle.plan_table.specs.Reading.{Fault, ◌>>=◌, fault, check}
 use Rattle.plan_table.specs.Cells.{same, amount_in, amount, name, number_from, known, predecessor, predecessors_at, ids_in}
 use Rattle.plan_table.specs.Header.{Head, resource_count, resources_in, head_read, heads_at, header, once, column_of, key_of}
 use Rattle.plan_table.specs.Rows.{need, cell_read, row_read, activity_read, fresh_activity, id_read, first_cell}
 use Rattle.plan_table.specs.Table.{Activity}
 use Rattle.plan_psplib.specs.Lines.{trim}
-use Rattle.std.specs.Char.{to_ascii_lowercase}
+use Rattle.std.specs.Char.{is_control, to_ascii_lowercase}
 use Rattle.plan_table.proofs.TrimLemmas.{trim_trim}
-use Rattle.std.specs.Prelude.{drop}
+use Rattle.std.specs.Prelude.{drop, not}
 
 -- ---- reading in steps
 
@@ -62,7 +63,8 @@ number_range n (other ∷ others) id j e = by_same (number_range (n + 1) others 
 
 predecessor_known : (ids : List (List ℕ)) (line : ℕ) (id : List ℕ) (j : ℕ) → predecessor ids line id ≡ Ok j → IsKnown (length ids) j
 unfolding predecessor
-predecessor_known ids line id j e = by_number (number_from 2 ids id) refl e
+predecessor_known ids line id j e =
+    then_ok (check (is_printable id) code.NotText line) _ j e (λ u text e. by_number (number_from 2 ids id) refl e)
   where
     by_number : (o : Option ℕ) → number_from 2 ids id ≡ o → known o line id ≡ Ok j → IsKnown (length ids) j
     by_number None is e = absurd (cc)
@@ -98,16 +100,22 @@ need_small line resource cell n e = by_test (length cell == 0) e
     by_test true e = let is : 0 ≡ n = same_ok 0 n e in omega (arith, is)
     by_test false e = amount_small code.BadNeed line resource cell n e
 
+-- an empty name has no control character
+empty_printable : is_printable [] ≡ true
+empty_printable =
+    and_from (is_utf8 []) (not (list_any is_control (chars []))) (is_utf8-from_IsUtf8 [] IsUtf8-nil) (ap (λ (cs : List ℕ). not (list_any is_control cs)) chars-nil)
+
 pub name_good : (line : ℕ) (cell text : List ℕ) → name line cell ≡ Ok text → trim cell ≡ cell → IsName text
 unfolding name
 name_good line cell text e trimmed =
     then_ok (check (nat_le (length cell) 200) code.Limit line) _ text e (λ u short e.
     then_ok (check (list_all (λ byte. nat_le 32 byte) cell) code.NotText line) _ text e (λ v plain e.
-    then_ok (check (is_utf8 cell) code.NotText line) _ text e (λ w utf8 e.
+    then_ok (check (is_printable cell) code.NotText line) _ text e (λ w printable e.
     subst IsName (same_ok cell text e) (record {
       short = leb-true (length cell) 200 (check_ok _ code.Limit line u short);
       trimmed = trimmed;
       plain = check_ok _ code.NotText line v plain;
+      printable = check_ok _ code.NotText line w printable;
     }))))
 
 -- a name is the text of its cell
@@ -116,7 +124,7 @@ unfolding name
 name_is line cell text e =
     then_ok (check (nat_le (length cell) 200) code.Limit line) _ text e (λ u short e.
     then_ok (check (list_all (λ byte. nat_le 32 byte) cell) code.NotText line) _ text e (λ v plain e.
-    then_ok (check (is_utf8 cell) code.NotText line) _ text e (λ w utf8 e. same_ok cell text e)))
+    then_ok (check (is_printable cell) code.NotText line) _ text e (λ w printable e. same_ok cell text e)))
 
 -- ---- activities
 
@@ -204,7 +212,7 @@ unfolding activity_read
 activity_draft ids before line id heads cells b e =
     then_ok (row_read ids before line (fresh_activity id) heads cells) _ b e (λ x is e.
     then_ok (check (nat_le (length cells) (length heads)) code.Cells line) _ b e (λ u whole e.
-    let none : IsDraft (length ids) 0 (fresh_activity id) = record { name = record { short = omega arith; trimmed = refl; plain = refl }; duration = omega arith; predecessors = tt; whole = refl; needs = tt } in
+    let none : IsDraft (length ids) 0 (fresh_activity id) = record { name = record { short = omega arith; trimmed = refl; plain = refl; printable = empty_printable }; duration = omega arith; predecessors = tt; whole = refl; needs = tt } in
     let draft = row_draft ids before line 0 (fresh_activity id) x heads cells is none in
     subst (λ (y : Activity). IsDraft (length ids) (resources_in heads) y) (same_ok x b e) (more_columns (length ids) (0 + resources_in heads) (resources_in heads) x (omega arith) draft)))
 

@@ -2,7 +2,7 @@
 use Rattle.std.proofs.Common.{◌≡◌, ℕ, zero, suc, ◌+◌, ◌≤◌, ◌<◌, ◌==◌, ◌&&◌, Bool, true, false, List, [], ◌∷◌, ◌++◌, Option, Some, None, Ok, length, refl, sym, ap, ◌∙◌, subst, arith, cond}
 use Rattle.std.specs.Prelude.{nat_le, nat_lt, slice_index_or, is_some, take, drop, fold, not}
 use Rattle.std.specs.List.{AllByRecursion, list_any, sum_by}
-use Rattle.std.proofs.lemmas.Bool.{leb-true, ltb-true, lt-ltb}
+use Rattle.std.proofs.lemmas.Bool.{leb-true, ltb-true}
 use Rattle.std.proofs.lemmas.List.Sums.{sum_by-cons, sum_by_push}
 use Rattle.plan_psplib.specs.Lines.{trim}
 use Rattle.plan_table.specs.declared.fault.TableCode.TheVariants as code
@@ -11,10 +11,10 @@ use Rattle.plan_table.specs.declared.header.Column.TheVariants as columns
 use Rattle.plan_table.specs.Csv.{Row}
 use Rattle.plan_table.specs.Limits.{IsName, IsEntry, IsSupply, IsWithinLimits}
 use Rattle.plan_table.specs.Reading.{◌>>=◌, check}
-use Rattle.plan_table.specs.Cells.{amount, same}
+use Rattle.plan_table.specs.Cells.{amount, same_name}
 use Rattle.plan_table.specs.Header.{Head, resource_count, resources_in, header}
 use Rattle.plan_table.specs.Rows.{activity_read, first_cell}
-use Rattle.plan_table.specs.Entries.{Entries, is_blank_row, is_capacity, id_of, id_place, with_id, takes, pushed, ids_of, added, activity_row, first_capacities, capacity_in, capacity_read, capacities_read, capacity_row, filled_row, row_by, entry_read, entries_at, entries_in, no_entries}
+use Rattle.plan_table.specs.Entries.{Entries, is_blank_row, is_capacity, filled_from, id_of, id_place, is_activity, one_more, id_added, with_id, ids_at, added, activity_row, first_capacities, capacity_in, capacity_read, capacities_read, capacity_row, filled_row, row_by, entry_read, entries_at, entries_in, no_entries}
 use Rattle.plan_table.specs.Overrides.{Override, given, is_resource, known_resource, or_row, overridden, override_checked, overrides_checked}
 use Rattle.plan_table.specs.Listing.{known_capacity, resource_by, resource_read, resources_at, or_none, table_in, rows_read, table_read_with}
 use Rattle.plan_table.specs.Table.{Activity, Resource, Table}
@@ -115,67 +115,94 @@ activity_row_good heads ids e f line id cells is good =
     let more = added_good (length ids) (resources_in heads) line e f a is few (activity_draft ids (take (length e.activities) ids) line id heads cells a read) good in
     (more.0, more.1, few)))
 
--- whether a row's id is taken, by what the row is
-takes_by : (place : Option ℕ) (n : ℕ) (id : List ℕ) (cells : List (List ℕ)) (a b : Bool) → is_blank_row cells ≡ a → is_capacity place id ≡ b →
-    takes place n id cells ≡ (not a && not b && nat_lt n 500)
-takes_by place n id cells a b blank capacity =
-    ap (λ x. not x && not (is_capacity place id) && nat_lt n 500) blank ∙ ap (λ y. not a && not y && nat_lt n 500) capacity
+-- whether a row is that of an activity, by what it is
+activity_by : (place : Option ℕ) (id : List ℕ) (cells : List (List ℕ)) (a b : Bool) → is_blank_row cells ≡ a → is_capacity place id ≡ b →
+    is_activity place id cells ≡ (not a && not b)
+activity_by place id cells a b blank capacity =
+    ap (λ x. not x && not (is_capacity place id)) blank ∙ ap (λ y. not a && not y) capacity
 
-pushed_length : (takes_it t : Bool) (n : ℕ) (ids : List (List ℕ)) (id : List ℕ) → takes_it ≡ t → length ids ≡ n → length (pushed takes_it ids id) ≡ cond t (n + 1) n
-pushed_length takes_it true n ids id is size = ap (λ b. length (pushed b ids id)) is ∙ push_length ids id ∙ ap (λ m. m + 1) size
-pushed_length takes_it false n ids id is size = ap (λ b. length (pushed b ids id)) is ∙ size
+-- how many ids there are with that of a row
+added_length : (activity t : Bool) (line n : ℕ) (ids more : List (List ℕ)) (id : List ℕ) → activity ≡ t → length ids ≡ n → id_added activity line ids id ≡ Ok more →
+    length more ≡ cond t (n + 1) n
+unfolding one_more
+added_length activity true line n ids more id is size added =
+    then_ok (check (nat_lt (length ids) 500) code.Limit line) _ more (subst (λ b. id_added b line ids id ≡ Ok more) is added) (λ u room added.
+    ap (λ (x : List (List ℕ)). length x) (sym (same_ok (ids ++ id ∷ []) more added)) ∙ push_length ids id ∙ ap (λ m. m + 1) size)
+added_length activity false line n ids more id is size added =
+    ap (λ (x : List (List ℕ)). length x) (sym (same_ok ids more (subst (λ b. id_added b line ids id ≡ Ok more) is added))) ∙ size
 
 -- what a row leaves: good entries, and as many ids as activities
-abbrev RowGoal : List Head → List (List ℕ) → List (List ℕ) → Option ℕ → List (List ℕ) → Entries → ℕ → Type 0
-RowGoal heads ids so_far place cells f n =
-    AreGood (length ids) (resources_in heads) f × (length (pushed (takes place n (id_of place n cells) cells) so_far (id_of place n cells)) ≡ length f.activities)
+abbrev RowGoal : List Head → List (List ℕ) → List (List ℕ) → Option ℕ → ℕ → List (List ℕ) → Entries → ℕ → Type 0
+RowGoal heads ids so_far place line cells f n =
+    AreGood (length ids) (resources_in heads) f
+    × ((more : List (List ℕ)) → id_added (is_activity place (id_of place n cells) cells) line so_far (id_of place n cells) ≡ Ok more → length more ≡ length f.activities)
 
 filled_good : (heads : List Head) (place : Option ℕ) (ids so_far : List (List ℕ)) (e f : Entries) (line : ℕ) (cells : List (List ℕ)) (b : Bool) →
     is_blank_row cells ≡ false → is_capacity place (id_of place (length e.activities) cells) ≡ b →
     row_by b heads ids e line (id_of place (length e.activities) cells) cells ≡ Ok f → length so_far ≡ length e.activities →
-    AreGood (length ids) (resources_in heads) e → RowGoal heads ids so_far place cells f (length e.activities)
+    AreGood (length ids) (resources_in heads) e → RowGoal heads ids so_far place line cells f (length e.activities)
 filled_good heads place ids so_far e f line cells true filled capacity is size good =
     let n = length e.activities in
     let id = id_of place n cells in
     let more = capacity_row_good (length ids) (resources_in heads) heads e f line cells is good in
-    (more.0, pushed_length (takes place n id cells) false n so_far id (takes_by place n id cells false true filled capacity) size ∙ sym more.1)
+    (more.0, λ next added. added_length (is_activity place id cells) false line n so_far next id (activity_by place id cells false true filled capacity) size added ∙ sym more.1)
 filled_good heads place ids so_far e f line cells false filled capacity is size good =
     let n = length e.activities in
     let id = id_of place n cells in
     let more = activity_row_good heads ids e f line id cells is good in
-    (more.0, pushed_length (takes place n id cells) true n so_far id (takes_by place n id cells false false filled capacity ∙ lt-ltb n 500 more.2) size ∙ sym more.1)
+    (more.0, λ next added. added_length (is_activity place id cells) true line n so_far next id (activity_by place id cells false false filled capacity) size added ∙ sym more.1)
 
 entry_good : (heads : List Head) (place : Option ℕ) (ids so_far : List (List ℕ)) (e f : Entries) (row : Row) →
     entry_read heads place ids e row ≡ Ok f → length so_far ≡ length e.activities → AreGood (length ids) (resources_in heads) e →
-    AreGood (length ids) (resources_in heads) f × (length (with_id place so_far row) ≡ length f.activities)
+    AreGood (length ids) (resources_in heads) f × ((more : List (List ℕ)) → with_id place so_far row ≡ Ok more → length more ≡ length f.activities)
 unfolding entry_read
 entry_good heads place ids so_far e f row is size good =
-    subst (λ n. RowGoal heads ids so_far place row.cells f n) (sym size) (by_blank (is_blank_row row.cells) refl is)
+    subst (λ n. RowGoal heads ids so_far place row.line row.cells f n) (sym size) (by_blank (is_blank_row row.cells) refl is)
   where
     by_blank : (b : Bool) → is_blank_row row.cells ≡ b → cond b (Ok e) (filled_row heads place ids e row.line (id_of place (length e.activities) row.cells) row.cells) ≡ Ok f →
-        RowGoal heads ids so_far place row.cells f (length e.activities)
+        RowGoal heads ids so_far place row.line row.cells f (length e.activities)
     by_blank true blank is =
         let n = length e.activities in
         let id = id_of place n row.cells in
         let same_entries = same_ok e f is in
-        let takes_none = ap (λ x. not x && not (is_capacity place id) && nat_lt n 500) blank in (
+        let none = ap (λ x. not x && not (is_capacity place id)) blank in (
           subst (λ (x : Entries). AreGood (length ids) (resources_in heads) x) same_entries good,
-          pushed_length (takes place n id row.cells) false n so_far id takes_none size ∙ ap (λ (x : Entries). length x.activities) same_entries,
+          λ next added. added_length (is_activity place id row.cells) false row.line n so_far next id none size added ∙ ap (λ (x : Entries). length x.activities) same_entries,
         )
     by_blank false blank is =
         filled_good heads place ids so_far e f row.line row.cells (is_capacity place (id_of place (length e.activities) row.cells)) blank refl is size good
 
-entries_good : (heads : List Head) (place : Option ℕ) (ids so_far : List (List ℕ)) (e f : Entries) (rows : List Row) →
-    entries_at heads place ids e rows ≡ Ok f → length so_far ≡ length e.activities → AreGood (length ids) (resources_in heads) e →
-    AreGood (length ids) (resources_in heads) f × (length (fold (with_id place) so_far rows) ≡ length f.activities)
-unfolding entries_at
-entries_good heads place ids so_far e f [] is size good =
-    let same_entries = same_ok e f is in
-    (subst (λ (x : Entries). AreGood (length ids) (resources_in heads) x) same_entries good, size ∙ ap (λ (x : Entries). length x.activities) same_entries)
-entries_good heads place ids so_far e f (row ∷ rows) is size good =
+entries_good : (heads : List Head) (place : Option ℕ) (ids so_far found : List (List ℕ)) (e f : Entries) (rows : List Row) →
+    entries_at heads place ids e rows ≡ Ok f → ids_at place so_far rows ≡ Ok found → length so_far ≡ length e.activities → AreGood (length ids) (resources_in heads) e →
+    AreGood (length ids) (resources_in heads) f × (length found ≡ length f.activities)
+unfolding entries_at ids_at
+entries_good heads place ids so_far found e f [] is all size good =
+    let same_entries = same_ok e f is in (
+      subst (λ (x : Entries). AreGood (length ids) (resources_in heads) x) same_entries good,
+      ap (λ (x : List (List ℕ)). length x) (sym (same_ok so_far found all)) ∙ size ∙ ap (λ (x : Entries). length x.activities) same_entries,
+    )
+entries_good heads place ids so_far found e f (row ∷ rows) is all size good =
     then_ok (entry_read heads place ids e row) _ f is (λ g read is.
+    then_ok (with_id place so_far row) _ found all (λ next added all.
     let one = entry_good heads place ids so_far e g row read size good in
-    entries_good heads place ids (with_id place so_far row) g f rows is one.1 one.0)
+    entries_good heads place ids next found g f rows is all (one.1 next added) one.0))
+
+-- the entries of a table, with as many ids
+record AreEntries (heads : List Head) (e : Entries) : Type 0 where
+  ids : List (List ℕ)
+  good : AreGood (length ids) (resources_in heads) e
+  size : length ids ≡ length e.activities
+
+entries_in_good : (heads : List Head) (rows : List Row) (e : Entries) → entries_in heads rows ≡ Ok e → AreEntries heads e
+unfolding entries_in
+entries_in_good heads rows e is =
+    let place = id_place heads in
+    then_ok (ids_at place [] rows) _ e is (λ ids all is.
+    then_ok (entries_at heads place ids no_entries rows) _ e is (λ f read is.
+    then_ok (check (nat_le 1 (length f.activities)) code.Limit 0) _ e is (λ u some is.
+    let none : AreGood (length ids) (resources_in heads) no_entries = record { few = omega arith; activities = tt; capacities = tt; total = refl; limit = omega arith } in
+    let good = entries_good heads place ids [] ids no_entries f rows read all refl none in
+    subst (AreEntries heads) (same_ok f e is) (record { ids = ids; good = good.0; size = good.1 }))))
 
 -- ---- overrides
 
@@ -192,7 +219,7 @@ overrides_low heads (o ∷ os) u is =
 
 given_small : (os : List Override) (name : List ℕ) (found : Option ℕ) → AreLow os → IsSmallOption found → IsSmallOption (fold (overridden name) found os)
 given_small [] name found low small = small
-given_small (o ∷ os) name found low small = given_small os name (overridden name found o) low.1 (by_test (same o.resource name))
+given_small (o ∷ os) name found low small = given_small os name (overridden name found o) low.1 (by_test (same_name o.resource name))
   where
     by_test : (b : Bool) → IsSmallOption (cond b (Some o.amount) found)
     by_test true = low.0
@@ -264,12 +291,9 @@ rows_good overrides (first ∷ rows) t is =
     then_ok (entries_in heads rows) _ t is (λ e entries is.
     then_ok (overrides_checked heads overrides) _ t is (λ u checked is.
     then_ok (resources_at overrides (or_none e.capacities) [] heads) _ t is (λ rs resources is.
-    let place = id_place heads in
-    let ids = ids_of place rows in
     let head = header_good first.line first.cells heads read in
-    let none : AreGood (length ids) (resources_in heads) no_entries = record { few = omega arith; activities = tt; capacities = tt; total = refl; limit = omega arith } in
-    let good = entries_good heads place ids [] no_entries e rows entries refl none in
-    let g = good.0 in
+    let all = entries_in_good heads rows e entries in
+    let g = all.good in
     let supplies = resources_good overrides (or_none e.capacities) [] rs heads resources (overrides_low heads overrides u checked) g.capacities head.names tt in
     let columns = head.few in
     let total = g.total in
@@ -278,11 +302,11 @@ rows_good overrides (first ∷ rows) t is =
     subst IsWithinLimits (same_ok (record { activities = e.activities; resources = rs }) t is) (record {
       rows = g.few;
       columns = omega (arith, size, columns);
-      activities = entries_are (length ids) (resources_in heads) (length e.activities) (length rs) e.activities good.1 size g.activities;
+      activities = entries_are (length all.ids) (resources_in heads) (length e.activities) (length rs) e.activities all.size size g.activities;
       resources = supplies.0;
       total = omega (arith, total, limit);
     })))))
 
 -- what a text says is within the limits
 pub table_good : (overrides : List Override) (text : List ℕ) (t : Table) → table_read_with overrides text ≡ Ok t → IsWithinLimits t
-table_good overrides text t is = then_ok (rows_read text) _ t is (λ rows read is. rows_good overrides rows t is)
+table_good overrides text t is = then_ok (rows_read text) _ t is (λ rows read is. rows_good overrides (filled_from rows) t is)

@@ -1,19 +1,23 @@
 -- What the cells of an activity say.
 use Rattle.std.specs.Prelude.{ℕ, ◌+◌, ◌==◌, ◌&&◌, ◌||◌, Bool, if◌then◌else◌, List, [], ◌∷◌, ◌++◌, Option, Some, None, Result, Ok, length, map, nat_le}
 use Rattle.std.specs.List.{list_all}
-use Rattle.std.specs.Str.{is_utf8}
+use Rattle.std.specs.Str.{str_eq_ignore_ascii_case}
 use Rattle.plan_table.specs.declared.fault.TableCode.{TableCode}
 use Rattle.plan_table.specs.declared.fault.TableCode.TheVariants as code
 use Rattle.plan_psplib.specs.Lines.{words}
 use Rattle.plan_psplib.specs.Numbers.{number}
 use Rattle.plan_psplib.specs.Sections.{begins_with}
 use Rattle.plan_psplib.specs.Tokens.{greatest}
-use Rattle.plan_table.specs.Limits.{longest_name}
+use Rattle.plan_table.specs.Limits.{is_printable, longest_name}
 use Rattle.plan_table.specs.Reading.{Fault, fault, check, ◌>>=◌}
 
 -- two texts are the same
 abbrev pub same : List ℕ → List ℕ → Bool
 same a b = (length a == length b) && begins_with a b
+
+-- the same without regard to ASCII case
+unfoldable pub same_name : List ℕ → List ℕ → Bool
+same_name a b = str_eq_ignore_ascii_case a b
 
 abbrev pub amount_in : Option ℕ → TableCode → ℕ → List ℕ → Result ℕ Fault
 amount_in None c line word = fault c line word
@@ -28,7 +32,7 @@ unfoldable pub name : ℕ → List ℕ → Result (List ℕ) Fault
 name line cell = do
   short ← check (nat_le (length cell) longest_name) code.Limit line
   plain ← check (list_all (λ byte. nat_le 32 byte) cell) code.NotText line
-  text ← check (is_utf8 cell) code.NotText line
+  text ← check (is_printable cell) code.NotText line
   Ok cell
 
 -- what stands between the ids of predecessors
@@ -53,7 +57,9 @@ known (Some n) line id = Ok n
 
 -- the number of a predecessor
 unfoldable pub predecessor : List (List ℕ) → ℕ → List ℕ → Result ℕ Fault
-predecessor ids line id = known (number_from 2 ids id) line id
+predecessor ids line id = do
+  text ← check (is_printable id) code.NotText line
+  known (number_from 2 ids id) line id
 
 -- the numbers of predecessors, behind those before
 unfoldable pub predecessors_at : List (List ℕ) → ℕ → List ℕ → List (List ℕ) → Result (List ℕ) Fault

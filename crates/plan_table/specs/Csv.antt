@@ -1,9 +1,9 @@
 -- A table's text as records of cells, by the state machine of the `csv` crate, with the line of
 -- each record.
-use Rattle.std.specs.Prelude.{ℕ, ◌+◌, ◌==◌, Bool, true, false, if◌then◌else◌, List, [], ◌∷◌, ◌++◌, Option, Some, None, Result, Ok, Err, Vec, map, fold, take, drop, nat_eq}
-use Rattle.std.specs.List.{list_any, position, starts_with}
+use Rattle.std.specs.Prelude.{ℕ, ◌+◌, ◌==◌, Bool, true, false, if◌then◌else◌, List, [], ◌∷◌, ◌++◌, Option, Some, None, Result, Ok, Err, Vec, length, map, fold, drop, nat_eq}
+use Rattle.std.specs.List.{list_any, starts_with}
 use Rattle.std.specs.declared.alloc.Global.{Global}
-use Rattle.plan_psplib.specs.Lines.{is_line_feed}
+use Rattle.plan_psplib.specs.Lines.{raw_lines, trim}
 use Rattle.csv.specs.Machine.{step, ends_at_end}
 use Rattle.csv.specs.Reading.{default_config}
 use Rattle.csv.specs.declared.parser.Config.{Config}
@@ -142,19 +142,20 @@ unclosed_in st.AfterCr line = None
 abbrev pub unclosed : Machine → Option ℕ
 unclosed m = unclosed_in m.state m.first
 
--- the first line of a text
-abbrev pub line_to : Option ℕ → List ℕ → List ℕ
-line_to None text = text
-line_to (Some end) text = take end text
+-- the first of some lines in which something stands
+abbrev pub first_filled : List (List ℕ) → List ℕ
+first_filled [] = []
+first_filled (line ∷ lines) = if length (trim line) == 0 then first_filled lines else line
 
+-- the first line of a text in which something stands
 abbrev pub header_line : List ℕ → List ℕ
-header_line text = line_to (position is_line_feed text) text
+header_line text = first_filled (raw_lines text)
 
 -- a text without a byte-order mark at its start
 abbrev pub without_mark : List ℕ → List ℕ
 without_mark text = if starts_with nat_eq text (0xEF ∷ 0xBB ∷ 0xBF ∷ []) then drop 3 text else text
 
--- the machine after a table's text, in the delimiter of its first line
+-- the machine after a table's text, in the delimiter of its header line
 abbrev pub read_of : List ℕ → Machine
 read_of text = scanned (delimiter_of (header_line text)) text
 

@@ -1,5 +1,5 @@
 -- The rows of a table: its activities, and the row of the capacities.
-use Rattle.std.specs.Prelude.{ℕ, ◌+◌, ◌==◌, ◌&&◌, Bool, if◌then◌else◌, List, [], ◌∷◌, ◌++◌, Option, Some, None, Result, Ok, length, map, drop, take, not, nat_le, nat_lt, is_some, codes, fold}
+use Rattle.std.specs.Prelude.{ℕ, ◌+◌, ◌==◌, ◌&&◌, Bool, if◌then◌else◌, List, [], ◌∷◌, ◌++◌, Option, Some, None, Result, Ok, length, map, drop, take, not, nat_le, nat_lt, is_some, codes}
 use Rattle.std.specs.List.{list_all}
 use Rattle.std.specs.Option.{option_map}
 use Rattle.std.specs.Fmt.{decimal}
@@ -11,7 +11,7 @@ use Rattle.plan_table.specs.declared.header.Column.TheVariants as columns
 use Rattle.plan_table.specs.declared.entries.Entries as declared
 use Rattle.plan_table.specs.Csv.{Row}
 use Rattle.plan_table.specs.Reading.{Fault, fault, check, ◌>>=◌}
-use Rattle.plan_table.specs.Cells.{same, amount}
+use Rattle.plan_table.specs.Cells.{same, same_name, amount}
 use Rattle.plan_table.specs.Header.{Head}
 use Rattle.plan_table.specs.Limits.{most_rows}
 use Rattle.plan_table.specs.Rows.{first_cell, activity_read}
@@ -20,6 +20,11 @@ use Rattle.plan_table.specs.Table.{Activity, activity_of}
 -- a row in which nothing stands
 abbrev pub is_blank_row : List (List ℕ) → Bool
 is_blank_row cells = list_all (λ cell. length (trim cell) == 0) cells
+
+-- the rows from the first one in which something stands: the header is the first of them
+abbrev pub filled_from : List Row → List Row
+filled_from [] = []
+filled_from (row ∷ rows) = if is_blank_row row.cells then filled_from rows else row ∷ rows
 
 -- where the column of a key is, if the first one that is left has the number k
 abbrev pub place_from : ℕ → List ℕ → List Head → Option ℕ
@@ -35,26 +40,36 @@ abbrev pub id_of : Option ℕ → ℕ → List (List ℕ) → List ℕ
 id_of None count cells = decimal (count + 1)
 id_of (Some place) count cells = trim (first_cell (drop place cells))
 
--- the row of the capacities
+-- the row of the capacities, without regard to ASCII case
 abbrev pub is_capacity : Option ℕ → List ℕ → Bool
-is_capacity place id = is_some place && same id (codes "capacity")
+is_capacity place id = is_some place && same_name id (codes "capacity")
 
--- the ids of activities with that of a row, up to the most activities of a table
-abbrev pub pushed : Bool → List (List ℕ) → List ℕ → List (List ℕ)
-pushed takes ids id = if takes then ids ++ id ∷ [] else ids
+-- the row of an activity
+abbrev pub is_activity : Option ℕ → List ℕ → List (List ℕ) → Bool
+is_activity place id cells = not (is_blank_row cells) && not (is_capacity place id)
 
-abbrev pub takes : Option ℕ → ℕ → List ℕ → List (List ℕ) → Bool
-takes place count id cells = not (is_blank_row cells) && not (is_capacity place id) && nat_lt count most_rows
+-- the ids of activities with one more, at most so many as a table has activities
+unfoldable pub one_more : ℕ → List (List ℕ) → List ℕ → Result (List (List ℕ)) Fault
+one_more line ids id = do
+  room ← check (nat_lt (length ids) most_rows) code.Limit line
+  Ok (ids ++ id ∷ [])
 
-abbrev pub with_that : Option ℕ → List (List ℕ) → List ℕ → List (List ℕ) → List (List ℕ)
-with_that place ids id cells = pushed (takes place (length ids) id cells) ids id
+-- the ids of activities with that of a row
+abbrev pub id_added : Bool → ℕ → List (List ℕ) → List ℕ → Result (List (List ℕ)) Fault
+id_added activity line ids id = if activity then one_more line ids id else Ok ids
 
-abbrev pub with_id : Option ℕ → List (List ℕ) → Row → List (List ℕ)
-with_id place ids row = with_that place ids (id_of place (length ids) row.cells) row.cells
+abbrev pub with_that : Option ℕ → ℕ → List (List ℕ) → List ℕ → List (List ℕ) → Result (List (List ℕ)) Fault
+with_that place line ids id cells = id_added (is_activity place id cells) line ids id
 
--- the ids of the activities
-abbrev pub ids_of : Option ℕ → List Row → List (List ℕ)
-ids_of place rows = fold (with_id place) [] rows
+abbrev pub with_id : Option ℕ → List (List ℕ) → Row → Result (List (List ℕ)) Fault
+with_id place ids row = with_that place row.line ids (id_of place (length ids) row.cells) row.cells
+
+-- the ids of the activities, behind others
+unfoldable pub ids_at : Option ℕ → List (List ℕ) → List Row → Result (List (List ℕ)) Fault
+ids_at place ids [] = Ok ids
+ids_at place ids (row ∷ rows) = do
+  more ← with_id place ids row
+  ids_at place more rows
 
 -- what rows say so far: the activities, the capacities if their row has come, and the durations in
 -- all
@@ -135,6 +150,11 @@ entries_at heads place ids e (row ∷ rows) = do
 abbrev pub no_entries : Entries
 no_entries = record { activities = []; capacities = None; total = 0 }
 
--- what the rows of a table say
-abbrev pub entries_in : List Head → List Row → Result Entries Fault
-entries_in heads rows = entries_at heads (id_place heads) (ids_of (id_place heads) rows) no_entries rows
+-- what the rows of a table say; too many rows come before any other error of a row, and a table
+-- has an activity
+unfoldable pub entries_in : List Head → List Row → Result Entries Fault
+entries_in heads rows = do
+  ids ← ids_at (id_place heads) [] rows
+  e ← entries_at heads (id_place heads) ids no_entries rows
+  some ← check (nat_le 1 (length e.activities)) code.Limit 0
+  Ok e

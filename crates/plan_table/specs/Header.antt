@@ -1,5 +1,5 @@
 -- The header of a table: what each column has.
-use Rattle.std.specs.Prelude.{ℕ, ◌+◌, ◌==◌, ◌||◌, Bool, if◌then◌else◌, List, [], ◌∷◌, ◌++◌, Result, Ok, length, map, not, nat_le, codes}
+use Rattle.std.specs.Prelude.{ℕ, ◌+◌, ◌==◌, ◌&&◌, ◌||◌, Bool, if◌then◌else◌, List, [], ◌∷◌, ◌++◌, Result, Ok, length, map, not, nat_le, codes}
 use Rattle.std.specs.List.{list_any, sum_by}
 use Rattle.std.specs.Char.{to_ascii_lowercase}
 use Rattle.std.specs.String.{string_bytes}
@@ -47,6 +47,17 @@ column_of key =
 abbrev pub has_key : List ℕ → List Head → Bool
 has_key key heads = list_any (λ head. same head.key key) heads
 
+-- two headers of one column: the same header twice, or two words for one kind
+abbrev pub same_column : List ℕ → List ℕ → Bool
+same_column a b =
+    same a b
+    || (is_name_key a && is_name_key b)
+    || (is_predecessors_key a && is_predecessors_key b)
+
+-- a column has this header, or another word for it
+abbrev pub has_column : List ℕ → List Head → Bool
+has_column key heads = list_any (λ head. same_column head.key key) heads
+
 -- 1 for a resource
 abbrev pub resource_count : Column → ℕ
 resource_count columns.Resource = 1
@@ -60,9 +71,9 @@ resource_count columns.Nothing = 0
 abbrev pub resources_in : List Head → ℕ
 resources_in heads = sum_by (λ head. resource_count head.column) heads
 
--- a header that isn't empty comes once
+-- a column with a header comes once, by whatever word
 abbrev pub once : List Head → List ℕ → Result (Unit {0}) Fault
-once before cell = if length (key_of cell) == 0 || not (has_key (key_of cell) before) then Ok tt else fault code.ColumnTwice 0 (trim cell)
+once before cell = if length (key_of cell) == 0 || not (has_column (key_of cell) before) then Ok tt else fault code.ColumnTwice 0 (trim cell)
 
 -- a column behind others
 unfoldable pub head_read : ℕ → List Head → List ℕ → Result Head Fault

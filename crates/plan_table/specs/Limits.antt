@@ -1,6 +1,8 @@
 -- The limits of a table.
-use Rattle.std.specs.Prelude.{ℕ, ◌≡◌, ◌+◌, ◌≤◌, ◌<◌, true, List, length, nat_le}
-use Rattle.std.specs.List.{AllByRecursion, list_all, sum_by}
+use Rattle.std.specs.Prelude.{ℕ, ◌≡◌, ◌+◌, ◌≤◌, ◌<◌, ◌&&◌, Bool, true, List, length, nat_le, not}
+use Rattle.std.specs.Char.{is_control}
+use Rattle.std.specs.List.{AllByRecursion, list_all, list_any, sum_by}
+use Rattle.std.specs.Str.{chars, is_utf8}
 use Rattle.plan_net.specs.Limits.{IsSound, longest_duration, longest_sum}
 use Rattle.plan_psplib.specs.Head.{most_resources}
 use Rattle.plan_psplib.specs.Lines.{trim}
@@ -16,11 +18,16 @@ most_rows = 500
 abbrev pub longest_name : ℕ
 longest_name = 200
 
+-- a text is UTF-8 and has no control character: U+0000 to U+001F, U+007F to U+009F
+abbrev pub is_printable : List ℕ → Bool
+is_printable text = is_utf8 text && not (list_any is_control (chars text))
+
 -- a name is short, without control characters and without blanks at its ends
 pub record IsName (name : List ℕ) : Type 0 where
   pub short : length name ≤ longest_name
   pub trimmed : trim name ≡ name
   pub plain : list_all (λ byte. nat_le 32 byte) name ≡ true
+  pub printable : is_printable name ≡ true
 
 -- an activity of a table with n activities and k resources
 pub record IsEntry (n k : ℕ) (a : Activity) : Type 0 where

@@ -11,7 +11,7 @@ use Rattle.plan_table.specs.declared.listing.Listing as declared
 use Rattle.plan_table.specs.Csv.{Row, records_of}
 use Rattle.plan_table.specs.Reading.{Fault, fault, check, ◌>>=◌}
 use Rattle.plan_table.specs.Header.{Head, header}
-use Rattle.plan_table.specs.Entries.{entries_in}
+use Rattle.plan_table.specs.Entries.{entries_in, filled_from}
 use Rattle.plan_table.specs.Overrides.{Override, given, or_row, overrides_checked}
 use Rattle.plan_table.specs.Table.{Resource, Table, table_of}
 
@@ -83,7 +83,7 @@ rows_read text = do
 
 -- what a text says, with capacities that override those in it
 abbrev pub table_read_with : List Override → List ℕ → Result Table Fault
-table_read_with overrides text = rows_read text >>= table_in overrides
+table_read_with overrides text = rows_read text >>= λ rows. table_in overrides (filled_from rows)
 
 -- what a text says
 abbrev pub table_read : List ℕ → Result Table Fault

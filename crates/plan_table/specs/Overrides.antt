@@ -6,7 +6,7 @@ use Rattle.plan_table.specs.declared.fault.TableCode.TheVariants as code
 use Rattle.plan_table.specs.declared.header.Column.{Column}
 use Rattle.plan_table.specs.declared.header.Column.TheVariants as columns
 use Rattle.plan_table.specs.declared.overrides.Override as declared
-use Rattle.plan_table.specs.Cells.{same}
+use Rattle.plan_table.specs.Cells.{same_name}
 use Rattle.plan_table.specs.Header.{Head}
 use Rattle.plan_table.specs.Reading.{Fault, fault, check, ◌>>=◌}
 
@@ -27,9 +27,9 @@ is_resource_column columns.Name = false
 is_resource_column columns.Predecessors = false
 is_resource_column columns.Nothing = false
 
--- a column is the resource of a name
+-- a column is the resource of a name, without regard to ASCII case
 abbrev pub is_resource : List ℕ → Head → Bool
-is_resource name head = is_resource_column head.column && same head.name name
+is_resource name head = is_resource_column head.column && same_name head.name name
 
 -- a resource that the table has
 abbrev pub known_resource : Bool → List ℕ → Result (Unit {0}) Fault
@@ -49,7 +49,7 @@ overrides_checked heads (o ∷ os) = do
 
 -- the amount with that of an override, if it is for the resource of this name
 abbrev pub overridden : List ℕ → Option ℕ → Override → Option ℕ
-overridden name found o = if same o.resource name then Some o.amount else found
+overridden name found o = if same_name o.resource name then Some o.amount else found
 
 -- the amount of the last override for a resource
 abbrev pub given : List Override → List ℕ → Option ℕ

@@ -9,6 +9,7 @@ use Rattle.plan_psplib.specs.Lines.{is_blank, trim}
 use Rattle.plan_table.specs.Reading.{Fault, fault, check, ◌>>=◌}
 use Rattle.plan_table.specs.Cells.{same, amount, name, is_separator, predecessors}
 use Rattle.plan_table.specs.Header.{Head}
+use Rattle.plan_table.specs.Limits.{is_printable}
 use Rattle.plan_table.specs.Table.{Activity}
 
 -- 1 for the first byte of a character
@@ -28,7 +29,7 @@ abbrev pub longest_id : ℕ
 longest_id = 32
 
 abbrev pub is_id : List ℕ → Bool
-is_id cell = not (length cell == 0) && nat_le (characters cell) longest_id && list_all is_id_byte cell
+is_id cell = not (length cell == 0) && nat_le (characters cell) longest_id && list_all is_id_byte cell && is_printable cell
 
 -- an id that no earlier activity has
 abbrev pub new_id : List (List ℕ) → ℕ → List ℕ → Result (Unit {0}) Fault

@@ -11,7 +11,7 @@ use Rattle.plan_table.specs.declared.shop_reading.ShopEntries as declared
 use Rattle.plan_table.specs.declared.shop_table.ShopStep.{ShopStep}
 use Rattle.plan_table.specs.Cells.{amount, name, same}
 use Rattle.plan_table.specs.Csv.{Row}
-use Rattle.plan_table.specs.Entries.{is_blank_row}
+use Rattle.plan_table.specs.Entries.{filled_from, is_blank_row}
 use Rattle.plan_table.specs.Header.{key_of}
 use Rattle.plan_table.specs.Listing.{rows_read}
 use Rattle.plan_table.specs.Reading.{Fault, fault, check, ◌>>=◌}
@@ -45,12 +45,16 @@ can_end columns.Time = false
 abbrev pub column_holds : Bool → ShopColumn → Result (Unit {0}) Fault
 column_holds holds column = if holds then Ok tt else fault code.NoDuration 0 (header_of column)
 
--- the headers from a column on
+-- the header ends before a column: no other header stands in these cells
+abbrev pub ends_before : ShopColumn → List (List ℕ) → Bool
+ends_before column cells = can_end column && is_blank_row cells
+
+-- the headers from a column on; columns without a header may stand behind the last pair
 unfoldable pub shop_header : ShopColumn → List (List ℕ) → Result (Unit {0}) Fault
 shop_header column [] = column_holds (can_end column) column
-shop_header column (cell ∷ cells) = do
-  known ← column_holds (same (key_of cell) (header_of column)) column
-  shop_header (next_column column) cells
+shop_header column (cell ∷ cells) =
+    if ends_before column (cell ∷ cells) then Ok tt
+    else column_holds (same (key_of cell) (header_of column)) column >>= λ known. shop_header (next_column column) cells
 
 -- ---- names
 
@@ -181,4 +185,4 @@ shop_in (first ∷ rows) = do
 
 -- what a text says
 abbrev pub shop_table_read : List ℕ → Result ShopTable Fault
-shop_table_read text = rows_read text >>= shop_in
+shop_table_read text = rows_read text >>= λ rows. shop_in (filled_from rows)

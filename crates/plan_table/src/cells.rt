@@ -1,12 +1,15 @@
 //! The cells of an activity.
 
 ghost use Rattle.std.specs.Prelude.{◌≡◌, ◌≤◌, ℕ, List, Option, length, map, nat_le, IfOk, string_bytes};
-ghost use Rattle.std.specs.List.{list_all};
+ghost use Rattle.std.specs.Char.{is_control};
+ghost use Rattle.std.specs.List.{list_all, list_any};
+ghost use Rattle.std.specs.Str.{chars};
 ghost use Rattle.plan_table.specs.Cells as spec;
 ghost use Rattle.plan_table.specs.Csv.{Row};
 ghost use Rattle.plan_table.specs.Header.{Head};
 ghost use Rattle.plan_table.specs.Entries.{Entries};
 ghost use Rattle.plan_table.specs.Table.{Activity, Resource, Table};
+ghost use Rattle.plan_table.specs.Limits as limits;
 ghost use Rattle.plan_table.specs.Limits.{most_rows};
 ghost use Rattle.plan_table.specs.Reading.{Fails, Gives, fault};
 
@@ -30,6 +33,7 @@ pub fn word_fault(alloc: Global, code: TableCode, line: u64, word: &[u8]) -> Rea
     ensures resources { Fails result (fault {A = List Resource} code line word.now) }
     ensures rows { Fails result (fault {A = List Row} code line word.now) }
     ensures entries { Fails result (fault {A = Entries} code line word.now) }
+    ensures ids { Fails result (fault {A = List (List ℕ)} code line word.now) }
     ensures capacities { Fails result (fault {A = List (Option ℕ)} code line word.now) }
 {
     match Vec::from_slice(alloc, word) {
@@ -43,6 +47,14 @@ pub fn same(a: &[u8], b: &[u8]) -> bool
     ensures { result ≡ spec.same a.now b.now }
 {
     a.len() == b.len() && a.starts_with(b)
+}
+
+/// Whether two texts are the same without regard to ASCII case.
+#[tactic(auto, unfolding(crate::specs::Cells::same_name))]
+pub fn same_name(a: &[u8], b: &[u8]) -> bool
+    ensures { result ≡ spec.same_name a.now b.now }
+{
+    a.eq_ignore_ascii_case(b)
 }
 
 /// The amount in a cell.
@@ -71,6 +83,24 @@ fn is_plain(name: &[u8]) -> bool
     name.iter().all(|&byte| byte >= 32)
 }
 
+// Whether a text has a control character.
+fn has_control(text: &str) -> bool
+    ensures { result ≡ list_any is_control (chars text.now) }
+{
+    text.chars().any(|c| c.is_control())
+}
+
+/// Whether a text is UTF-8 and has no control character.
+#[tactic(auto, using(crate::proofs::ReadLemmas::not_text, crate::proofs::ReadLemmas::is_text))]
+pub fn is_printable(text: &[u8]) -> bool
+    ensures { result ≡ limits.is_printable text.now }
+{
+    match str::from_utf8(text) {
+        Ok(text) => !has_control(text),
+        Err(_) => false,
+    }
+}
+
 /// The name in a cell.
 #[tactic(auto, unfolding(crate::specs::Cells::name), using(crate::proofs::ReadLemmas::not_text, crate::proofs::ReadLemmas::is_text))]
 pub fn name(alloc: Global, line: u64, cell: &[u8]) -> Result<String, ReadError>
@@ -82,10 +112,10 @@ pub fn name(alloc: Global, line: u64, cell: &[u8]) -> Result<String, ReadError>
     if !is_plain(cell) {
         return Err(word_fault(alloc, TableCode::NotText, line, b""));
     }
-    let Ok(text) = str::from_utf8(cell) else {
-        return Err(word_fault(alloc, TableCode::NotText, line, b""));
-    };
-    Ok(String::from_str(alloc, text)?)
+    match str::from_utf8(cell) {
+        Ok(text) if is_printable(cell) => Ok(String::from_str(alloc, text)?),
+        _ => Err(word_fault(alloc, TableCode::NotText, line, b"")),
+    }
 }
 
 // A space in place of what stands between ids.
@@ -129,6 +159,9 @@ fn predecessor(alloc: Global, ids: &[Vec<u8>], line: u64, id: &[u8]) -> Result<u
     ensures { Gives (λ n. n) result (spec.predecessor (map (λ other. other.items) ids.now)
         line id.now) }
 {
+    if !is_printable(id) {
+        return Err(word_fault(alloc, TableCode::NotText, line, b""));
+    }
     match number_of(ids, id) {
         Some(n) => Ok(n),
         None => Err(word_fault(alloc, TableCode::NoSuchId, line, id)),

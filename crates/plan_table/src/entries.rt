@@ -10,7 +10,7 @@ ghost use Rattle.plan_table.specs.Reading.{Gives};
 ghost use Rattle.plan_table.specs.Rows.{first_cell};
 ghost use Rattle.plan_table.specs.Table.{activity_of};
 
-use crate::cells::{amount, same, word_fault};
+use crate::cells::{amount, same, same_name, word_fault};
 use crate::fault::{ReadError, TableCode};
 use crate::header::{Column, Head};
 use crate::records::Row;
@@ -42,11 +42,23 @@ pub fn is_blank_row(cells: &[Vec<u8>]) -> bool
     true
 }
 
+/// The rows from the first one in which something stands.
+pub fn filled_from(rows: &[Row]) -> &[Row]
+    ensures { map row_of result.now ≡ spec.filled_from (map row_of rows.now) }
+{
+    for (k, row) in rows.iter().enumerate() {
+        if !is_blank_row(&row.cells) {
+            return &rows[k..];
+        }
+    }
+    &[]
+}
+
 // Whether a row is that of the capacities.
 fn is_capacity(place: Option<usize>, id: &[u8]) -> bool
     ensures { result ≡ spec.is_capacity place id.now }
 {
-    place.is_some() && same(id, b"capacity")
+    place.is_some() && same_name(id, b"capacity")
 }
 
 // The cell at a place, an empty one if there is none.
@@ -98,30 +110,35 @@ fn id_of(
     }
 }
 
-// Whether the id of a row is that of an activity, and there is room for it.
-fn takes_id(place: Option<usize>, count: usize, id: &[u8], cells: &[Vec<u8>]) -> bool
-    ensures { result ≡ spec.takes place count id.now (map (λ cell. cell.items) cells.now) }
+// Whether a row with this id is that of an activity.
+fn is_activity(place: Option<usize>, id: &[u8], cells: &[Vec<u8>]) -> bool
+    ensures { result ≡ spec.is_activity place id.now (map (λ cell. cell.items) cells.now) }
 {
-    !is_blank_row(cells) && !is_capacity(place, id) && count < MOST_ROWS
+    !is_blank_row(cells) && !is_capacity(place, id)
 }
 
 // The ids with that of a row.
+#[tactic(auto, unfolding(crate::specs::Entries::one_more))]
 fn push_id(
     alloc: Global,
     place: Option<usize>,
     ids: &mut Vec<Vec<u8>>,
     row: &Row,
-) -> Result<(), AllocError>
+) -> Result<(), ReadError>
     requires { length ids.old.items ≤ most_rows }
-    ensures ids { OnOk result (map (λ id. id.items) ids.new.items ≡ spec.with_id place
+    ensures ids { Gives (λ _. map (λ id. id.items) ids.new.items) result (spec.with_id place
         (map (λ id. id.items) ids.old.items) (row_of row.now)) }
     ensures few { OnOk result (length ids.new.items ≤ most_rows) }
 {
     let count = ids.as_slice().len();
     let id = id_of(alloc, place, count, &row.cells)?;
-    if takes_id(place, count, &id, &row.cells) {
-        ids.push(id)?;
+    if !is_activity(place, &id, &row.cells) {
+        return Ok(());
     }
+    if count >= MOST_ROWS {
+        return Err(word_fault(alloc, TableCode::Limit, row.line, b""));
+    }
+    ids.push(id)?;
     Ok(())
 }
 
@@ -202,8 +219,9 @@ fn read_capacities(
 }
 
 // The ids of the activities.
-fn read_ids(alloc: Global, place: Option<usize>, rows: &[Row]) -> Result<Vec<Vec<u8>>, AllocError>
-    ensures ids { IfOk result (λ v. map (λ id. id.items) v.items ≡ spec.ids_of place
+#[tactic(auto, unfolding(crate::specs::Entries::ids_at))]
+fn read_ids(alloc: Global, place: Option<usize>, rows: &[Row]) -> Result<Vec<Vec<u8>>, ReadError>
+    ensures ids { Gives (λ v. map (λ id. id.items) v.items) result (spec.ids_at place []
         (map row_of rows.now)) }
     ensures few { IfOk result (λ v. length v.items ≤ most_rows) }
 {
@@ -308,21 +326,42 @@ fn read_entry(
     read_activity_row(alloc, heads, ids, entries, row.line, &id, &row.cells)
 }
 
-/// What the rows of a table say.
+// What rows say, with these ids of all activities.
 #[tactic(auto, unfolding(crate::specs::Entries::entries_at))]
-pub fn read_entries(alloc: Global, heads: &[Head], rows: &[Row]) -> Result<Entries, ReadError>
-    ensures { Gives spec.entries_of result (spec.entries_in (map head_of heads.now)
-        (map row_of rows.now)) }
+fn read_all(
+    alloc: Global,
+    heads: &[Head],
+    place: Option<usize>,
+    ids: &[Vec<u8>],
+    rows: &[Row],
+) -> Result<Entries, ReadError>
+    requires { length ids.now ≤ most_rows }
+    ensures { Gives spec.entries_of result (spec.entries_at (map head_of heads.now) place
+        (map (λ id. id.items) ids.now) spec.no_entries (map row_of rows.now)) }
 {
-    let place = id_place(heads);
-    let ids = read_ids(alloc, place, rows)?;
     let mut entries = Entries {
         activities: Vec::new(alloc),
         capacities: None,
         total: 0,
     };
     for row in rows {
-        read_entry(alloc, heads, place, &ids, &mut entries, row)?;
+        read_entry(alloc, heads, place, ids, &mut entries, row)?;
+    }
+    Ok(entries)
+}
+
+/// What the rows of a table say. T12 (the line of the row) if there are more than 500 activities
+/// comes before any other error of a row; T12 (line 0) if there is none comes last.
+#[tactic(auto, unfolding(crate::specs::Entries::entries_in))]
+pub fn read_entries(alloc: Global, heads: &[Head], rows: &[Row]) -> Result<Entries, ReadError>
+    ensures { Gives spec.entries_of result (spec.entries_in (map head_of heads.now)
+        (map row_of rows.now)) }
+{
+    let place = id_place(heads);
+    let ids = read_ids(alloc, place, rows)?;
+    let entries = read_all(alloc, heads, place, &ids, rows)?;
+    if entries.activities.is_empty() {
+        return Err(word_fault(alloc, TableCode::Limit, 0, b""));
     }
     Ok(entries)
 }

@@ -31,11 +31,11 @@ impl From<AllocError> for TextFault {
 pub enum TableCode {
     /// T1: more than 1,048,576 bytes.
     TooLong,
-    /// T2: not UTF-8, or a control character in a name.
+    /// T2: not UTF-8, or a control character in a name or a predecessor.
     NotText,
     /// T3: no column of durations; in a list of orders the word is the missing header.
     NoDuration,
-    /// T4: a header twice.
+    /// T4: a column twice, by whatever word.
     ColumnTwice,
     /// T5: an invalid duration.
     BadDuration,

@@ -84,6 +84,27 @@ pub fn has_key(heads: &[Head], key: &[u8]) -> bool
     false
 }
 
+// Whether two headers are those of one column.
+fn same_column(a: &[u8], b: &[u8]) -> bool
+    ensures { result ≡ spec.same_column a.now b.now }
+{
+    same(a, b)
+        || is_name_key(a) && is_name_key(b)
+        || is_predecessors_key(a) && is_predecessors_key(b)
+}
+
+// Whether a column has this header, or another word for it.
+fn has_column(heads: &[Head], key: &[u8]) -> bool
+    ensures { result ≡ spec.has_column key.now (map spec.head_of heads.now) }
+{
+    for head in heads {
+        if same_column(&head.key, key) {
+            return true;
+        }
+    }
+    false
+}
+
 // 1 for a resource.
 fn resource_count(column: Column) -> usize
     ensures value { result ≡ spec.resource_count column }
@@ -107,12 +128,12 @@ pub fn resources_in(heads: &[Head]) -> usize
     count
 }
 
-// A header that isn't empty comes once.
+// A column with a header comes once, by whatever word.
 fn check_once(alloc: Global, before: &[Head], key: &[u8], cell: &[u8]) -> Result<(), ReadError>
     requires { key.now ≡ spec.key_of cell.now }
     ensures { Gives (λ u. u) result (spec.once (map spec.head_of before.now) cell.now) }
 {
-    if key.is_empty() || !has_key(before, key) {
+    if key.is_empty() || !has_column(before, key) {
         return Ok(());
     }
     Err(word_fault(alloc, TableCode::ColumnTwice, 0, trim(cell)))

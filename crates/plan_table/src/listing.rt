@@ -10,7 +10,7 @@ ghost use Rattle.plan_table.specs.Reading.{Gives};
 ghost use Rattle.plan_table.specs.Table.{resource_of};
 
 use crate::cells::word_fault;
-use crate::entries::read_entries;
+use crate::entries::{filled_from, read_entries};
 use crate::fault::{ReadError, TableCode};
 use crate::header::{Column, Head, read_header};
 use crate::overrides::{Override, check_overrides, given};
@@ -188,5 +188,5 @@ pub fn read_listing(
         text.now) }
 {
     let rows = read_rows_of(alloc, text)?;
-    read_rows(alloc, overrides, &rows)
+    read_rows(alloc, overrides, filled_from(&rows))
 }

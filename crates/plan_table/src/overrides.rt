@@ -6,13 +6,14 @@ ghost use Rattle.plan_table.specs.Header.{head_of};
 ghost use Rattle.plan_table.specs.Overrides as spec;
 ghost use Rattle.plan_table.specs.Reading.{Gives};
 
-use crate::cells::{same, word_fault};
+use crate::cells::{same_name, word_fault};
 use crate::fault::{ReadError, TableCode};
 use crate::header::{Column, Head};
 use plan_psplib::GREATEST_AMOUNT;
 use std::alloc::Global;
 
-/// The capacity of the resource with this name (0–10,000). It overrides the one in the table.
+/// The capacity of the resource with this name (0–10,000). It overrides the one in the table. ASCII
+/// case doesn't matter, as in a header.
 #[derive(Clone, Copy, Debug)]
 pub struct Override<'a> {
     pub resource: &'a [u8],
@@ -24,7 +25,7 @@ fn is_resource(head: &Head, name: &[u8]) -> bool
     ensures { result ≡ spec.is_resource name.now (head_of head.now) }
 {
     match head.column {
-        Column::Resource => same(head.name.as_bytes(), name),
+        Column::Resource => same_name(head.name.as_bytes(), name),
         _ => false,
     }
 }
@@ -78,7 +79,7 @@ pub fn given(overrides: &[Override<'_>], name: &[u8]) -> Option<u32>
 {
     let mut found = None;
     for other in overrides {
-        if same(other.resource, name) {
+        if same_name(other.resource, name) {
             found = Some(other.amount);
         }
     }

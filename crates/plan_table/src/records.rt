@@ -1,13 +1,14 @@
 //! A table's text as records of cells.
 
-ghost use Rattle.std.specs.Prelude.{◌≡◌, ◌≤◌, ◌<◌, ◌+◌, length, map, fold, IfOk, OnOk};
+ghost use Rattle.std.specs.Prelude.{◌≡◌, ◌≤◌, ◌<◌, ◌+◌, ◌∷◌, length, map, fold, IfOk, OnOk};
 ghost use Rattle.csv.specs.Machine.{ends_at_end as ends};
 ghost use Rattle.std.specs.List.{position};
-ghost use Rattle.plan_psplib.specs.Lines.{is_line_feed};
+ghost use Rattle.plan_psplib.specs.Lines.{is_line_feed, raw_lines};
 ghost use Rattle.plan_psplib.specs.Plain.{longest_text};
 ghost use Rattle.plan_table.specs.Csv as spec;
 
 use crate::csv_step::{Action, State, step};
+use plan_psplib::trim;
 use std::alloc::{AllocError, Global};
 use std::mem::replace;
 
@@ -185,14 +186,32 @@ fn first_line_end(text: &[u8]) -> Option<usize>
     text.iter().position(|&byte| byte == b'\n')
 }
 
-// The first line of a text.
+// Splits a nonempty text into its first line and the text behind it.
+#[tactic(auto, using(crate::proofs::HeaderLineLemmas::first_line, crate::proofs::HeaderLineLemmas::only_line))]
+fn cut_line(text: &[u8]) -> (&[u8], &[u8])
+    requires { 0 < length text.now }
+    ensures line { raw_lines text.now ≡ result.0.now ∷ raw_lines result.1.now }
+    ensures shorter { length result.1.now < length text.now }
+{
+    match first_line_end(text) {
+        Some(end) => (&text[..end], &text[end + 1..]),
+        None => (text, &[]),
+    }
+}
+
+// The first line of a text in which something stands.
 fn header_line(text: &[u8]) -> &[u8]
     ensures { result.now ≡ spec.header_line text.now }
 {
-    match first_line_end(text) {
-        Some(end) => &text[..end],
-        None => text,
+    let mut rest = text;
+    while !rest.is_empty() {
+        let (line, others) = cut_line(rest);
+        if !trim(line).is_empty() {
+            return line;
+        }
+        rest = others;
     }
+    b""
 }
 
 // A text without a byte-order mark at its start.
@@ -216,8 +235,9 @@ fn read(alloc: Global, text: &[u8]) -> Result<Machine, AllocError>
 
 /// The records of a table's text, or the line of a record in which a quote isn't closed.
 ///
-/// The delimiter is the first of tab, semicolon and comma that the first line has; a byte-order
-/// mark is skipped. Records are those of the `csv` crate (RFC 4180).
+/// The delimiter is the first of tab, semicolon and comma that the header line has: the first line
+/// in which something stands. A byte-order mark is skipped. Records are those of the `csv` crate
+/// (RFC 4180).
 #[tactic(auto, unfolding(crate::specs::Csv::records_of))]
 pub fn read_records(alloc: Global, text: &[u8]) -> Result<Result<Vec<Row>, u64>, AllocError>
     requires { length text.now ≤ longest_text }

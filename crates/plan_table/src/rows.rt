@@ -10,7 +10,7 @@ ghost use Rattle.plan_table.specs.Reading.{Gives};
 ghost use Rattle.plan_table.specs.Rows as spec;
 ghost use Rattle.plan_table.specs.Table.{activity_of};
 
-use crate::cells::{amount, name, predecessors, same, word_fault};
+use crate::cells::{amount, is_printable, name, predecessors, same, word_fault};
 use crate::fault::{ReadError, TableCode};
 use crate::header::{Column, Head};
 use crate::table::Activity;
@@ -54,7 +54,7 @@ fn all_id_bytes(cell: &[u8]) -> bool
 fn is_id(cell: &[u8]) -> bool
     ensures { result ≡ spec.is_id cell.now }
 {
-    !cell.is_empty() && characters(cell) <= 32 && all_id_bytes(cell)
+    !cell.is_empty() && characters(cell) <= 32 && all_id_bytes(cell) && is_printable(cell)
 }
 
 // Whether an id is among others.

@@ -1,10 +1,12 @@
-//! The header of a list of orders: `order`, and then pairs of `machine` and `time`.
+//! The header of a list of orders: `order`, and then pairs of `machine` and `time`. Columns without a
+//! header may follow.
 
 ghost use Rattle.std.specs.Prelude.{◌≡◌, map};
 ghost use Rattle.plan_table.specs.Reading.{Gives};
 ghost use Rattle.plan_table.specs.ShopReading as spec;
 
 use crate::cells::{same, word_fault};
+use crate::entries::is_blank_row;
 use crate::fault::{ReadError, TableCode};
 use crate::header::key_of;
 use std::alloc::Global;
@@ -49,6 +51,13 @@ fn can_end(column: ShopColumn) -> bool
     matches!(column, ShopColumn::Machine)
 }
 
+// Whether the header ends before a column: no other header stands in these cells.
+fn ends_before(column: ShopColumn, cells: &[Vec<u8>]) -> bool
+    ensures { result ≡ spec.ends_before column (map (λ cell. cell.items) cells.now) }
+{
+    can_end(column) && is_blank_row(cells)
+}
+
 // A test of the header of a column.
 fn check_column(alloc: Global, holds: bool, column: ShopColumn) -> Result<(), ReadError>
     ensures { Gives (λ u. u) result (spec.column_holds holds column) }
@@ -66,7 +75,10 @@ pub fn read_shop_header(alloc: Global, cells: &[Vec<u8>]) -> Result<(), ReadErro
         (map (λ cell. cell.items) cells.now)) }
 {
     let mut column = ShopColumn::Order;
-    for cell in cells {
+    for (k, cell) in cells.iter().enumerate() {
+        if ends_before(column, &cells[k..]) {
+            return Ok(());
+        }
         let key = key_of(alloc, cell)?;
         check_column(alloc, same(&key, header_of(column)), column)?;
         column = next_column(column);

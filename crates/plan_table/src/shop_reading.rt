@@ -7,7 +7,7 @@ ghost use Rattle.plan_table.specs.ShopReading as spec;
 ghost use Rattle.plan_table.specs.ShopTable.{ShopTable as Shop, is_of};
 
 use crate::cells::{amount, name, same, word_fault};
-use crate::entries::is_blank_row;
+use crate::entries::{filled_from, is_blank_row};
 use crate::fault::{ReadError, TableCode};
 use crate::listing::read_rows_of;
 use crate::records::Row;
@@ -308,7 +308,7 @@ pub fn read_shop_table(alloc: Global, text: &[u8]) -> Result<ShopTable, ReadErro
     ensures refused { IfErr result (λ e. Fails e (spec.shop_table_read text.now)) }
 {
     let rows = read_rows_of(alloc, text)?;
-    let entries = read_entries(alloc, &rows)?;
+    let entries = read_entries(alloc, filled_from(&rows))?;
     Ok(ShopTable {
         orders: entries.orders,
         machines: entries.machines,

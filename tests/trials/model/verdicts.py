@@ -53,6 +53,22 @@ def has_shift(project, starts, j):
     return any(fits(project, others, j, t) for t in (first, *ends) if first <= t < starts[j])
 
 
+def is_feasible(project, starts):
+    is_kept = not any(is_broken(project, starts, arc) for arc in project.arcs)
+    return is_kept and first_over(project, starts) is None
+
+
+def slack(project, starts, j):
+    """The greatest delay of j such that, while the others stay, each delay up to it leaves the
+    schedule feasible and its makespan the same."""
+    ends = {i: start + project.durations[i] for i, start in starts.items()}
+    most = max(ends.values()) - ends[j]
+    for delay in range(1, most + 1):
+        if not is_feasible(project, {**starts, j: starts[j] + delay}):
+            return delay - 1
+    return most
+
+
 def verdict(project, starts):
     """The first verdict, in a sentence."""
     broken = [arc for arc in sorted(project.arcs) if is_broken(project, starts, arc)]

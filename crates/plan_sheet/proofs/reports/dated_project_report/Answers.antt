@@ -1,4 +1,4 @@
-use Rattle.std.proofs.Common.{map, ap, refl, ◌∙◌}
+use Rattle.std.proofs.Common.{true, map, ap, refl, ◌∙◌}
 use Rattle.plan_table.specs.Names.{name_of}
 use Rattle.plan_sheet.specs.Escape.{markup_of}
 use Rattle.plan_sheet.specs.Reports.{project_page}
@@ -12,7 +12,7 @@ returns-clause-text c =
       are = c.in_ok-days.ensures.days;
       shown = c.in_ok-text.ensures.text
           ∙ ap (λ ds. project_page c.args.title.now (map name_of c.args.names.now.activities.now) (map name_of c.args.names.now.resources.now)
-          c.args.instance.now c.args.starts.now ds c.args.margins.now.floats.now c.args.margins.now.slacks.now) c.deref.ensures.value;
+          c.args.instance.now c.args.starts.now true ds c.args.margins.now.floats.now c.args.margins.now.slacks.now) c.deref.ensures.value;
     }
 
 pub returns-clause-safe : goal.returns-clause-safe
@@ -21,7 +21,7 @@ returns-clause-safe c = (
   record { days = c.in_ok-days.days.items; are = c.in_ok-days.ensures.days; shown = refl },
   ap markup_of (c.in_ok-text.ensures.text
       ∙ ap (λ ds. project_page c.args.title.now (map name_of c.args.names.now.activities.now) (map name_of c.args.names.now.resources.now)
-      c.args.instance.now c.args.starts.now ds c.args.margins.now.floats.now c.args.margins.now.slacks.now) c.deref.ensures.value)
+      c.args.instance.now c.args.starts.now true ds c.args.margins.now.floats.now c.args.margins.now.slacks.now) c.deref.ensures.value)
       ∙ same_project c.args.title.now (map name_of c.args.names.now.activities.now) (map name_of c.args.names.now.resources.now)
-      c.args.instance.now c.args.starts.now c.in_ok-days.days.items c.args.margins.now.floats.now c.args.margins.now.slacks.now,
+      c.args.instance.now c.args.starts.now true c.in_ok-days.days.items c.args.margins.now.floats.now c.args.margins.now.slacks.now,
 )

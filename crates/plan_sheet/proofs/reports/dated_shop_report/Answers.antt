@@ -1,4 +1,4 @@
-use Rattle.std.proofs.Common.{map, ap, refl, ◌∙◌}
+use Rattle.std.proofs.Common.{true, map, ap, refl, ◌∙◌}
 use Rattle.plan_table.specs.Names.{name_of}
 use Rattle.plan_sheet.specs.Escape.{markup_of}
 use Rattle.plan_sheet.specs.Reports.{shop_page}
@@ -12,7 +12,7 @@ returns-clause-text c =
       are = c.in_ok-days.ensures.days;
       shown = c.in_ok-text.ensures.text
           ∙ ap (λ ds. shop_page c.args.title.now (map name_of c.args.machines.now) (map name_of c.args.orders.now) c.args.shop.now
-          c.args.starts.now c.args.by_job ds) c.deref.ensures.value;
+          c.args.starts.now c.args.by_job true ds) c.deref.ensures.value;
     }
 
 pub returns-clause-safe : goal.returns-clause-safe
@@ -21,7 +21,7 @@ returns-clause-safe c = (
   record { days = c.in_ok-days.days.items; are = c.in_ok-days.ensures.days; shown = refl },
   ap markup_of (c.in_ok-text.ensures.text
       ∙ ap (λ ds. shop_page c.args.title.now (map name_of c.args.machines.now) (map name_of c.args.orders.now) c.args.shop.now
-      c.args.starts.now c.args.by_job ds) c.deref.ensures.value)
+      c.args.starts.now c.args.by_job true ds) c.deref.ensures.value)
       ∙ same_shop c.args.title.now (map name_of c.args.machines.now) (map name_of c.args.orders.now) c.args.shop.now c.args.starts.now
-      c.args.by_job c.in_ok-days.days.items,
+      c.args.by_job true c.in_ok-days.days.items,
 )

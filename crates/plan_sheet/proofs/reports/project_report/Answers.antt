@@ -1,4 +1,4 @@
-use Rattle.std.proofs.Common.{[], map, ap, ◌∙◌}
+use Rattle.std.proofs.Common.{false, [], map, ap, ◌∙◌}
 use Rattle.plan_table.specs.Names.{name_of}
 use Rattle.plan_sheet.specs.Escape.{markup_of}
 use Rattle.plan_sheet.proofs.ReportMarkupLemmas.{same_project}
@@ -8,4 +8,4 @@ pub returns-clause-safe : goal.returns-clause-safe
 returns-clause-safe c =
     ap markup_of c.in_ok-text.ensures.text
     ∙ same_project c.args.title.now (map name_of c.args.names.now.activities.now) (map name_of c.args.names.now.resources.now)
-    c.args.instance.now c.args.starts.now [] c.args.margins.now.floats.now c.args.margins.now.slacks.now
+    c.args.instance.now c.args.starts.now false [] c.args.margins.now.floats.now c.args.margins.now.slacks.now
