@@ -2,25 +2,28 @@
 #![tactic(auto)]
 
 mod file_log;
+mod hints;
 mod progress;
 
-use self::file_log::FileLog;
+use self::file_log::{FileLog, LogFault};
+use self::hints::{print_error, print_file_error};
 use self::progress::ProgressLine;
 use clap::Error;
 use clap::error::ErrorKind;
 use plan_cli::{
-    CliFault, Log, NamedText, ProofWatcher, Rows, SolveWatcher, Task, Unlogged, Unwatched,
-    explain_run, explain_run_in, hint, run_on_file, run_on_files, template_run,
+    CliFault, Context, Log, NamedText, ProofWatcher, Rows, SolveWatcher, Task, Unlogged, Unwatched,
+    explain_run, explain_run_in, run_on_file, run_on_files, template_run,
 };
 use plan_formats::{Format, error_json};
 use plan_io::{MemSink, Sink, StdSink, write_whole};
 use plan_orders::{
     FileOrder, Lists, Order, capacities_of, command, help, order_of, overrides_of, texts_of,
+    version,
 };
 use plan_print::print_on_files;
 use std::alloc::{AllocError, Global};
 use std::env;
-use std::io::{self, IsTerminal, Write};
+use std::io::{self, Write};
 use std::process::ExitCode;
 
 /// The status of `plan check --status` if the schedule isn't active.
@@ -42,6 +45,31 @@ enum Misuse {
 impl From<AllocError> for Misuse {
     fn from(_: AllocError) -> Misuse {
         Misuse::NoMemory
+    }
+}
+
+/// The error of an order on files.
+#[derive(Drop)]
+enum FileFault {
+    Task(CliFault),
+    Log(LogFault),
+}
+
+impl From<CliFault> for FileFault {
+    fn from(fault: CliFault) -> FileFault {
+        FileFault::Task(fault)
+    }
+}
+
+impl From<LogFault> for FileFault {
+    fn from(fault: LogFault) -> FileFault {
+        FileFault::Log(fault)
+    }
+}
+
+impl From<AllocError> for FileFault {
+    fn from(_: AllocError) -> FileFault {
+        FileFault::Task(CliFault::Memory)
     }
 }
 
@@ -87,8 +115,27 @@ fn explain<W: Sink>(alloc: Global, line: &str, rows: Rows, writer: &mut W) -> Re
     }
 }
 
+// Runs a task of `solve`, and writes to standard output and to a log. If only the output can't be
+// written, the log is complete.
+fn do_solve(
+    rt: &HostRuntime,
+    task: Task<'_>,
+    rows: Rows,
+    seconds: Option<u32>,
+    log: Option<&str>,
+    path: &str,
+) -> Result<(), FileFault> {
+    let mut line = ProgressLine::within(rt, seconds);
+    let mut log = FileLog::create(rt, log, path)?;
+    let done = do_task(rt, task, rows, &mut line, &mut log, path);
+    let ended = log.end(rt, matches!(done, Ok(()) | Err(CliFault::Output)));
+    done?;
+    ended?;
+    Ok(())
+}
+
 // Runs an order on files, and writes to standard output. Returns the status.
-fn do_file_order(rt: &HostRuntime, order: FileOrder<'_>, rows: Rows) -> Result<u8, CliFault> {
+fn do_file_order(rt: &HostRuntime, order: FileOrder<'_>, rows: Rows) -> Result<u8, FileFault> {
     let mut writer = StdSink::new(io::writer(rt));
     match order {
         FileOrder::Task(task, path) => {
@@ -103,12 +150,7 @@ fn do_file_order(rt: &HostRuntime, order: FileOrder<'_>, rows: Rows) -> Result<u
             file,
             seconds,
             log,
-        } => {
-            let mut line = ProgressLine::within(rt, seconds);
-            let mut log = FileLog::create(rt, log)?;
-            do_task(rt, task, rows, &mut line, &mut log, file)?;
-            log.end()?;
-        }
+        } => do_solve(rt, task, rows, seconds, log, file)?,
         FileOrder::Texts {
             task,
             file,
@@ -120,7 +162,7 @@ fn do_file_order(rt: &HostRuntime, order: FileOrder<'_>, rows: Rows) -> Result<u
             file,
             texts,
             ..
-        } => return do_check(rt, task, rows, texts, file),
+        } => return Ok(do_check(rt, task, rows, texts, file)?),
         FileOrder::Print(print) => print_on_files(rt, print, &mut writer)?,
         FileOrder::New(template) => template_run(template, &mut writer)?,
         FileOrder::Explain(words) => {
@@ -131,43 +173,45 @@ fn do_file_order(rt: &HostRuntime, order: FileOrder<'_>, rows: Rows) -> Result<u
     Ok(0)
 }
 
-// Returns whether PLAN_HINTS asks for hints: 1 does, 0 asks for none.
-fn asked_hints(rt: &HostRuntime) -> Option<bool> {
-    let asked = env::var(rt, "PLAN_HINTS").ok()?;
-    match asked.as_str() {
-        "1" => Some(true),
-        "0" => Some(false),
-        _ => None,
-    }
-}
-
-// Whether hints are printed: PLAN_HINTS decides if it is 1 or 0, else they are for a terminal only.
-fn has_hints(rt: &HostRuntime) -> bool {
-    asked_hints(rt).unwrap_or_else(|| rt.stderr().is_terminal())
-}
-
-// Prints a hint, if there is one.
-fn print_hint(rt: &HostRuntime, hint: Result<Option<String>, AllocError>) {
-    if let Ok(Some(text)) = hint {
-        let _ = eprintln!(rt; "{text}");
-    }
-}
-
-// Prints an error line and, if hints are printed, its hint. Returns the status 1.
-fn print_error(rt: &HostRuntime, file: Option<&str>, line: &str) -> u8 {
-    let _ = eprintln!(rt; "{line}");
-    if has_hints(rt) {
-        print_hint(rt, hint(rt.alloc(), file, line));
-    }
-    1
-}
-
 // Prints an error line as JSON. Returns the status 1.
 fn print_json_error(rt: &HostRuntime, line: &str) -> u8 {
     if let Ok(text) = error_json(rt.alloc(), line) {
         let _ = rt.stderr().write_all(&text);
     }
     1
+}
+
+// Prints an error line that has no hint, as text or as JSON. Returns the status 1.
+fn print_line(rt: &HostRuntime, rows: Rows, line: &str) -> u8 {
+    if rows == Rows::In(Format::Json) {
+        return print_json_error(rt, line);
+    }
+    let _ = eprintln!(rt; "{line}");
+    1
+}
+
+// Prints the error line of an order on files, with its hint or as JSON. Returns the status 1.
+fn print_task_error(rt: &HostRuntime, order: &FileOrder<'_>, rows: Rows, line: &str) -> u8 {
+    if rows == Rows::In(Format::Json) {
+        return print_json_error(rt, line);
+    }
+    print_file_error(rt, order, line)
+}
+
+// Prints the error of an order on files, and returns the status. An error line of a log names its
+// cause, so it has no hint.
+fn print_fault(rt: &HostRuntime, order: &FileOrder<'_>, rows: Rows, fault: &FileFault) -> u8 {
+    match fault {
+        FileFault::Task(fault) => print_task_error(rt, order, rows, fault.line()),
+        FileFault::Log(LogFault::NoMemory) => {
+            print_task_error(rt, order, rows, CliFault::Memory.line())
+        }
+        FileFault::Log(LogFault::Output) => {
+            print_task_error(rt, order, rows, CliFault::Output.line())
+        }
+        FileFault::Log(LogFault::Usage(what)) => print_misuse(rt, what.as_str()),
+        FileFault::Log(LogFault::Line(line)) => print_line(rt, rows, line.as_str()),
+    }
 }
 
 // Runs an order, and returns the status.
@@ -179,8 +223,7 @@ fn do_order(rt: &HostRuntime, order: Order<'_>) -> Result<u8, Misuse> {
             }
             Ok(match do_file_order(rt, order, rows) {
                 Ok(status) => status,
-                Err(fault) if rows == Rows::In(Format::Json) => print_json_error(rt, fault.line()),
-                Err(fault) => print_error(rt, order.file_of(fault.line()), fault.line()),
+                Err(fault) => print_fault(rt, &order, rows, &fault),
             })
         }
         Order::Office(_) => Err(Misuse::NoOffice),
@@ -207,12 +250,12 @@ fn run(rt: &HostRuntime) -> Result<u8, Misuse> {
     let alloc = rt.alloc();
     let args = env::args(rt).map_err(|error| args_misuse(&error))?;
     let arguments: Vec<String> = args.collect(alloc)?;
-    let help = help(alloc)?;
+    let (help, version) = (help(alloc)?, version(alloc)?);
     let first = match arguments.get(1) {
         Some(word) => Some(word.as_str()),
         None => None,
     };
-    let parser = command(alloc, help.as_str(), first)?;
+    let parser = command(alloc, help.as_str(), version.as_str(), first)?;
     let parsed = parser.try_get_matches_from(arguments.as_slice());
     let matches = parsed.map_err(Misuse::Usage)?;
     let capacities = capacities_of(alloc, &matches)?.map_err(|text| bad_capacity(alloc, text))?;
@@ -233,7 +276,7 @@ fn run(rt: &HostRuntime) -> Result<u8, Misuse> {
 // be printed. Returns 1 if memory runs out or the help can't be printed.
 fn print_usage(rt: &HostRuntime, error: &Error) -> u8 {
     if error.kind() == ErrorKind::OutOfMemory {
-        return print_error(rt, None, CliFault::Memory.line());
+        return print_error(rt, Context::NONE, CliFault::Memory.line());
     }
     let printed = error.print(rt);
     if error.use_stderr() {
@@ -241,7 +284,7 @@ fn print_usage(rt: &HostRuntime, error: &Error) -> u8 {
     }
     match printed {
         Ok(()) => 0,
-        Err(_) => print_error(rt, None, CliFault::Output.line()),
+        Err(_) => print_error(rt, Context::NONE, CliFault::Output.line()),
     }
 }
 
@@ -272,7 +315,7 @@ fn print_bad_capacity(rt: &HostRuntime, text: &str) -> u8 {
 // Prints the reason why no command starts, and returns the status.
 fn report(rt: &HostRuntime, misuse: &Misuse) -> u8 {
     match misuse {
-        Misuse::NoMemory => print_error(rt, None, CliFault::Memory.line()),
+        Misuse::NoMemory => print_error(rt, Context::NONE, CliFault::Memory.line()),
         Misuse::Usage(error) => print_usage(rt, error),
         Misuse::NoText => print_misuse(rt, "a word of the command line isn't UTF-8"),
         Misuse::NoCommand => print_misuse(rt, "no command"),
