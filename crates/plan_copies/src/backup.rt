@@ -5,6 +5,7 @@ use crate::expiry::remove_old;
 use crate::fault::PairFault;
 use crate::lines::{CopyFault, copy_fault, store_fault};
 use crate::named::{NamedCopy, NamedPair, target_fault};
+use crate::owner::check_folder;
 use crate::room::{Room, folder_of, name_of, stamp, stem_of, sync_file, sync_folder};
 use plan_io::{MemSink, Sink, write_whole};
 use plan_serve::ServeFault;
@@ -209,6 +210,7 @@ pub fn backup_on_files<W: Sink>(
     let place = place_of(rt, database, copy)?;
     check_new(rt, place.path.as_str())?;
     let folder = place.folder.as_str();
+    check_folder(rt, folder, "the folder ", folder, "backup")?;
     let room = Room::make(rt, folder, ROOM).map_err(|error| {
         copy_fault(
             alloc,

@@ -1,4 +1,4 @@
-//! The owner of the folder of a database.
+//! The owner of a folder in which files are created.
 
 use crate::lines::{CopyFault, store_fault};
 use crate::room::folder_of;
@@ -47,20 +47,38 @@ fn runner(rt: &HostRuntime, folder: &Metadata) -> Result<String, AllocError> {
     }
 }
 
-/// Fails if this is root, and the folder of a database is another user's, who could put a link in
-/// the place of a file that root creates or opens.
-pub(crate) fn check_owner(rt: &HostRuntime, database: &str) -> Result<(), CopyFault> {
+/// Fails if this is root, and a folder is another user's, who could put a link in the place of a
+/// file that root creates or opens there. `front` and `name` name the folder in the error, `command`
+/// is the command that its owner may run.
+pub(crate) fn check_folder(
+    rt: &HostRuntime,
+    folder: &str,
+    front: &str,
+    name: &str,
+    command: &str,
+) -> Result<(), CopyFault> {
     if geteuid() != ROOT {
         return Ok(());
     }
-    let folder = match fs::metadata(rt, folder_of(database)) {
-        Ok(folder) if folder.uid() != ROOT => folder,
+    let found = match fs::metadata(rt, folder) {
+        Ok(found) if found.uid() != ROOT => found,
         _ => return Ok(()),
     };
-    let runner = runner(rt, &folder)?;
+    let runner = runner(rt, &found)?;
     let runner = runner.as_str();
     let rest = format!(in rt.alloc();
-        " isn't root's; run it as the owner: {runner} plan restore .."
+        " isn't root's; run it as the owner: {runner} plan {command} .."
     )?;
-    Err(store_fault(rt.alloc(), "the folder of ", database, rest.as_str()))
+    Err(store_fault(rt.alloc(), front, name, rest.as_str()))
+}
+
+/// Fails if this is root, and the folder of a database that is restored is another user's.
+pub(crate) fn check_owner(rt: &HostRuntime, database: &str) -> Result<(), CopyFault> {
+    check_folder(
+        rt,
+        folder_of(database),
+        "the folder of ",
+        database,
+        "restore",
+    )
 }

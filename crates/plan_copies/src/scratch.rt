@@ -9,6 +9,7 @@ use crate::check::{CheckFault, check_copy};
 use crate::fault::PairFault;
 use crate::lines::{CopyFault, store_fault};
 use crate::named::{NamedCopy, NamedPair, target_fault};
+use crate::owner::check_folder;
 use crate::room::Room;
 use plan_io::Sink;
 use plan_serve::ServeFault;
@@ -16,10 +17,11 @@ use std::env;
 use std::io::ErrorKind;
 
 /// Returns the folder of scratch copies: the given one, else the folder that TMPDIR names, else
-/// /tmp.
+/// /tmp. Fails if this is root, and the given folder is another user's.
 pub fn scratch_folder(rt: &HostRuntime, given: Option<&str>) -> Result<String, CopyFault> {
     let alloc = rt.alloc();
     if let Some(folder) = given {
+        check_folder(rt, folder, "the folder ", folder, "check-office")?;
         return Ok(folder.to_string(alloc)?);
     }
     match env::temp_dir(rt) {

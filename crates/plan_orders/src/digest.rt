@@ -2,4 +2,4 @@
 
 /// The digest of all sources of the program but this file, in hexadecimal digits, as
 /// `./release --digest` prints it.
-pub(crate) const SOURCES: &str = "96ff97da6503a648a658f1ede26e2a2ed3c115a74777da8acedc42889c83d915";
+pub(crate) const SOURCES: &str = "6b0e6c3afba781937f7dfe37375369cc096958649c629a1c64c408ed5cd67791";
