@@ -1,4 +1,4 @@
--- The exit statuses of the program (docs/errors.md, "Exit statuses").
+-- The exit statuses of the program (docs/errors.md).
 use Rattle.std.specs.Prelude.{ℕ}
 use Rattle.plan_program.specs.declared.status.Status.{Status}
 use Rattle.plan_program.specs.declared.status.Status.TheVariants as status
