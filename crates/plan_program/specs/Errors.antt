@@ -6,7 +6,6 @@ use Rattle.plan_program.specs.declared.errors.FileFault.{FileFault}
 use Rattle.plan_program.specs.declared.errors.FileFault.TheVariants as fault
 use Rattle.plan_program.specs.declared.errors.Form.{Form}
 use Rattle.plan_program.specs.declared.errors.Form.TheVariants as form
-use Rattle.plan_program.specs.declared.file_log.LogFault.TheVariants as log
 
 -- a JSON object if the command prints its rows so, else this form
 abbrev pub form_in : Rows → Form → Form
@@ -16,6 +15,6 @@ form_in rows other = other
 -- the error of a name that can't be that of a log is one of the command line; a log's line names
 -- its cause
 abbrev pub form_of : FileFault → Rows → Form
-form_of (fault.Log (log.Usage text)) rows = form.Usage
-form_of (fault.Log (log.Line line)) rows = form_in rows form.Bare
-form_of other rows = form_in rows form.Hinted
+form_of (fault.Usage text) rows = form.Usage
+form_of (fault.Log line) rows = form_in rows form.Bare
+form_of (fault.Task error) rows = form_in rows form.Hinted

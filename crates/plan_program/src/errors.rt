@@ -16,8 +16,12 @@ use std::io::Write;
 /// The error of an order on files.
 #[derive(Drop)]
 pub(crate) enum FileFault {
+    /// The error of a task, or want of memory or a failed output of a log.
     Task(CliFault),
-    Log(LogFault),
+    /// The line of a log that can't be written.
+    Log(String),
+    /// The name of a log is wrong.
+    Usage(String),
 }
 
 impl From<CliFault> for FileFault {
@@ -28,7 +32,12 @@ impl From<CliFault> for FileFault {
 
 impl From<LogFault> for FileFault {
     fn from(fault: LogFault) -> FileFault {
-        FileFault::Log(fault)
+        match fault {
+            LogFault::NoMemory => FileFault::Task(CliFault::Memory),
+            LogFault::Output => FileFault::Task(CliFault::Output),
+            LogFault::Usage(text) => FileFault::Usage(text),
+            LogFault::Line(line) => FileFault::Log(line),
+        }
     }
 }
 
@@ -66,9 +75,9 @@ fn form_of(fault: &FileFault, rows: Rows) -> Form
     ensures { result ≡ form_of fault.now rows }
 {
     match fault {
-        FileFault::Log(LogFault::Usage(_)) => Form::Usage,
-        FileFault::Log(LogFault::Line(_)) => form_in(rows, Form::Bare),
-        _ => form_in(rows, Form::Hinted),
+        FileFault::Usage(_) => Form::Usage,
+        FileFault::Log(_) => form_in(rows, Form::Bare),
+        FileFault::Task(_) => form_in(rows, Form::Hinted),
     }
 }
 
@@ -76,9 +85,7 @@ fn form_of(fault: &FileFault, rows: Rows) -> Form
 fn line_of(fault: &FileFault) -> &str {
     match fault {
         FileFault::Task(fault) => fault.line(),
-        FileFault::Log(LogFault::NoMemory) => CliFault::Memory.line(),
-        FileFault::Log(LogFault::Output) => CliFault::Output.line(),
-        FileFault::Log(LogFault::Usage(text) | LogFault::Line(text)) => text.as_str(),
+        FileFault::Usage(text) | FileFault::Log(text) => text.as_str(),
     }
 }
 
