@@ -13,7 +13,7 @@ const DRAFT: &str = ".plan-log-";
 
 /// The reason why a log can't be written.
 #[derive(Drop)]
-pub enum LogFault {
+pub(crate) enum LogFault {
     NoMemory,
     /// The lines can't be written whole.
     Output,
@@ -48,7 +48,7 @@ enum Target {
 
 /// A log in a file, or nowhere. After a write that fails it takes no more lines.
 #[derive(Drop)]
-pub struct FileLog {
+pub(crate) struct FileLog {
     target: Target,
     has_failed: bool,
 }

@@ -8,7 +8,7 @@ use std::time::Instant;
 /// erased at the end of the search. A line that can't be written is skipped. It stops a search at
 /// its time limit.
 #[derive(Drop)]
-pub struct ProgressLine<'a> {
+pub(crate) struct ProgressLine<'a> {
     rt: &'a HostRuntime,
     is_shown: bool,
     has_terminal: bool,
