@@ -205,7 +205,7 @@ pub fn rule_solution(alloc: Global, shop: &Shop) -> Result<Solved, AllocError>
 pub fn shop_session(alloc: Global, shop: &Shop, known: &Solved) -> Result<Session, AllocError>
     ensures { IfOk result (IsSessionOf (problem_of shop.now)) }
 {
-    Session::new(alloc, shop, &known.schedule.starts, false)
+    Session::new(alloc, shop, &known.schedule.starts, false, known.lower)
 }
 
 /// Continues a search of a job shop from a known schedule and lower bound, otherwise as

@@ -120,6 +120,8 @@ pub fn searched<S: Solvable, W: Watcher, L: Log>(
         return Ok(known);
     }
     let starts = &known.schedule.starts;
-    let mut session = Session::new(alloc, source, starts, log.is_wanted())?;
-    searched_from(alloc, source, known, &mut session, conflicts, watcher, log)
+    let mut session = Session::new(alloc, source, starts, log.is_wanted(), known.lower)?;
+    let solved = searched_from(alloc, source, known, &mut session, conflicts, watcher, log)?;
+    session.end_log(alloc, &solved.schedule, log)?;
+    Ok(solved)
 }
