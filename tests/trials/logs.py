@@ -17,7 +17,7 @@ import threading
 import time
 
 sys.path.append(os.path.join(os.path.dirname(os.path.abspath(__file__)), "..", "..", "bench"))
-import clause_log
+import checker
 import files
 import progen
 from exchanges import file_of
@@ -66,8 +66,8 @@ def same_without_drafts(what, room):
 def judge_log(what, path, log):
     """A log proves what the checker of logs confirms, down to its last line."""
     try:
-        clause_log.check(bytes_of(path).decode(), bytes_of(log).decode())
-    except clause_log.Refused as error:
+        checker.shown(bytes_of(path).decode(), bytes_of(log).decode())
+    except checker.Refused as error:
         raise Wrong(f"the log of {what}: {error}") from None
     same(f"the last line of {what}", bytes_of(log).split(b"\n")[-2][:6], b"lower ")
 

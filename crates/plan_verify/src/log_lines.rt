@@ -65,7 +65,7 @@ impl LogLines {
         let start = self.start.min(end);
         let rest = &self.chunk[start..end];
         let (count, is_whole) = match first_line_feed(rest) {
-            Some(place) => (place, true),
+            Some(place) => (place.min(rest.len()), true),
             None => (rest.len(), false),
         };
         if self.line.len().saturating_add(count) > LONGEST_LINE {

@@ -59,13 +59,10 @@ fn index_of(word: &[u8], byte: u8) -> Option<usize> {
 }
 
 // Returns the bytes in front of a separator and behind it.
-fn parts<'a>(word: &'a [u8], first: u8) -> Result<(&'a [u8], &'a [u8]), LineFault> {
-    match index_of(word, first) {
-        Some(place) => {
-            let (front, rest) = word.split_at(place);
-            Ok((front, &rest[1..]))
-        }
-        None => Err(LineFault::Unreadable),
+fn parts(word: &[u8], separator: u8) -> Result<(&[u8], &[u8]), LineFault> {
+    match index_of(word, separator) {
+        Some(place) if place < word.len() => Ok((&word[..place], &word[place + 1..])),
+        _ => Err(LineFault::Unreadable),
     }
 }
 

@@ -18,6 +18,7 @@ pub enum Verdict {
 }
 
 /// Returns what a kernel shows of its problem.
+#[tactic(auto, using(crate::proofs::VerdictLemmas::is_least))]
 pub fn verdict_of(kernel: &Kernel) -> Verdict
     ensures { IsTrueOf (problem_of kernel.now.known.input) result }
 {

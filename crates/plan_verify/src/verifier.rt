@@ -20,8 +20,9 @@ const MOST_ORDERS: usize = 200_000;
 // Reads the order in a line. `None` if it is another line.
 fn order_of(line: &[u8]) -> Result<Option<Order>, LineFault> {
     let mut words = Words::new(line);
-    if words.next_word() != Some(b"order") {
-        return Ok(None);
+    match words.next_word() {
+        Some(b"order") => {}
+        _ => return Ok(None),
     }
     let (first, second) = (place(&mut words)?, place(&mut words)?);
     end(&mut words)?;
@@ -49,6 +50,7 @@ fn orders_of<R: Source>(
 }
 
 // Returns a problem with other orders.
+#[tactic(auto, unfolding(plan_kernel::specs::Inputs::problem_of))]
 fn with_orders(input: Input, orders: Vec<Order>) -> Input
     ensures { problem_of result ≡ problem_of input }
 {
