@@ -9,8 +9,7 @@ ghost use Rattle.plan_solve.specs.Solutions.{IsConflictLimit};
 use crate::watchers::{ProofWatcher, SolveWatcher};
 use plan_prove::{Course, MOST_NODES, Proof, ProveFault, prove_from};
 use plan_shop::Shop;
-use plan_solve::{Log, Session, SolveFault, Solved};
-use plan_solve::{rule_solution, shop_session, solve_shop_from};
+use plan_solve::{Log, Session, SolveFault, Solved, rule_solution, shop_session, solve_shop_from};
 use std::alloc::{AllocError, Global};
 
 /// The least number of nodes of a turn.

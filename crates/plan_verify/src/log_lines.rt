@@ -72,7 +72,9 @@ impl LogLines {
             return Err(LogFault::Unreadable { line: self.number });
         }
         self.line.extend_from_slice(&rest[..count])?;
-        self.start = start.saturating_add(count).saturating_add(is_whole as usize);
+        self.start = start
+            .saturating_add(count)
+            .saturating_add(is_whole as usize);
         Ok(is_whole)
     }
 

@@ -17,7 +17,9 @@ fn spelled(word: &[u8]) -> Option<u32> {
         if !byte.is_ascii_digit() {
             return None;
         }
-        value = value.saturating_mul(10).saturating_add((byte - b'0') as u64);
+        value = value
+            .saturating_mul(10)
+            .saturating_add((byte - b'0') as u64);
     }
     u32::try_from(value).ok()
 }

@@ -42,8 +42,7 @@ pub fn verify_text<R: Source>(
     ensures refused { IfErr result (spec.RefusesFile file.now) }
 {
     let project = read_sm(alloc, file).map_err(VerifyFault::File)?;
-    let instance =
-        Instance::of_project(&project, project.avail()).map_err(VerifyFault::Project)?;
+    let instance = Instance::of_project(&project, project.avail()).map_err(VerifyFault::Project)?;
     Ok(project_text(alloc, &instance, log)?)
 }
 

@@ -50,7 +50,6 @@ fn orders_of<R: Source>(
 }
 
 // Returns a problem with other orders.
-#[tactic(auto, unfolding(plan_kernel::specs::Inputs::problem_of))]
 fn with_orders(input: Input, orders: Vec<Order>) -> Input
     ensures { problem_of result ≡ problem_of input }
 {
