@@ -226,9 +226,16 @@ def begun(room, log, path):
     raise Wrong("a search writes no log")
 
 
+def judge_draft(what, path, draft):
+    """The whole lines of a log that isn't complete show a lower bound."""
+    log = bytes_of(draft)
+    shown = checker.shown(bytes_of(path).decode(), log[: log.rfind(b"\n") + 1].decode())
+    same(f"what is shown after {what}", shown.rpartition(" ")[0], "verified at least")
+
+
 def try_log_stops(room):
-    """A search that is killed leaves what was at the name of its log: the old log, or nothing. One
-    that its time limit ends has a complete log."""
+    """A search that is killed leaves what was at the name of its log: the old log, or nothing, and a
+    new file with the lines so far. A search that its time limit ends has a complete log."""
     path, log = drawn(room, 90, 1), os.path.join(room, "log")
     for before in (OLD, None):
         for number in (signal.SIGINT, signal.SIGTERM, signal.SIGKILL):
@@ -241,6 +248,7 @@ def try_log_stops(room):
             found = bytes_of(log) if os.path.exists(log) else None
             same(f"the log after signal {number}", found, before)
             for name in drafts(room):
+                judge_draft(f"signal {number}", path, name)
                 os.remove(name)
         if before is not None:
             os.remove(log)

@@ -72,7 +72,7 @@ enum Form {
     CapacityIfProject,
     /// An option with the capacity of a resource of a list, any number of times.
     ListCapacity,
-    /// An option with the name of a file to write. It is for projects only.
+    /// An option with the name of a file to write.
     Output,
     /// A name that isn't given if the option `starts` is.
     NameUnlessStarts,
