@@ -143,39 +143,38 @@ fn next_clash<W: Watcher>(
     Ok(None)
 }
 
-// Returns a prover over what a kernel knows. With a log it derives a lower bound that needs no
-// search.
-fn deriving_prover(
+// Returns a prover over a kernel that knows starts. With a log it derives the lower bound that needs
+// no search.
+fn deriving_prover<S: Solvable>(
     alloc: Global,
-    kernel: Kernel,
+    source: &S,
+    starts: &[u64],
     is_logged: bool,
-    bound: u64,
 ) -> Result<Prover, AllocError>
-    ensures { IfOk result (λ prover. prover.kernel.known.input ≡ kernel.known.input) }
+    ensures { IfOk result (λ prover.
+        inputs.problem_of prover.kernel.known.input ≡ S.problem source.now) }
 {
+    let kernel = kernel_of(alloc, source, starts)?;
     let mut prover = prover_of(alloc, kernel, is_logged)?;
     if is_logged {
-        derive(alloc, &mut prover, bound)?;
-        let lower = prover.kernel.lower_bound();
-        prover.lines.rise(lower)?;
+        derive(alloc, &mut prover, source.simple_bound(alloc)?)?;
+        log_bound(&mut prover)?;
     }
     Ok(prover)
 }
 
 impl Session {
-    /// Returns a search that starts from a schedule. If it is logged, the log proves this lower
-    /// bound first.
+    /// Returns a search that starts from a schedule. If it is logged, the log first proves the lower
+    /// bound that needs no search.
     pub fn new<S: Solvable>(
         alloc: Global,
         source: &S,
         starts: &[u64],
         is_logged: bool,
-        bound: u64,
     ) -> Result<Session, AllocError>
         ensures { IfOk result (IsSessionOf (S.problem source.now)) }
     {
-        let kernel = kernel_of(alloc, source, starts)?;
-        let prover = deriving_prover(alloc, kernel, is_logged, bound)?;
+        let prover = deriving_prover(alloc, source, starts, is_logged)?;
         let is_met = prover.kernel.lower_bound() >= prover.kernel.upper();
         let mut search = Search::new(alloc, prover)?;
         let is_open = !is_met && search.can_search() && search.begin(alloc)?;
@@ -267,7 +266,9 @@ impl Session {
             self.search.aim_above(simple);
         }
         let used = self.search_all(alloc, source, simple, conflicts, watcher, log)?;
-        let prover = &self.search.prover;
+        let prover = &mut self.search.prover;
+        log_bound(prover)?;
+        hand_over(&mut prover.lines, log, 0);
         let starts = match prover.kernel.best() {
             Some(starts) => Vec::from_slice(alloc, starts)?,
             None => Vec::new(alloc),

@@ -201,8 +201,8 @@ pub fn rule_solution(alloc: Global, shop: &Shop) -> Result<Solved, AllocError>
     unsearched(alloc, shop)
 }
 
-/// Returns a search of a job shop that starts from a schedule and hasn't begun. If it is logged,
-/// the log proves the known lower bound first.
+/// Returns a search of a job shop that starts from a schedule and hasn't begun. `is_logged` states
+/// whether a log gets what the search proves.
 pub fn shop_session(
     alloc: Global,
     shop: &Shop,
@@ -211,8 +211,7 @@ pub fn shop_session(
 ) -> Result<Session, AllocError>
     ensures { IfOk result (IsSessionOf (problem_of shop.now)) }
 {
-    let (starts, lower) = (&known.schedule.starts, known.lower);
-    Session::new(alloc, shop, starts, is_logged, lower)
+    Session::new(alloc, shop, &known.schedule.starts, is_logged)
 }
 
 /// Continues a search of a job shop from a known schedule and lower bound, otherwise as

@@ -120,7 +120,7 @@ pub fn searched<S: Solvable, W: Watcher, L: Log>(
         return Ok(known);
     }
     let starts = &known.schedule.starts;
-    let mut session = Session::new(alloc, source, starts, log.is_wanted(), known.lower)?;
+    let mut session = Session::new(alloc, source, starts, log.is_wanted())?;
     let solved = searched_from(alloc, source, known, &mut session, conflicts, watcher, log)?;
     session.end_log(alloc, &solved.schedule, log)?;
     Ok(solved)
