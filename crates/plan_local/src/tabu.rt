@@ -22,7 +22,7 @@ fn index(steps: &Steps, first: u32, second: u32) -> u32 {
 
 // Returns for how many rounds an order is forbidden.
 fn tenure(steps: &Steps, draws: &mut Draws) -> u32 {
-    let least = 10 + steps.jobs / steps.machines.max(1);
+    let least = (steps.jobs / steps.machines.max(1)).saturating_add(10);
     let more = if steps.jobs / 2 <= steps.machines {
         least / 5 * 2
     } else {

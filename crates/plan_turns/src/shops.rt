@@ -8,9 +8,7 @@ ghost use Rattle.plan_solve.specs.Sessions.{IsSessionOf};
 ghost use Rattle.plan_solve.specs.Solutions.{IsConflictLimit};
 
 use crate::moves::Moves;
-use plan_prove::{
-    Course, MOST_NODES, Proof, ProveFault, Watcher as ProofWatcher, prove_from,
-};
+use plan_prove::{Course, MOST_NODES, Proof, ProveFault, Watcher as ProofWatcher, prove_from};
 use plan_shop::Shop;
 use plan_solve::{
     Session, SolveFault, Solved, Watcher as SolveWatcher, rule_solution, shop_session,
