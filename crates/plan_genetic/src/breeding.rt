@@ -12,7 +12,7 @@ use plan_sgs::Schedule;
 use std::alloc::{AllocError, Global};
 
 /// The number of lists of a population.
-const SIZE: u32 = 150;
+const SIZE: u32 = 200;
 
 /// After how many children without a shorter schedule a new population begins.
 const PATIENCE: u32 = 50 * SIZE;
