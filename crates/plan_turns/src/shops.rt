@@ -1,4 +1,5 @@
-//! Searches of a job shop in turns: by conflicts (plan_solve) and by nodes (plan_prove).
+//! Searches of a job shop in turns: by moves (plan_local), by conflicts (plan_solve) and by nodes
+//! (plan_prove).
 
 ghost use Rattle.std.specs.Prelude.{◌≡◌, ◌≤◌, ◌<◌, IfOk};
 ghost use Rattle.plan_shop.specs.Shop.{problem_of};
@@ -6,10 +7,13 @@ ghost use Rattle.plan_prove.specs.Proofs.{IsNodeLimit, IsProofOf};
 ghost use Rattle.plan_solve.specs.Sessions.{IsSessionOf};
 ghost use Rattle.plan_solve.specs.Solutions.{IsConflictLimit};
 
-use crate::watchers::{ProofWatcher, SolveWatcher};
-use plan_prove::{Course, MOST_NODES, Proof, ProveFault, prove_from};
+use crate::moves::Moves;
+use plan_prove::{Course, MOST_NODES, Proof, ProveFault, Watcher as ProofWatcher, prove_from};
 use plan_shop::Shop;
-use plan_solve::{Log, Session, SolveFault, Solved, rule_solution, shop_session, solve_shop_from};
+use plan_solve::{
+    Log, Session, SolveFault, Solved, Watcher as SolveWatcher, rule_solution, shop_session,
+    solve_shop_from,
+};
 use std::alloc::{AllocError, Global};
 
 /// The least number of nodes of a turn.
@@ -34,6 +38,18 @@ fn proof_of(solved: Solved) -> Proof
     }
 }
 
+// Returns a proof as the schedule and the lower bound of a search.
+fn solved_of(proof: Proof) -> Solved
+    ensures schedule { result.schedule ≡ proof.schedule }
+    ensures lower { result.lower ≡ proof.lower }
+{
+    Solved {
+        schedule: proof.schedule,
+        lower: proof.lower,
+        conflicts: 0,
+    }
+}
+
 // Continues a search from another proof, with at most so many conflicts.
 fn by_conflicts<V: SolveWatcher, L: Log>(
     alloc: Global,
@@ -53,11 +69,7 @@ fn by_conflicts<V: SolveWatcher, L: Log>(
     if conflicts == 0 {
         return Ok(known);
     }
-    let known = Solved {
-        schedule: known.schedule,
-        lower: known.lower,
-        conflicts: 0,
-    };
+    let known = solved_of(known);
     match solve_shop_from(alloc, shop, known, session, conflicts, watcher, log) {
         Ok(solved) => Ok(proof_of(solved)),
         Err(SolveFault::NoMemory) => Err(AllocError),
@@ -120,20 +132,21 @@ fn is_over<V: SolveWatcher>(proof: &Proof, left: u64, watcher: &mut V) -> bool {
     left == 0 || proof.lower >= proof.schedule.makespan || watcher.is_late()
 }
 
-/// Searches a shop in turns, by conflicts and by nodes. Each search continues where it stopped,
-/// from the schedule and the lower bound of the other one. `most` is the greatest number of
-/// conflicts of all turns. The log gets what the search by conflicts proves, and the schedule.
-pub(crate) fn search_in_turns<V: ProofWatcher + SolveWatcher, L: Log>(
+// Searches a shop in turns from a proof.
+fn search_from<V: ProofWatcher + SolveWatcher, L: Log>(
     alloc: Global,
     shop: &Shop,
+    known: Proof,
+    moves: &mut Moves,
     most: u64,
     watcher: &mut V,
     log: &mut L,
 ) -> Result<Proof, AllocError>
-    requires { IsConflictLimit most }
+    requires known { IsProofOf shop.now known }
+    requires most { IsConflictLimit most }
     ensures { IfOk result (IsProofOf shop.now) }
 {
-    let known = rule_solution(alloc, shop)?;
+    let known = solved_of(known);
     let mut session = shop_session(alloc, shop, &known, log.is_wanted())?;
     let mut course = Course::new(alloc);
     let mut best = proof_of(known);
@@ -150,7 +163,32 @@ pub(crate) fn search_in_turns<V: ProofWatcher + SolveWatcher, L: Log>(
         best = by_nodes(alloc, shop, best, &mut course, nodes, watcher)?;
         nodes -= best.nodes;
         turn = TURN_NODES.max(best.nodes) / ratio;
+        best = moves.search(alloc, shop, best, moves.work_of_turn(turn), watcher)?;
     }
     session.end_log(alloc, &best.schedule, log)?;
     Ok(best)
+}
+
+/// Searches a shop in turns, by moves, by conflicts and by nodes. Each search continues where it
+/// stopped, from the schedule and the lower bound of the other ones. The search by moves comes first.
+/// `most` is the greatest number of conflicts of all turns. The log gets what the search by conflicts
+/// proves, and the schedule.
+pub fn search_in_turns<V: ProofWatcher + SolveWatcher, L: Log>(
+    alloc: Global,
+    shop: &Shop,
+    most: u64,
+    watcher: &mut V,
+    log: &mut L,
+) -> Result<Proof, AllocError>
+    requires { IsConflictLimit most }
+    ensures { IfOk result (IsProofOf shop.now) }
+{
+    let mut moves = Moves::new(alloc, shop)?;
+    let known = proof_of(rule_solution(alloc, shop)?);
+    let work = moves.first_work();
+    let known = moves.search(alloc, shop, known, work, watcher)?;
+    if !log.is_wanted() && is_over(&known, most, watcher) {
+        return Ok(known);
+    }
+    search_from(alloc, shop, known, &mut moves, most, watcher, log)
 }
