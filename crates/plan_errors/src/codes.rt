@@ -52,6 +52,8 @@ pub(crate) enum Code {
     NoCalendar,
     BadHoliday,
     ManyHolidays,
+    DoesNotFollow,
+    BadLogLine,
     UnknownCode,
     BadMessage,
     LargeBody,
@@ -131,6 +133,8 @@ impl Code {
             "G4" => Some(Code::NoCalendar),
             "G5" => Some(Code::BadHoliday),
             "G6" => Some(Code::ManyHolidays),
+            "V1" => Some(Code::DoesNotFollow),
+            "V2" => Some(Code::BadLogLine),
             "C1" => Some(Code::UnknownCode),
             "H1" => Some(Code::BadMessage),
             "H2" => Some(Code::LargeBody),
@@ -210,6 +214,8 @@ impl Code {
             Code::NoCalendar => "G4",
             Code::BadHoliday => "G5",
             Code::ManyHolidays => "G6",
+            Code::DoesNotFollow => "V1",
+            Code::BadLogLine => "V2",
             Code::UnknownCode => "C1",
             Code::BadMessage => "H1",
             Code::LargeBody => "H2",
@@ -288,6 +294,8 @@ impl Code {
             Code::NoCalendar => "the plan has no calendar",
             Code::BadHoliday => "a line of the holidays is invalid",
             Code::ManyHolidays => "too many holidays",
+            Code::DoesNotFollow => "a line of the log doesn't follow",
+            Code::BadLogLine => "a line isn't one of a log",
             Code::UnknownCode => "no such code",
             Code::BadMessage => "the request is incomplete or malformed",
             Code::LargeBody => "the body is too large",
@@ -460,6 +468,12 @@ impl Code {
             }
             Code::ManyHolidays => {
                 "G6 holidays\nThe file of holidays names more than 10,000 days, or has more than 1,048,576 bytes. A day counts as often as it is named.\nDelete the days before and after the schedule.\n"
+            }
+            Code::DoesNotFollow => {
+                "V1 line N\nLine N of the log doesn't follow from the problem and the lines above it, so the log shows nothing.\nGive the file of which the log was written, or write the log again with plan solve --log.\n"
+            }
+            Code::BadLogLine => {
+                "V2 line N\nLine N isn't a line of a log of plan solve --log.\nCheck the name of the log, or write it again.\n"
             }
             Code::UnknownCode => {
                 "C1 unknown code\nNo error has this code.\nGive an error line or its first word, for example F7.\n"

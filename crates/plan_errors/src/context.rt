@@ -135,7 +135,12 @@ fn usual_subject(code: Code) -> Subject
         Code::NoResource | Code::NoListResource => Subject::Capacity,
         Code::NotOurs | Code::Version | Code::NoKey | Code::StoreRefused => Subject::Office,
         Code::Input => Subject::Unread,
-        Code::UnknownCode | Code::NoMemory | Code::Socket | Code::Output => Subject::Other,
+        Code::DoesNotFollow
+        | Code::BadLogLine
+        | Code::UnknownCode
+        | Code::NoMemory
+        | Code::Socket
+        | Code::Output => Subject::Other,
         _ => Subject::Plan,
     }
 }

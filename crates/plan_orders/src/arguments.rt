@@ -432,7 +432,7 @@ const SHOP_COMMANDS: [Entry; 4] = [
     },
 ];
 
-const SCHEDULE_COMMANDS: [Entry; 4] = [
+const SCHEDULE_COMMANDS: [Entry; 5] = [
     Entry {
         name: "solve",
         about: "Prints a short schedule and a proved lower bound",
@@ -465,6 +465,24 @@ const SCHEDULE_COMMANDS: [Entry; 4] = [
                 form: Form::Output,
                 help: "write what the search proves to this file",
             },
+        ],
+    },
+    Entry {
+        name: "verify",
+        about: "Checks the log of a search, and prints what it shows",
+        examples: "Examples:\n  \
+            plan solve --log house.log examples/house.sm\n  \
+            plan verify examples/house.sm house.log\n\n\
+            It prints verified 45 if the log shows that 45 is the least makespan of all feasible\n\
+            schedules, and verified at least 45 if it shows that none is less than 45.",
+        arguments: &[
+            FILE,
+            Argument {
+                name: "LOG",
+                form: Form::Name,
+                help: "the log of plan solve --log, or - for standard input",
+            },
+            INSTANCE_IF_SHOP,
         ],
     },
     Entry {

@@ -40,6 +40,13 @@ pub enum FileOrder<'a> {
         texts: &'a [NamedText<'a>],
         is_status: bool,
     },
+    /// A check of the log of a search. The problem is the project in a file, or an instance of a
+    /// job shop file.
+    Verify {
+        file: &'a str,
+        log: &'a str,
+        instance: Option<&'a str>,
+    },
     /// A sheet to print.
     Print(Print<'a>),
     /// A table to start from.
@@ -85,6 +92,14 @@ impl<'a> FileOrder<'a> {
     pub fn shared_input(&self) -> Option<(&'static str, &'static str)> {
         if let FileOrder::Print(print) = *self {
             return print_input(&print);
+        }
+        if let FileOrder::Verify {
+            file: "-",
+            log: "-",
+            ..
+        } = *self
+        {
+            return Some(("FILE", "LOG"));
         }
         let FileOrder::Texts { file, texts, .. } = *self else {
             return None;
@@ -588,6 +603,15 @@ fn check_order<'a>(
     })
 }
 
+// Returns the order of `verify`.
+fn verify_order<'a>(arguments: &'a ArgMatches<'_>) -> Option<FileOrder<'a>> {
+    Some(FileOrder::Verify {
+        file: arguments.get_str("FILE")?,
+        log: arguments.get_str("LOG")?,
+        instance: arguments.get_str("INSTANCE"),
+    })
+}
+
 // Returns the order of `slack`.
 fn slack_order<'a>(arguments: &'a ArgMatches<'_>, lists: Lists<'a>) -> Option<FileOrder<'a>> {
     let task = Task::Slack {
@@ -780,6 +804,7 @@ fn file_order<'a>(
         "prove" => proof_order(arguments),
         "solve" => solve_order(arguments, lists.capacities),
         "check" => check_order(arguments, lists.texts),
+        "verify" => verify_order(arguments),
         "slack" => slack_order(arguments, lists),
         "compare" => compare_order(arguments, lists),
         "chart" => chart_order(arguments, lists),

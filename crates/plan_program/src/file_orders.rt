@@ -5,6 +5,7 @@ use crate::file_log::FileLog;
 use crate::misuse::Misuse;
 use crate::progress::ProgressLine;
 use crate::status::Status;
+use crate::verification::do_verify;
 use plan_cli::{
     CliFault, Log, NamedText, ProofWatcher, Rows, SolveWatcher, Task, Unlogged, Unwatched,
     explain_run, explain_run_in, run_on_file, run_on_files, template_run,
@@ -105,6 +106,11 @@ fn do_file_order(rt: &HostRuntime, order: FileOrder<'_>, rows: Rows) -> Result<S
             texts,
             ..
         } => return Ok(do_check(rt, task, rows, texts, file)?),
+        FileOrder::Verify {
+            file,
+            log,
+            instance,
+        } => do_verify(rt, file, instance, log)?,
         FileOrder::Print(print) => print_on_files(rt, print, &mut writer)?,
         FileOrder::New(template) => template_run(template, &mut writer)?,
         FileOrder::Explain(words) => {

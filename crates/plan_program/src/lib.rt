@@ -10,6 +10,7 @@ mod hints;
 mod misuse;
 mod progress;
 mod status;
+mod verification;
 
 pub use command_line::{Offices, run_program};
 pub use hints::{asked_hints, has_hints, print_hint};
