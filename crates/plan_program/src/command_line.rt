@@ -38,21 +38,21 @@ fn run_order<O: Offices>(
 // Runs the order of a command line that clap has accepted.
 fn run_matches<O: Offices>(
     rt: &HostRuntime,
-    matches: &ArgMatches<'_>,
+    matches: ArgMatches<'_>,
     offices: &O,
 ) -> Result<Status, Misuse> {
     let alloc = rt.alloc();
-    let capacities = capacities_of(alloc, matches)?;
+    let capacities = capacities_of(alloc, &matches)?;
     let capacities = capacities.map_err(|text| Misuse::of_capacity(alloc, text))?;
-    let overrides = overrides_of(alloc, matches)?;
+    let overrides = overrides_of(alloc, &matches)?;
     let overrides = overrides.map_err(|text| Misuse::of_capacity(alloc, text))?;
-    let texts = texts_of(alloc, matches)?;
+    let texts = texts_of(alloc, &matches)?;
     let lists = Lists {
         capacities: &capacities,
         overrides: &overrides,
         texts: &texts,
     };
-    match order_of(matches, lists) {
+    match order_of(&matches, lists) {
         Some(order) => run_order(rt, order, offices),
         None => Err(Misuse::NoCommand),
     }
@@ -69,7 +69,7 @@ fn run<O: Offices>(rt: &HostRuntime, offices: &O) -> Result<Status, Misuse> {
     };
     let parser = command(alloc, help.as_str(), version.as_str(), first)?;
     let parsed = parser.try_get_matches_from(arguments.as_slice());
-    run_matches(rt, &parsed.map_err(Misuse::Usage)?, offices)
+    run_matches(rt, parsed.map_err(Misuse::Usage)?, offices)
 }
 
 /// Runs the command of the process's arguments: one on files, or one of `offices`. Prints its error,
