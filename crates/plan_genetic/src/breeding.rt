@@ -20,9 +20,9 @@ const PATIENCE: u32 = 50 * SIZE;
 /// The most words of free amounts.
 const MOST_WORDS: u32 = 4_000_000;
 
-/// A genetic search for short schedules of a project: activity lists that are crossed at two points,
-/// decoded by serial generation and justified twice. It can be continued, and each run on the same
-/// project finds the same schedules.
+/// A genetic search for short schedules of a project: activity lists that are crossed at two
+/// points, decoded by serial generation and justified twice. It can be continued, and each run on
+/// the same project finds the same schedules.
 #[derive(Drop)]
 pub struct GeneticSearch {
     activities: Activities,
@@ -82,8 +82,8 @@ impl GeneticSearch {
         })
     }
 
-    /// Returns whether nothing is left to search for: the makespan is the lower bound, or the project
-    /// is too long.
+    /// Returns whether nothing is left to search for: the makespan is the lower bound, or the
+    /// project is too long.
     pub fn is_over(&self) -> bool {
         !self.is_small || self.least as u64 <= self.target
     }

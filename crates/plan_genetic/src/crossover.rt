@@ -50,8 +50,8 @@ impl Crossover {
     }
 
     /// Crosses two lists at two points (Hartmann, "A competitive genetic algorithm for
-    /// resource-constrained project scheduling", 1998): the first and the last part are in the order of
-    /// the mother, the middle one in that of the father.
+    /// resource-constrained project scheduling", 1998): the first and the last part are in the
+    /// order of the mother, the middle one in that of the father.
     pub fn cross(
         &mut self,
         child: &mut Vec<u32>,

@@ -68,8 +68,8 @@ impl Profile {
         true
     }
 
-    // Returns the last instant at which the needs of an activity with a start aren't free, `NONE` if
-    // there is no such instant.
+    // Returns the last instant at which the needs of an activity with a start aren't free, `NONE`
+    // if there is no such instant.
     fn last_clash(&mut self, activities: &Activities, activity: u32, start: u32) -> u32 {
         let duration = activities.duration(activity);
         let mut instant = start.wrapping_add(duration);
@@ -83,8 +83,8 @@ impl Profile {
         NONE
     }
 
-    /// Returns the earliest start of an activity from an instant on, `NONE` if it would end after the
-    /// horizon.
+    /// Returns the earliest start of an activity from an instant on, `NONE` if it would end after
+    /// the horizon.
     pub fn earliest(&mut self, activities: &Activities, activity: u32, from: u32) -> u32 {
         let mut start = from;
         for _ in 0..self.horizon {

@@ -5,8 +5,8 @@ use crate::lists::{at, put};
 use crate::rows::Rows;
 use crate::steps::Steps;
 
-/// A move of the first one of some steps of a path behind the last one, or of the last one before the
-/// first one.
+/// A move of the first one of some steps of a path behind the last one, or of the last one before
+/// the first one.
 #[derive(Clone, Copy, Drop)]
 pub struct Move {
     /// The places in the path.
@@ -52,9 +52,9 @@ impl Move {
         }
     }
 
-    /// Returns whether the move makes no cycle for sure (Balas and Vazacopoulos, "Guided local search
-    /// with shifting bottleneck for job shop scheduling", 1998): no path leads from the job of the
-    /// step that moves to the steps that it passes.
+    /// Returns whether the move makes no cycle for sure (Balas and Vazacopoulos, "Guided local
+    /// search with shifting bottleneck for job shop scheduling", 1998): no path leads from the job
+    /// of the step that moves to the steps that it passes.
     pub fn is_allowed(&self, steps: &Steps, dates: &Dates, path: &[u32]) -> bool {
         let (first, last) = (at(path, self.first), at(path, self.last));
         if self.is_first {

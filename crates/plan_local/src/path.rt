@@ -60,8 +60,8 @@ pub fn find_path(
     Ok(())
 }
 
-/// Returns the index in a path of the last step of a block: of the steps from an index on that follow
-/// each other on one machine.
+/// Returns the index in a path of the last step of a block: of the steps from an index on that
+/// follow each other on one machine.
 pub fn end_of_block(rows: &Rows, path: &[u32], first: u32) -> u32 {
     let mut last = first;
     for index in first as usize + 1..path.len() {

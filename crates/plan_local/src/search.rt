@@ -24,9 +24,9 @@ const PATIENCE: u32 = 12_500;
 /// The least number of random moves after which it does.
 const LEAST_SHAKES: u32 = 5;
 
-/// A tabu search for short schedules of a job shop (Glover 1989; Nowicki and Smutnicki 1996). It moves
-/// steps within the blocks of a critical path (Balas and Vazacopoulos 1998). It can be continued, and
-/// each run on the same shop finds the same schedules.
+/// A tabu search for short schedules of a job shop (Glover 1989; Nowicki and Smutnicki 1996). It
+/// moves steps within the blocks of a critical path (Balas and Vazacopoulos 1998). It can be
+/// continued, and each run on the same shop finds the same schedules.
 #[derive(Drop)]
 pub struct LocalSearch {
     steps: Steps,
@@ -78,8 +78,8 @@ impl LocalSearch {
         })
     }
 
-    /// Returns whether nothing is left to search for: the makespan is the lower bound, or no step of a
-    /// critical path can move.
+    /// Returns whether nothing is left to search for: the makespan is the lower bound, or no step
+    /// of a critical path can move.
     pub fn is_over(&self) -> bool {
         self.is_over
     }
@@ -156,8 +156,8 @@ impl LocalSearch {
         }
     }
 
-    // Looks at the moves within a block. Those to and from the start of the first block, or the end of
-    // the last one, can't make the schedule shorter.
+    // Looks at the moves within a block. Those to and from the start of the first block, or the end
+    // of the last one, can't make the schedule shorter.
     fn consider_block(&mut self, first: u32, last: u32) {
         let is_last = last as usize + 1 >= self.path.len();
         if !is_last {
@@ -241,8 +241,8 @@ impl LocalSearch {
         Ok(())
     }
 
-    /// Searches until so much work is done, or nothing is left to search for. A unit of work is a step
-    /// that is visited.
+    /// Searches until so much work is done, or nothing is left to search for. A unit of work is a
+    /// step that is visited.
     pub fn run(&mut self, work: u64) -> Result<(), AllocError> {
         self.work = 0;
         for _ in 0..work {
@@ -254,7 +254,8 @@ impl LocalSearch {
         Ok(())
     }
 
-    /// Returns an active schedule of the best starts if it is shorter than a known one, else that one.
+    /// Returns an active schedule of the best starts if it is shorter than a known one, else that
+    /// one.
     pub fn shortened(
         &self,
         alloc: Global,

@@ -1,10 +1,11 @@
 //! The search of a job shop by moves.
 
 ghost use Rattle.std.specs.Prelude.{IfOk};
-ghost use Rattle.plan_prove.specs.Proofs.{IsProofOf};
+ghost use Rattle.plan_shop.specs.Shop.{problem_of};
+ghost use Rattle.plan_active.specs.Shifts.{IsActiveInTime};
 
 use plan_local::LocalSearch;
-use plan_prove::Proof;
+use plan_sgs::Schedule;
 use plan_shop::Shop;
 use plan_solve::Watcher as SolveWatcher;
 use std::alloc::{AllocError, Global};
@@ -45,8 +46,8 @@ impl Moves {
             .min(MOST_FIRST_WORK)
     }
 
-    /// Returns the work of a turn beside one of so many conflicts. It is less after turns that didn't
-    /// find a shorter schedule.
+    /// Returns the work of a turn beside one of so many conflicts. It is less after turns that
+    /// didn't find a shorter schedule.
     pub fn work_of_turn(&self, conflicts: u64) -> u64 {
         let work = conflicts
             .saturating_mul(self.steps)
@@ -65,31 +66,29 @@ impl Moves {
         Ok(())
     }
 
-    /// Continues the search from a proof, with so much work.
+    /// Continues the search from a schedule and a lower bound, with so much work. Returns a
+    /// schedule that is no longer.
     pub fn search<V: SolveWatcher>(
         &mut self,
         alloc: Global,
         shop: &Shop,
-        known: Proof,
+        known: Schedule,
+        lower: u64,
         work: u64,
         watcher: &mut V,
-    ) -> Result<Proof, AllocError>
-        requires { IsProofOf shop.now known }
-        ensures { IfOk result (IsProofOf shop.now) }
+    ) -> Result<Schedule, AllocError>
+        requires { IsActiveInTime (problem_of shop.now) known }
+        ensures { IfOk result (IsActiveInTime (problem_of shop.now)) }
     {
-        let (makespan, lower) = (known.schedule.makespan, known.lower);
-        self.search.take(&known.schedule, lower);
+        let makespan = known.makespan;
+        self.search.take(&known, lower);
         self.run(work, watcher)?;
-        let schedule = self.search.shortened(alloc, shop, known.schedule)?;
+        let schedule = self.search.shortened(alloc, shop, known)?;
         self.idle = if schedule.makespan < makespan {
             0
         } else {
             self.idle.saturating_add(1)
         };
-        Ok(Proof {
-            schedule,
-            lower,
-            nodes: 0,
-        })
+        Ok(schedule)
     }
 }

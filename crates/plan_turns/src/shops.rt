@@ -5,7 +5,7 @@ ghost use Rattle.std.specs.Prelude.{◌≡◌, ◌≤◌, ◌<◌, IfOk};
 ghost use Rattle.plan_shop.specs.Shop.{problem_of};
 ghost use Rattle.plan_prove.specs.Proofs.{IsNodeLimit, IsProofOf};
 ghost use Rattle.plan_solve.specs.Sessions.{IsSessionOf};
-ghost use Rattle.plan_solve.specs.Solutions.{IsConflictLimit};
+ghost use Rattle.plan_solve.specs.Solutions.{IsConflictLimit, IsActiveShopSchedule, IsLowerBound};
 
 use crate::moves::Moves;
 use plan_prove::{Course, MOST_NODES, Proof, ProveFault, Watcher as ProofWatcher, prove_from};
@@ -38,18 +38,6 @@ fn proof_of(solved: Solved) -> Proof
     }
 }
 
-// Returns a proof as the schedule and the lower bound of a search.
-fn solved_of(proof: Proof) -> Solved
-    ensures schedule { result.schedule ≡ proof.schedule }
-    ensures lower { result.lower ≡ proof.lower }
-{
-    Solved {
-        schedule: proof.schedule,
-        lower: proof.lower,
-        conflicts: 0,
-    }
-}
-
 // Continues a search from another proof, with at most so many conflicts.
 fn by_conflicts<V: SolveWatcher, L: Log>(
     alloc: Global,
@@ -69,7 +57,11 @@ fn by_conflicts<V: SolveWatcher, L: Log>(
     if conflicts == 0 {
         return Ok(known);
     }
-    let known = solved_of(known);
+    let known = Solved {
+        schedule: known.schedule,
+        lower: known.lower,
+        conflicts: 0,
+    };
     match solve_shop_from(alloc, shop, known, session, conflicts, watcher, log) {
         Ok(solved) => Ok(proof_of(solved)),
         Err(SolveFault::NoMemory) => Err(AllocError),
@@ -102,6 +94,26 @@ fn by_nodes<V: ProofWatcher + SolveWatcher>(
     }
 }
 
+// Continues a search by moves from another proof, beside a turn of so many conflicts.
+fn by_moves<V: SolveWatcher>(
+    alloc: Global,
+    shop: &Shop,
+    known: Proof,
+    moves: &mut Moves,
+    conflicts: u64,
+    watcher: &mut V,
+) -> Result<Proof, AllocError>
+    requires { IsProofOf shop.now known }
+    ensures { IfOk result (IsProofOf shop.now) }
+{
+    let (lower, work) = (known.lower, moves.work_of_turn(conflicts));
+    Ok(Proof {
+        schedule: moves.search(alloc, shop, known.schedule, lower, work, watcher)?,
+        lower,
+        nodes: 0,
+    })
+}
+
 // Returns the number of nodes for each conflict.
 fn nodes_per_conflict(shop: &Shop) -> u64
     ensures { 0 < result }
@@ -132,21 +144,21 @@ fn is_over<V: SolveWatcher>(proof: &Proof, left: u64, watcher: &mut V) -> bool {
     left == 0 || proof.lower >= proof.schedule.makespan || watcher.is_late()
 }
 
-// Searches a shop in turns from a proof.
+// Searches a shop in turns from a known schedule and lower bound.
 fn search_from<V: ProofWatcher + SolveWatcher, L: Log>(
     alloc: Global,
     shop: &Shop,
-    known: Proof,
+    known: Solved,
     moves: &mut Moves,
     most: u64,
     watcher: &mut V,
     log: &mut L,
 ) -> Result<Proof, AllocError>
-    requires known { IsProofOf shop.now known }
+    requires schedule { IsActiveShopSchedule shop.now known.schedule }
+    requires lower { IsLowerBound (problem_of shop.now) known.lower }
     requires most { IsConflictLimit most }
     ensures { IfOk result (IsProofOf shop.now) }
 {
-    let known = solved_of(known);
     let mut session = shop_session(alloc, shop, &known, log.is_wanted())?;
     let mut course = Course::new(alloc);
     let mut best = proof_of(known);
@@ -163,16 +175,16 @@ fn search_from<V: ProofWatcher + SolveWatcher, L: Log>(
         best = by_nodes(alloc, shop, best, &mut course, nodes, watcher)?;
         nodes -= best.nodes;
         turn = TURN_NODES.max(best.nodes) / ratio;
-        best = moves.search(alloc, shop, best, moves.work_of_turn(turn), watcher)?;
+        best = by_moves(alloc, shop, best, moves, turn, watcher)?;
     }
     session.end_log(alloc, &best.schedule, log)?;
     Ok(best)
 }
 
 /// Searches a shop in turns, by moves, by conflicts and by nodes. Each search continues where it
-/// stopped, from the schedule and the lower bound of the other ones. The search by moves comes first.
-/// `most` is the greatest number of conflicts of all turns. The log gets what the search by conflicts
-/// proves, and the schedule.
+/// stopped, from the schedule and the lower bound of the other ones. The search by moves comes
+/// first. `most` is the greatest number of conflicts of all turns. The log gets what the search by
+/// conflicts proves, and the schedule.
 pub fn search_in_turns<V: ProofWatcher + SolveWatcher, L: Log>(
     alloc: Global,
     shop: &Shop,
@@ -183,12 +195,21 @@ pub fn search_in_turns<V: ProofWatcher + SolveWatcher, L: Log>(
     requires { IsConflictLimit most }
     ensures { IfOk result (IsProofOf shop.now) }
 {
+    let known = rule_solution(alloc, shop)?;
     let mut moves = Moves::new(alloc, shop)?;
-    let known = proof_of(rule_solution(alloc, shop)?);
-    let work = moves.first_work();
-    let known = moves.search(alloc, shop, known, work, watcher)?;
-    if !log.is_wanted() && is_over(&known, most, watcher) {
-        return Ok(known);
+    let (lower, work) = (known.lower, moves.first_work());
+    let schedule = moves.search(alloc, shop, known.schedule, lower, work, watcher)?;
+    if lower >= schedule.makespan && !log.is_wanted() {
+        return Ok(Proof {
+            schedule,
+            lower,
+            nodes: 0,
+        });
     }
+    let known = Solved {
+        schedule,
+        lower,
+        conflicts: 0,
+    };
     search_from(alloc, shop, known, &mut moves, most, watcher, log)
 }
