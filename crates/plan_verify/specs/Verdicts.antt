@@ -54,13 +54,22 @@ IsTrueLineForShop instance file text =
     (doc : docs.Shop) × Says instance file doc
     × IsTrueLine (shops.problem_of (shop_of doc)) text
 
--- Project file: its error is that of memory or its first failing check, and its project is refused
--- for its first need above a capacity.
+-- an error is that of a project file: want of memory, or the first check that it fails
+abbrev pub IsOfFile : List ℕ → VerifyFault → Type 0
+IsOfFile file (File fault) = IsWantOfMemory fault ⊎ IsFirstFailing file fault
+IsOfFile file (OfProject fault) = ⊥
+IsOfFile file (Log fault) = ⊥
+
+-- an error is that of an instance, its first need above a capacity, or that of a log
+abbrev pub IsOfInstance : Planned → VerifyFault → Type 0
+IsOfInstance i (File fault) = ⊥
+IsOfInstance i (OfProject fault) = RefusesInstance i fault
+IsOfInstance i (Log fault) = Unit {0}
+
+-- an error is that of a project file, or else of its project or of the log
 abbrev pub RefusesFile : List ℕ → VerifyFault → Type 0
-RefusesFile file (File fault) = IsWantOfMemory fault ⊎ IsFirstFailing file fault
-RefusesFile file (OfProject fault) =
-    (p : Project) × SaysProject file p × RefusesInstance (as_available p) fault
-RefusesFile file (Log fault) = Unit {0}
+RefusesFile file fault = IsOfFile file fault
+    ⊎ ((p : Project) × SaysProject file p × IsOfInstance (as_available p) fault)
 
 -- Job shop file: its error is that of memory or its first failing check.
 abbrev pub RefusesShopFile : List ℕ → List ℕ → VerifyFault → Type 0

@@ -1,6 +1,7 @@
 //! `plan verify`: what a log shows of the problem in a file.
 
 ghost use Rattle.std.specs.Prelude.{◌≡◌, IfOk, IfErr, string_bytes};
+ghost use Rattle.plan_psplib.specs.Project.{SaysProject};
 ghost use Rattle.plan_sgs.specs.Instances as instances;
 ghost use Rattle.plan_shop.specs.Shop as shops;
 ghost use Rattle.plan_shop.specs.Docs.{shop_of};
@@ -12,7 +13,7 @@ use crate::verifier::verify;
 use plan_io::Source;
 use plan_kernel::Input;
 use plan_orlib::{ShopDoc, read_shop};
-use plan_psplib::read_sm;
+use plan_psplib::{ProjectDoc, read_sm};
 use plan_sgs::Instance;
 use plan_shop::{Shop, ShopFault};
 use std::alloc::{AllocError, Global};
@@ -31,6 +32,36 @@ fn project_text<R: Source>(
     Ok(verdict_text(alloc, verdict)?)
 }
 
+// Returns the instance of a project with the capacities of its file.
+fn instance_of(project: &ProjectDoc) -> Result<Instance<'_>, VerifyFault>
+    ensures ok { IfOk result (λ instance. instance ≡ spec.as_available project.now) }
+    ensures refused { IfErr result (spec.IsOfInstance (spec.as_available project.now)) }
+{
+    Instance::of_project(project, project.avail()).map_err(VerifyFault::Project)
+}
+
+// Returns the line of what a log shows of a project with the capacities of its file.
+fn doc_text<R: Source>(
+    alloc: Global,
+    project: &ProjectDoc,
+    log: &mut R,
+) -> Result<String, VerifyFault>
+    ensures shown { IfOk result (λ text. spec.IsTrueLine
+        (instances.problem_of (spec.as_available project.now)) (string_bytes text)) }
+    ensures refused { IfErr result (spec.IsOfInstance (spec.as_available project.now)) }
+{
+    let instance = instance_of(project)?;
+    Ok(project_text(alloc, &instance, log)?)
+}
+
+// Reads the project in a file.
+fn read_project(alloc: Global, file: &[u8]) -> Result<ProjectDoc, VerifyFault>
+    ensures said { IfOk result (SaysProject file.now) }
+    ensures refused { IfErr result (spec.IsOfFile file.now) }
+{
+    read_sm(alloc, file).map_err(VerifyFault::File)
+}
+
 /// Returns the line of what a log shows of the project in a file: `verified 92` or `verified at
 /// least 96`.
 pub fn verify_text<R: Source>(
@@ -41,9 +72,8 @@ pub fn verify_text<R: Source>(
     ensures shown { IfOk result (λ text. spec.IsTrueLineFor file.now (string_bytes text)) }
     ensures refused { IfErr result (spec.RefusesFile file.now) }
 {
-    let project = read_sm(alloc, file).map_err(VerifyFault::File)?;
-    let instance = Instance::of_project(&project, project.avail()).map_err(VerifyFault::Project)?;
-    Ok(project_text(alloc, &instance, log)?)
+    let project = read_project(alloc, file)?;
+    doc_text(alloc, &project, log)
 }
 
 // Returns the job shop of a file with all machines open.
