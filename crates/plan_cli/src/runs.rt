@@ -11,6 +11,7 @@ ghost use Rattle.plan_cli.specs.BestRun.{IsBestTableOf, TellsWhyNoBest};
 ghost use Rattle.plan_cli.specs.BestProjectRun.{IsBestProjectTableOf, TellsWhyNoBestProject};
 ghost use Rattle.plan_cli.specs.Tasks.{IsLineOf, ShowsTask};
 
+use crate::documents::Subject;
 use crate::tasks::{Rows, Task, shown_text};
 use crate::watchers::{Log, ProofWatcher, SolveWatcher, Unlogged, Unwatched};
 use plan_errors::{CliFault, read_file, write_text};
@@ -90,7 +91,7 @@ pub fn cpm_run<R: Source, W: Sink>(
     )
 }
 
-/// Runs [`Task::Schedule`].
+/// Runs [`Task::Schedule`] on a project, with the capacities of its file.
 pub fn schedule_run<R: Source, W: Sink>(
     alloc: Global,
     rule: &str,
@@ -104,7 +105,7 @@ pub fn schedule_run<R: Source, W: Sink>(
         alloc,
         Task::Schedule {
             rule,
-            capacities: &[],
+            subject: Subject::Project(&[]),
         },
         Rows::Plain,
         &mut Unwatched,
@@ -114,7 +115,7 @@ pub fn schedule_run<R: Source, W: Sink>(
     )
 }
 
-/// Runs [`Task::Shop`].
+/// Runs [`Task::Schedule`] on a job shop.
 pub fn shop_run<R: Source, W: Sink>(
     alloc: Global,
     rule: &str,
@@ -128,7 +129,10 @@ pub fn shop_run<R: Source, W: Sink>(
 {
     run_task(
         alloc,
-        Task::Shop { rule, instance },
+        Task::Schedule {
+            rule,
+            subject: Subject::Shop(instance),
+        },
         Rows::Plain,
         &mut Unwatched,
         &mut Unlogged,
@@ -137,7 +141,7 @@ pub fn shop_run<R: Source, W: Sink>(
     )
 }
 
-/// Runs [`Task::Best`].
+/// Runs [`Task::Best`] on a job shop.
 pub fn best_run<R: Source, W: Sink>(
     alloc: Global,
     budget: &str,
@@ -151,7 +155,10 @@ pub fn best_run<R: Source, W: Sink>(
 {
     run_task(
         alloc,
-        Task::Best { budget, instance },
+        Task::Best {
+            budget,
+            subject: Subject::Shop(instance),
+        },
         Rows::Plain,
         &mut Unwatched,
         &mut Unlogged,
@@ -160,7 +167,7 @@ pub fn best_run<R: Source, W: Sink>(
     )
 }
 
-/// Runs [`Task::BestProject`].
+/// Runs [`Task::Best`] on a project, with the capacities of its file.
 pub fn best_project_run<R: Source, W: Sink>(
     alloc: Global,
     budget: &str,
@@ -173,9 +180,9 @@ pub fn best_project_run<R: Source, W: Sink>(
 {
     run_task(
         alloc,
-        Task::BestProject {
+        Task::Best {
             budget,
-            capacities: &[],
+            subject: Subject::Project(&[]),
         },
         Rows::Plain,
         &mut Unwatched,

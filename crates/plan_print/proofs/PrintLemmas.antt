@@ -6,6 +6,7 @@ use Rattle.plan_errors.specs.declared.fault.CliFault.{CliFault}
 use Rattle.plan_errors.specs.declared.fault.CliFault.TheVariants as cli
 use Rattle.plan_cli.specs.Tasks.{AreRead, bytes_named}
 use Rattle.plan_cli.specs.NamedTexts.{DoesWith}
+use Rattle.plan_cli.specs.declared.documents.Subject.{Subject}
 use Rattle.plan_cli.specs.declared.origins.Origin.{Origin}
 use Rattle.plan_cli.specs.declared.origins.Origin.TheVariants as origin
 use Rattle.plan_print.specs.Prints.{PrintsFrom, PrintsNamed, PrintsWith, Prints, sheet_with}
@@ -13,7 +14,6 @@ use Rattle.plan_print.specs.declared.prints.NamedOrigin.{NamedOrigin}
 use Rattle.plan_print.specs.declared.prints.NamedOrigin.TheVariants as named
 use Rattle.plan_print.specs.declared.prints.Print.{Print}
 use Rattle.plan_print.specs.declared.sheets.Sheet.{Sheet}
-use Rattle.plan_print.specs.declared.sheets.Subject.{Subject}
 
 -- what holds of the bytes that were read, if the known bytes are others and the fact implies another
 does_as : (known other : Option (List ℕ)) (r : Result (Unit {0}) CliFault) (Does Other : Bor (List ℕ) → Type 0)

@@ -7,8 +7,8 @@ ghost use Rattle.plan_cli.specs.NamedTexts.{dates_with};
 ghost use Rattle.plan_cli.specs.Tasks.{bytes_behind};
 ghost use Rattle.plan_print.specs.Prints as spec;
 
-use crate::sheets::{Sheet, Subject, sheet_text};
-use plan_cli::{CliFault, Dates, Inputs, Origin, SystemInputs, read_named};
+use crate::sheets::{Sheet, sheet_text};
+use plan_cli::{CliFault, Dates, Inputs, Origin, Subject, SystemInputs, read_named};
 use plan_errors::write_text;
 use plan_io::Sink;
 use std::alloc::Global;

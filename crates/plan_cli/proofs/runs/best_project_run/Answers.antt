@@ -1,8 +1,8 @@
 use Rattle.std.proofs.Common.{[]}
-use Rattle.plan_gantt.specs.ProjectBestText.{IsBestProjectTextOf, TellsBestProjectRefusal}
 use Rattle.plan_cli.specs.BestProjectRun.{IsBestProjectTableOf, TellsWhyNoBestProject}
+use Rattle.plan_cli.specs.BestRun.{IsBestOf, TellsNoBestOf}
 use Rattle.plan_cli.specs.Plans.{IsOfProject, RefusesFile}
-use Rattle.plan_cli.proofs.PlanLemmas.{of_file, refused_file}
+use Rattle.plan_cli.proofs.PlanLemmas.{Fitting, Needing, best_of_file, no_best_of_file}
 use Rattle.plan_cli.proofs.RunLemmas.{front_as, text_as}
 use Rattle.plan_cli.proofs.runs.best_project_run.Goals as goal
 
@@ -13,10 +13,10 @@ returns g c =
     record {
       reads = e.reads;
       writes = e.writes;
-      text = text_as (IsOfProject [] (IsBestProjectTextOf name)) (IsBestProjectTableOf name) (RefusesFile [] (TellsBestProjectRefusal name)) (TellsWhyNoBestProject name)
-          _ _ _ _ (of_file (IsBestProjectTextOf name)) (refused_file (TellsBestProjectRefusal name)) e.text;
-      front = front_as (IsOfProject [] (IsBestProjectTextOf name)) (IsBestProjectTableOf name) (RefusesFile [] (TellsBestProjectRefusal name)) (TellsWhyNoBestProject name)
-          _ _ _ _ _ (of_file (IsBestProjectTextOf name)) (refused_file (TellsBestProjectRefusal name)) e.front;
+      text = text_as (IsOfProject [] (Fitting (IsBestOf name))) (IsBestProjectTableOf name) (RefusesFile [] (Needing (TellsNoBestOf name))) (TellsWhyNoBestProject name)
+          _ _ _ _ (best_of_file name) (no_best_of_file name) e.text;
+      front = front_as (IsOfProject [] (Fitting (IsBestOf name))) (IsBestProjectTableOf name) (RefusesFile [] (Needing (TellsNoBestOf name))) (TellsWhyNoBestProject name)
+          _ _ _ _ _ (best_of_file name) (no_best_of_file name) e.front;
       quiet = e.quiet;
       fine = e.fine;
       heard = e.heard;
