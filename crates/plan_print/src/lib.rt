@@ -10,6 +10,5 @@ mod prints;
 mod reports;
 mod sheets;
 
-pub use plan_cli::Subject;
 pub use prints::{NamedOrigin, Print, print_on_files, print_on_named};
 pub use sheets::Sheet;
