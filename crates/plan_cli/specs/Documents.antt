@@ -93,11 +93,11 @@ RefusesSubject (subject.Shop instance) IsLine =
     RefusesShop instance.now (λ s. IsLine (plan.Shop s))
 
 -- the names of the activities of a project, or of the orders of a job shop
-abbrev pub row_names : Subject → List ℕ → List Name
-row_names (subject.Project given) file = names_behind activity_key file
-row_names (subject.Shop instance) file = instance_names order_key instance.now file
+abbrev pub names_of_rows : Subject → List ℕ → List Name
+names_of_rows (subject.Project given) file = names_behind activity_key file
+names_of_rows (subject.Shop instance) file = instance_names order_key instance.now file
 
 -- the names of the lines of a chart: those of activities, or of machines
-abbrev pub line_names : Subject → List ℕ → List Name
-line_names (subject.Project given) file = names_behind activity_key file
-line_names (subject.Shop instance) file = instance_names machine_key instance.now file
+abbrev pub names_of_lines : Subject → List ℕ → List Name
+names_of_lines (subject.Project given) file = names_behind activity_key file
+names_of_lines (subject.Shop instance) file = instance_names machine_key instance.now file

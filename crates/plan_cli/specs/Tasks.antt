@@ -5,7 +5,7 @@ use Rattle.std.specs.Prelude.{take, map}
 use Rattle.std.specs.Prelude.{codes, bytes_eq, if◌then◌else◌}
 use Rattle.plan_gantt.specs.FirstFaults.{TellsFirstFailing}
 use Rattle.plan_cli.specs.Run.{IsDateTableOf, ReadsFront}
-use Rattle.plan_cli.specs.Documents.{IsOfSubject, RefusesSubject, row_names, line_names}
+use Rattle.plan_cli.specs.Documents.{IsOfSubject, RefusesSubject, names_of_rows, names_of_lines}
 use Rattle.plan_cli.specs.Plans.{IsOfProject, RefusesFile}
 use Rattle.plan_cli.specs.Scheduled.{TellsNoRuleOf, TellsNotMade}
 use Rattle.plan_cli.specs.Tables.{IsTableBy}
@@ -71,14 +71,14 @@ IsLineOf task.ImportShop = TellsNoShopImport
 -- project, of orders in a job shop, and of machines in its chart. Other rows have no names.
 abbrev pub names_for : Task → List ℕ → List Name
 names_for task.Dates file = names_behind activity_key file
-names_for (task.Schedule rule subject) file = row_names subject file
-names_for (task.Chart from subject) file = line_names subject file
-names_for (task.Days from dates subject) file = row_names subject file
+names_for (task.Schedule rule subject) file = names_of_rows subject file
+names_for (task.Chart from subject) file = names_of_lines subject file
+names_for (task.Days from dates subject) file = names_of_rows subject file
 names_for (task.Slack starts given) file = names_behind activity_key file
-names_for (task.Compare starts subject) file = row_names subject file
-names_for (task.Best budget subject) file = row_names subject file
+names_for (task.Compare starts subject) file = names_of_rows subject file
+names_for (task.Best budget subject) file = names_of_rows subject file
 names_for (task.Prove nodes instance) file = instance_names order_key instance.now file
-names_for (task.Solve conflicts subject) file = row_names subject file
+names_for (task.Solve conflicts subject) file = names_of_rows subject file
 names_for _ file = []
 
 -- a text is the text of a task for a file, each row with its name

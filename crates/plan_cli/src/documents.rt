@@ -87,12 +87,12 @@ pub fn plan_of(alloc: Global, document: &Document) -> Result<Plan<'_>, CliFault>
 }
 
 /// Returns the names of the activities of a project, or of the orders of a job shop.
-pub fn row_names<'a>(
+pub fn names_of_rows<'a>(
     alloc: Global,
     subject: Subject<'_>,
     file: &'a [u8],
 ) -> Result<Vec<NameLine<'a>>, AllocError>
-    ensures { IfOk result (λ names. map name_of names.items ≡ spec.row_names subject.entry file.now) }
+    ensures { IfOk result (λ names. map name_of names.items ≡ spec.names_of_rows subject.entry file.now) }
 {
     match subject {
         Subject::Project(_) => activity_names(alloc, file),
@@ -101,12 +101,12 @@ pub fn row_names<'a>(
 }
 
 /// Returns the names of the lines of a chart: those of activities, or of machines.
-pub fn line_names<'a>(
+pub fn names_of_lines<'a>(
     alloc: Global,
     subject: Subject<'_>,
     file: &'a [u8],
 ) -> Result<Vec<NameLine<'a>>, AllocError>
-    ensures { IfOk result (λ names. map name_of names.items ≡ spec.line_names subject.entry file.now) }
+    ensures { IfOk result (λ names. map name_of names.items ≡ spec.names_of_lines subject.entry file.now) }
 {
     match subject {
         Subject::Project(_) => activity_names(alloc, file),

@@ -38,7 +38,9 @@ mod watchers;
 pub use calendars::{Dates, calendar_of};
 pub use capacities::{Capacity, replaced};
 pub use comparisons::Pair;
-pub use documents::{Document, Plan, Subject, line_names, plan_of, read_document, row_names};
+pub use documents::{
+    Document, Plan, Subject, names_of_lines, names_of_rows, plan_of, read_document,
+};
 pub use explanations::explain_run_in;
 pub use files::{read_named, run_on_file, run_on_files, run_on_named, run_on_texts};
 pub use inputs::{Inputs, SystemInputs};

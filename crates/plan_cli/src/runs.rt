@@ -11,6 +11,7 @@ ghost use Rattle.plan_cli.specs.BestRun.{IsBestTableOf, TellsWhyNoBest};
 ghost use Rattle.plan_cli.specs.BestProjectRun.{IsBestProjectTableOf, TellsWhyNoBestProject};
 ghost use Rattle.plan_cli.specs.Tasks.{IsLineOf, ShowsTask};
 
+use crate::capacities::Capacity;
 use crate::documents::Subject;
 use crate::tasks::{Rows, Task, shown_text};
 use crate::watchers::{Log, ProofWatcher, SolveWatcher, Unlogged, Unwatched};
@@ -101,12 +102,11 @@ pub fn schedule_run<R: Source, W: Sink>(
     ensures { Runs R.Source W.Sink (IsScheduleTableOf rule.now) (TellsWhyNoSchedule rule.now)
         reader.old reader.new writer.old writer.new result }
 {
+    let capacities: &[Capacity<'_>] = &[];
+    let subject = Subject::Project(capacities);
     run_task(
         alloc,
-        Task::Schedule {
-            rule,
-            subject: Subject::Project(&[]),
-        },
+        Task::Schedule { rule, subject },
         Rows::Plain,
         &mut Unwatched,
         &mut Unlogged,
@@ -127,12 +127,10 @@ pub fn shop_run<R: Source, W: Sink>(
         (IsShopTableOf rule.now instance.now) (TellsWhyNoShop rule.now instance.now)
         reader.old reader.new writer.old writer.new result }
 {
+    let subject = Subject::Shop(instance);
     run_task(
         alloc,
-        Task::Schedule {
-            rule,
-            subject: Subject::Shop(instance),
-        },
+        Task::Schedule { rule, subject },
         Rows::Plain,
         &mut Unwatched,
         &mut Unlogged,
@@ -153,12 +151,10 @@ pub fn best_run<R: Source, W: Sink>(
         (IsBestTableOf budget.now instance.now) (TellsWhyNoBest budget.now instance.now)
         reader.old reader.new writer.old writer.new result }
 {
+    let subject = Subject::Shop(instance);
     run_task(
         alloc,
-        Task::Best {
-            budget,
-            subject: Subject::Shop(instance),
-        },
+        Task::Best { budget, subject },
         Rows::Plain,
         &mut Unwatched,
         &mut Unlogged,
@@ -178,12 +174,11 @@ pub fn best_project_run<R: Source, W: Sink>(
         (IsBestProjectTableOf budget.now) (TellsWhyNoBestProject budget.now)
         reader.old reader.new writer.old writer.new result }
 {
+    let capacities: &[Capacity<'_>] = &[];
+    let subject = Subject::Project(capacities);
     run_task(
         alloc,
-        Task::Best {
-            budget,
-            subject: Subject::Project(&[]),
-        },
+        Task::Best { budget, subject },
         Rows::Plain,
         &mut Unwatched,
         &mut Unlogged,

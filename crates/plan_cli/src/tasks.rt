@@ -9,7 +9,7 @@ use crate::calendars::Dates;
 use crate::capacities::Capacity;
 use crate::commands::{Command, subject_text};
 use crate::comparisons::Pair;
-use crate::documents::{Subject, line_names, row_names};
+use crate::documents::{Subject, names_of_lines, names_of_rows};
 use crate::formatted::formatted;
 use crate::imports::{import_text, shop_import_text};
 use crate::names::names_text;
@@ -203,8 +203,8 @@ fn names_for<'a>(
         | Task::Days { subject, .. }
         | Task::Compare { subject, .. }
         | Task::Best { subject, .. }
-        | Task::Solve { subject, .. } => row_names(alloc, subject, file),
-        Task::Chart { subject, .. } => line_names(alloc, subject, file),
+        | Task::Solve { subject, .. } => names_of_rows(alloc, subject, file),
+        Task::Chart { subject, .. } => names_of_lines(alloc, subject, file),
         Task::Prove { instance, .. } => order_names(alloc, file, instance.as_bytes()),
         _ => Ok(Vec::new(alloc)),
     }

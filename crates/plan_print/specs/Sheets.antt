@@ -8,7 +8,7 @@ use Rattle.plan_sheet.specs.Plans.{IsShopIcs, IsShopBeyond, shop_svg}
 use Rattle.plan_sheet.specs.Reports.{project_page, IsDatedReport, IsReportBeyond}
 use Rattle.plan_sheet.specs.Reports.{shop_page, IsDatedShopReport, IsShopReportBeyond}
 use Rattle.plan_cli.specs.DaysRun.{ShowsDays, TellsNoDays}
-use Rattle.plan_cli.specs.Documents.{row_names, line_names}
+use Rattle.plan_cli.specs.Documents.{names_of_rows, names_of_lines}
 use Rattle.plan_cli.specs.Scheduled.{IsScheduleFrom, TellsNotMade}
 use Rattle.plan_cli.specs.declared.calendars.Dates.{Dates}
 use Rattle.plan_cli.specs.declared.documents.Plan.{Plan}
@@ -38,7 +38,7 @@ IsIcsBeyond (plan.Shop s) starts c = IsShopBeyond s starts c
 
 -- a text is the calendar file of starts, with the names in the file
 abbrev pub AreEvents : Subject → List ℕ → Plan → List ℕ → Workdays → List ℕ → Type 0
-AreEvents of file p starts c text = IsIcs (digest_of of file) (row_names of file) p starts c text
+AreEvents of file p starts c text = IsIcs (digest_of of file) (names_of_rows of file) p starts c text
 
 -- the chart of starts with these names of its lines and rows: a line for each activity or machine
 abbrev pub svg_of : List ℕ → List Name → List Name → Plan → List ℕ → List ℕ
@@ -48,7 +48,7 @@ svg_of title lines rows (plan.Shop s) starts = shop_svg title lines rows s start
 -- a text is the chart of starts, with the names in the file
 abbrev pub IsChart : List ℕ → Subject → List ℕ → Plan → List ℕ → List ℕ → Type 0
 IsChart title of file p starts text =
-    text ≡ svg_of title (line_names of file) (row_names of file) p starts
+    text ≡ svg_of title (names_of_lines of file) (names_of_rows of file) p starts
 
 -- the names of the resources of a project, or of the orders of a job shop
 abbrev pub legend_names : Subject → List ℕ → List Name
@@ -81,9 +81,9 @@ IsPageBeyond by_job (plan.Shop s) starts c = IsShopReportBeyond s starts by_job 
 abbrev pub IsReport : List ℕ → Option Dates → Bool → Subject → List ℕ → Plan → List ℕ → List ℕ
     → Type 0
 IsReport title None by_job of file p starts =
-    IsPlainPage title (line_names of file) (legend_names of file) by_job p starts
+    IsPlainPage title (names_of_lines of file) (legend_names of file) by_job p starts
 IsReport title (Some dates) by_job of file p starts = ShowsDays dates
-    (IsDatedPage title (line_names of file) (legend_names of file) by_job p starts)
+    (IsDatedPage title (names_of_lines of file) (legend_names of file) by_job p starts)
 
 -- a line refuses the report of starts
 abbrev pub HidesReport : Option Dates → Bool → Plan → List ℕ → List ℕ → Type 0

@@ -6,7 +6,7 @@ ghost use Rattle.plan_cli.specs.Run.{IfText};
 ghost use Rattle.plan_cli.specs.Scheduled.{CanBeShown};
 ghost use Rattle.plan_print.specs.Sheets as spec;
 
-use plan_cli::{CliFault, Plan, Subject, line_names, row_names};
+use plan_cli::{CliFault, Plan, Subject, names_of_lines, names_of_rows};
 use plan_sgs::Schedule;
 use plan_sheet::{project_svg, shop_svg};
 use std::alloc::Global;
@@ -25,8 +25,8 @@ pub(crate) fn chart_text(
         plan.now schedule.now.starts.items) }
     ensures refused { IfErr result (λ e. e ≡ CliFault.Memory) }
 {
-    let lines = line_names(alloc, subject, file)?;
-    let rows = row_names(alloc, subject, file)?;
+    let lines = names_of_lines(alloc, subject, file)?;
+    let rows = names_of_rows(alloc, subject, file)?;
     let starts = &schedule.starts;
     match plan {
         Plan::Project(instance) => {

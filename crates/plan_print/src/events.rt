@@ -10,7 +10,7 @@ ghost use Rattle.plan_cli.specs.DaysRun.{ShowsDays, TellsBeyond, TellsNoDays};
 ghost use Rattle.plan_print.specs.Sheets as spec;
 
 use crate::digests::{file_digest, instance_digest};
-use plan_cli::{CliFault, Dates, Plan, Subject, calendar_of, days_refusal, row_names};
+use plan_cli::{CliFault, Dates, Plan, Subject, calendar_of, days_refusal, names_of_rows};
 use plan_gantt::{Calendar, DaysFault};
 use plan_sgs::Schedule;
 use plan_sheet::{project_ics, shop_ics};
@@ -87,7 +87,7 @@ fn events_on(
         (spec.IsIcsBeyond plan.now schedule.now.starts.items calendar.now))) }
 {
     let digest = digest_of(alloc, subject, file)?;
-    let names = row_names(alloc, subject, file)?;
+    let names = names_of_rows(alloc, subject, file)?;
     ics_text(alloc, &digest, &names, plan, schedule, calendar)
 }
 

@@ -14,7 +14,7 @@ ghost use Rattle.plan_cli.specs.DaysRun.{ShowsDays, TellsBeyond, TellsNoDays};
 ghost use Rattle.plan_print.specs.Sheets as spec;
 
 use crate::margins::{floats_of, slacks_of};
-use plan_cli::{CliFault, Dates, Plan, Subject, calendar_of, days_refusal, line_names};
+use plan_cli::{CliFault, Dates, Plan, Subject, calendar_of, days_refusal, names_of_lines};
 use plan_gantt::Calendar;
 use plan_sgs::{Instance, Schedule};
 use plan_sheet::{
@@ -240,7 +240,7 @@ pub(crate) fn report_text(
     ensures refused { IfErr result (Refuses
         (spec.HidesReport dates.entry by_job plan.now schedule.now.starts.items)) }
 {
-    let lines = line_names(alloc, subject, file)?;
+    let lines = names_of_lines(alloc, subject, file)?;
     let legend = legend_names(alloc, subject, file)?;
     match dates {
         Some(dates) => { dated_page(alloc, title, dates, &lines, &legend, by_job, plan, schedule) }
