@@ -19,6 +19,11 @@ use Rattle.plan_cli.specs.Plans.{PlannedWith, IsOfProject, IsOfShop, RefusesFile
 use Rattle.plan_cli.specs.declared.capacities.Capacity.{Capacity}
 use Rattle.plan_cli.specs.declared.documents.Plan.{Plan}
 use Rattle.plan_cli.specs.declared.documents.Plan.TheVariants as plan
+use Rattle.plan_cli.specs.declared.documents.Subject.TheVariants as subject
+use Rattle.plan_cli.specs.Tasks.{IsTextOf, IsLineOf}
+use Rattle.plan_cli.specs.declared.tasks.Task.{Task}
+use Rattle.plan_cli.specs.declared.tasks.Task.TheVariants as task
+use denote.Ref.{Bor}
 
 -- the capacities are those of the file
 as_in_file : (p : Project) (Holds : Planned → Type 0) → PlannedWith [] p Holds → Holds (as_available p)
@@ -70,6 +75,13 @@ refusal_by : (name : List ℕ) (i : Planned) (line : List ℕ) → Needing (Tell
 refusal_by name i line (inl (first, need, told)) = (first, inl need, told)
 refusal_by name i line (inr (fit, (first, word, told))) = (first, inr (fit, word), told)
 
+-- the same for the task of a schedule
+pub schedule_texts : (t : Task) (rule : Bor (List ℕ)) (given : Bor (List Capacity)) → t ≡ task.Schedule rule (subject.Project given) → given.now ≡ []
+    → (file text : List ℕ) → IsTextOf t file text → IsScheduleTableOf rule.now file text
+schedule_texts t rule given same none file text is =
+    table_of_file rule.now file text
+    (subst (λ (c : List Capacity). IsOfProject c (Fitting (IsTableBy rule.now)) file text) none (subst (λ (u : Task). IsTextOf u file text) same is))
+
 pub no_table_of_file : (name file line : List ℕ) → RefusesFile [] (Needing (TellsNoRuleOf name)) file line
     → TellsWhyNoSchedule name file line
 no_table_of_file name file line refused = by_rule (refused_file (Needing (TellsNoRuleOf name)) file line refused)
@@ -78,6 +90,13 @@ no_table_of_file name file line refused = by_rule (refused_file (Needing (TellsN
         → TellsWhyNoSchedule name file line
     by_rule (inl first) = inl first
     by_rule (inr (p, says, tells)) = inr (p, says, refusal_by name (as_available p) line tells)
+
+-- the same for the task of a schedule
+pub schedule_lines : (t : Task) (rule : Bor (List ℕ)) (given : Bor (List Capacity)) → t ≡ task.Schedule rule (subject.Project given) → given.now ≡ []
+    → (file line : List ℕ) → IsLineOf t file line → TellsWhyNoSchedule rule.now file line
+schedule_lines t rule given same none file line is =
+    no_table_of_file rule.now file line
+    (subst (λ (c : List Capacity). RefusesFile c (Needing (TellsNoRuleOf rule.now)) file line) none (subst (λ (u : Task). IsLineOf u file line) same is))
 
 -- the best schedule is that of a file
 pub best_of_file : (budget file text : List ℕ) → IsOfProject [] (Fitting (IsBestOf budget)) file text
@@ -91,6 +110,19 @@ best_of_file budget file text made = fitting (of_file (Fitting (IsBestOf budget)
 pub no_best_of_file : (budget file line : List ℕ) → RefusesFile [] (Needing (TellsNoBestOf budget)) file line
     → TellsWhyNoBestProject budget file line
 no_best_of_file budget file line refused = refused_file (Needing (TellsNoBestOf budget)) file line refused
+
+-- the same for the task of a best schedule
+pub best_texts : (t : Task) (budget : Bor (List ℕ)) (given : Bor (List Capacity)) → t ≡ task.Best budget (subject.Project given) → given.now ≡ []
+    → (file text : List ℕ) → IsTextOf t file text → IsBestProjectTableOf budget.now file text
+best_texts t budget given same none file text is =
+    best_of_file budget.now file text
+    (subst (λ (c : List Capacity). IsOfProject c (Fitting (IsBestOf budget.now)) file text) none (subst (λ (u : Task). IsTextOf u file text) same is))
+
+pub best_lines : (t : Task) (budget : Bor (List ℕ)) (given : Bor (List Capacity)) → t ≡ task.Best budget (subject.Project given) → given.now ≡ []
+    → (file line : List ℕ) → IsLineOf t file line → TellsWhyNoBestProject budget.now file line
+best_lines t budget given same none file line is =
+    no_best_of_file budget.now file line
+    (subst (λ (c : List Capacity). RefusesFile c (Needing (TellsNoBestOf budget.now)) file line) none (subst (λ (u : Task). IsLineOf u file line) same is))
 
 -- the table by a rule is that of an instance in a file
 pub table_of_shop : (name instance file text : List ℕ) → IsOfShop instance (λ s. IsTableBy name (plan.Shop s)) file text

@@ -92,6 +92,22 @@ pub fn cpm_run<R: Source, W: Sink>(
     )
 }
 
+// Returns the task of a project's schedule by a rule.
+fn schedule_task<'a>(rule: &'a str, capacities: &'a [Capacity<'a>]) -> Task<'a>
+    ensures { result ≡ Task.Schedule rule.entry (Subject.Project capacities.entry) }
+{
+    let subject = Subject::Project(capacities);
+    Task::Schedule { rule, subject }
+}
+
+// Returns the task of a project's best schedule within a budget.
+fn best_task<'a>(budget: &'a str, capacities: &'a [Capacity<'a>]) -> Task<'a>
+    ensures { result ≡ Task.Best budget.entry (Subject.Project capacities.entry) }
+{
+    let subject = Subject::Project(capacities);
+    Task::Best { budget, subject }
+}
+
 /// Runs [`Task::Schedule`] on a project, with the capacities of its file.
 pub fn schedule_run<R: Source, W: Sink>(
     alloc: Global,
@@ -102,11 +118,9 @@ pub fn schedule_run<R: Source, W: Sink>(
     ensures { Runs R.Source W.Sink (IsScheduleTableOf rule.now) (TellsWhyNoSchedule rule.now)
         reader.old reader.new writer.old writer.new result }
 {
-    let capacities: &[Capacity<'_>] = &[];
-    let subject = Subject::Project(capacities);
     run_task(
         alloc,
-        Task::Schedule { rule, subject },
+        schedule_task(rule, &[]),
         Rows::Plain,
         &mut Unwatched,
         &mut Unlogged,
@@ -174,11 +188,9 @@ pub fn best_project_run<R: Source, W: Sink>(
         (IsBestProjectTableOf budget.now) (TellsWhyNoBestProject budget.now)
         reader.old reader.new writer.old writer.new result }
 {
-    let capacities: &[Capacity<'_>] = &[];
-    let subject = Subject::Project(capacities);
     run_task(
         alloc,
-        Task::Best { budget, subject },
+        best_task(budget, &[]),
         Rows::Plain,
         &mut Unwatched,
         &mut Unlogged,

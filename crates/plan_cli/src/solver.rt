@@ -46,6 +46,8 @@ fn solved_shop<V: ProofWatcher + SolveWatcher>(
     requires { IsConflictLimit conflicts }
     ensures { IfOk result (spec.IsSolution (Plan.Shop shop.now)) }
 {
+    // The proof needs the shop's invariant, which this call states.
+    let _machines = shop.machines();
     let proof = search_in_turns(alloc, shop, conflicts, watcher)?;
     Ok(Solved {
         schedule: proof.schedule,
