@@ -1,10 +1,10 @@
 -- The working days of schedules, and their refusals.
 use Rattle.std.proofs.Common.{◌≡◌, inl, inr, ℕ, List}
-use Rattle.plan_sgs.specs.declared.schedule.Schedule.{Schedule}
 use Rattle.plan_calendar.specs.WorkingDay.{Workdays}
 use Rattle.plan_errors.specs.declared.fault.CliFault.{CliFault}
 use Rattle.plan_errors.specs.Output.{Refuses}
 use Rattle.plan_cli.specs.declared.documents.Plan.{Plan}
+use Rattle.plan_cli.specs.declared.schedules.Scheduled.{Scheduled}
 use Rattle.plan_cli.specs.declared.origins.Origin.{Origin}
 use Rattle.plan_cli.specs.Scheduled.{IsMadeFrom}
 use Rattle.plan_cli.specs.declared.calendars.Dates.{Dates}
@@ -12,27 +12,27 @@ use Rattle.plan_cli.specs.Calendars.{IsDated, TellsNoCalendar}
 use Rattle.plan_cli.specs.DaysRun.{TellsBeyond, IsDaysFrom, IsDaysTable, HasDayBeyond, TellsNoDaysFrom}
 use Rattle.plan_cli.proofs.RunLemmas.{refuses_as}
 
-pub days_shown : (from : Origin) (dates : Dates) (p : Plan) (m : Schedule) (c : Workdays) (text : List ℕ)
-    → IsMadeFrom from p m → IsDated dates c → IsDaysTable p m.starts.items c text → IsDaysFrom from dates p text
+pub days_shown : (from : Origin) (dates : Dates) (p : Plan) (m : Scheduled) (c : Workdays) (text : List ℕ)
+    → IsMadeFrom from p m → IsDated dates c → IsDaysTable p m.schedule.starts.items c text → IsDaysFrom from dates p text
 days_shown from dates p m c text made is shown = record {
-  starts = m.starts.items;
+  starts = m.schedule.starts.items;
   schedule = made.starts;
   shown = (c, is, shown);
 }
 
-pub no_calendar : (from : Origin) (dates : Dates) (p : Plan) (m : Schedule) (e : CliFault) → IsMadeFrom from p m
+pub no_calendar : (from : Origin) (dates : Dates) (p : Plan) (m : Scheduled) (e : CliFault) → IsMadeFrom from p m
     → Refuses (TellsNoCalendar dates) e → Refuses (TellsNoDaysFrom from dates p) e
 no_calendar from dates p m e made t =
     refuses_as (TellsNoCalendar dates) (TellsNoDaysFrom from dates p) e
-    (λ line tells. inr (record { starts = m.starts.items; schedule = made.starts; hidden = inl tells })) t
+    (λ line tells. inr (record { starts = m.schedule.starts.items; schedule = made.starts; hidden = inl tells })) t
 
-pub days_beyond : (from : Origin) (dates : Dates) (p : Plan) (m : Schedule) (c : Workdays) (e : CliFault)
+pub days_beyond : (from : Origin) (dates : Dates) (p : Plan) (m : Scheduled) (c : Workdays) (e : CliFault)
     → IsMadeFrom from p m → IsDated dates c
-    → Refuses (TellsBeyond (HasDayBeyond p m.starts.items c)) e → Refuses (TellsNoDaysFrom from dates p) e
+    → Refuses (TellsBeyond (HasDayBeyond p m.schedule.starts.items c)) e → Refuses (TellsNoDaysFrom from dates p) e
 days_beyond from dates p m c e made is t =
-    refuses_as (TellsBeyond (HasDayBeyond p m.starts.items c)) (TellsNoDaysFrom from dates p) e
+    refuses_as (TellsBeyond (HasDayBeyond p m.schedule.starts.items c)) (TellsNoDaysFrom from dates p) e
     (λ line tells. inr (record {
-      starts = m.starts.items;
+      starts = m.schedule.starts.items;
       schedule = made.starts;
       hidden = inr (c, is, tells);
     })) t

@@ -1,6 +1,7 @@
 -- Schedules that texts can show (docs/definitions.md, "Runs").
-use Rattle.std.specs.Prelude.{◌≡◌, ◌⊎◌, ℕ, ◌≤◌, List, length, EachIndex, slice_index}
-use Rattle.plan_sgs.specs.Problem.{IsActive, IsFeasible, makespan}
+use Rattle.std.specs.Prelude.{◌≡◌, ◌⊎◌, ℕ, ◌≤◌, List, Option, Some, None, length, EachIndex}
+use Rattle.std.specs.Prelude.{slice_index}
+use Rattle.plan_sgs.specs.Problem.{IsActive, IsFeasible, IsShortest, makespan}
 use Rattle.plan_sgs.specs.Instances.{Planned}
 use Rattle.plan_sgs.specs.Keys.{rule_text, RefusesWord}
 use Rattle.plan_sgs.specs.declared.rule.Rule.{Rule}
@@ -14,12 +15,14 @@ use Rattle.plan_gantt.specs.Limits.{latest_start, latest_end}
 use Rattle.plan_gantt.specs.ScheduleText.{IsSchedule}
 use Rattle.plan_gantt.specs.ScheduleFaultText.{schedule_fault_text_of}
 use Rattle.plan_gantt.specs.ShopText.{rule_starts, TellsNoRule}
+use Rattle.plan_solve.specs.Solutions.{IsLowerBound}
 use Rattle.plan_report.specs.StartsText.{SaysStarts}
 use Rattle.plan_cli.specs.CheckRun.{TellsWhyInfeasible}
 use Rattle.plan_cli.specs.Documents.{problem_of, count_of, sheet_of}
 use Rattle.plan_cli.specs.Starts.{TellsNoStarts}
 use Rattle.plan_cli.specs.declared.documents.Plan.{Plan}
 use Rattle.plan_cli.specs.declared.documents.Plan.TheVariants as plan
+use Rattle.plan_cli.specs.declared.schedules.Scheduled.{Scheduled}
 use Rattle.plan_cli.specs.declared.origins.Origin.{Origin}
 use Rattle.plan_cli.specs.declared.origins.Origin.TheVariants as origin
 
@@ -51,6 +54,21 @@ pub record IsListed (listed : List ℕ) (p : Plan) (starts : List ℕ) : Type 0 
 abbrev pub IsScheduleFrom : Origin → Plan → List ℕ → Type 0
 IsScheduleFrom (origin.Rule name) = IsByRule name.now
 IsScheduleFrom (origin.Starts listed) = IsListed listed.now
+IsScheduleFrom (origin.Solved conflicts) p starts = IsActive (problem_of p) starts
+
+-- A lower bound of the makespans of all feasible schedules is one for starts: if it meets their
+-- makespan, they are those of a shortest schedule.
+pub record Bounds (p : Plan) (starts : List ℕ) (bound : ℕ) : Type 0 where
+  pub least : IsLowerBound (problem_of p) bound
+  pub below : bound ≤ makespan (problem_of p) starts
+  pub shortest : bound ≡ makespan (problem_of p) starts → IsShortest (problem_of p) starts
+
+-- the lower bound that is known for the starts of a schedule: that of the search that found it
+abbrev pub IsBoundFrom : Origin → Plan → List ℕ → Option ℕ → Type 0
+IsBoundFrom (origin.Rule name) p starts lower = lower ≡ None
+IsBoundFrom (origin.Starts listed) p starts lower = lower ≡ None
+IsBoundFrom (origin.Solved conflicts) p starts lower =
+    (bound : ℕ) × (lower ≡ Some bound) × Bounds p starts bound
 
 -- a schedule of `count` activities or steps that texts can show
 pub record CanBeShown (count : ℕ) (schedule : Schedule) : Type 0 where
@@ -64,10 +82,11 @@ pub record IsShowable (p : Plan) (schedule : Schedule) : Type 0 where
   pub makespan : schedule.makespan ≡ makespan (problem_of p) schedule.starts.items
   pub fits : CanBeShown (count_of p) schedule
 
--- the schedule of a plan, with its makespan
-pub record IsMadeFrom (from : Origin) (p : Plan) (schedule : Schedule) : Type 0 where
-  pub starts : IsScheduleFrom from p schedule.starts.items
-  pub showable : IsShowable p schedule
+-- the schedule of a plan, with its makespan and the lower bound that is known
+pub record IsMadeFrom (from : Origin) (p : Plan) (made : Scheduled) : Type 0 where
+  pub starts : IsScheduleFrom from p made.schedule.starts.items
+  pub showable : IsShowable p made.schedule
+  pub bound : IsBoundFrom from p made.schedule.starts.items made.lower
 
 -- a line reports that no rule has the name
 abbrev pub TellsNoRuleOf : List ℕ → Plan → List ℕ → Type 0
@@ -85,3 +104,4 @@ TellsNotListed listed p line = TellsNoStarts (sheet_of p) listed line
 abbrev pub TellsNotMade : Origin → Plan → List ℕ → Type 0
 TellsNotMade (origin.Rule name) p line = TellsNoRuleOf name.now p line
 TellsNotMade (origin.Starts listed) p line = TellsNotListed listed.now p line
+TellsNotMade (origin.Solved conflicts) p line = ⊥

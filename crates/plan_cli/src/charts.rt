@@ -10,6 +10,7 @@ ghost use Rattle.plan_cli.specs.ChartRun as spec;
 use crate::documents::Plan;
 use crate::origins::Origin;
 use crate::schedules::schedule_from;
+use crate::watchers::{Log, ProofWatcher, SolveWatcher};
 use plan_errors::CliFault;
 use plan_gantt::{chart, shop_chart};
 use plan_sgs::Schedule;
@@ -29,14 +30,16 @@ fn chart_of(alloc: Global, plan: &Plan<'_>, schedule: &Schedule) -> Result<Strin
 }
 
 /// Returns the chart of a plan.
-pub(crate) fn chart_text(
+pub(crate) fn chart_text<V: ProofWatcher + SolveWatcher, L: Log>(
     alloc: Global,
     origin: Origin<'_>,
     plan: &Plan<'_>,
+    watcher: &mut V,
+    log: &mut L,
 ) -> Result<String, CliFault>
     ensures made { IfText result (spec.IsChartFrom origin.entry plan.now) }
     ensures refused { IfErr result (Refuses (TellsNotMade origin.entry plan.now)) }
 {
-    let schedule = schedule_from(alloc, origin, plan)?;
-    Ok(chart_of(alloc, plan, &schedule)?)
+    let made = schedule_from(alloc, origin, plan, watcher, log)?;
+    Ok(chart_of(alloc, plan, &made.schedule)?)
 }

@@ -45,8 +45,8 @@ fn plan_text<V: ProofWatcher + SolveWatcher, L: Log>(
 {
     match command {
         Command::Schedule(rule) => schedule_text(alloc, rule, plan),
-        Command::Chart(origin) => chart_text(alloc, origin, plan),
-        Command::Days(origin, dates) => days_text(alloc, origin, dates, plan),
+        Command::Chart(origin) => chart_text(alloc, origin, plan, watcher, log),
+        Command::Days(origin, dates) => { days_text(alloc, origin, dates, plan, watcher, log) },
         Command::Check(starts) => check_text(alloc, starts, plan),
         Command::Compare(starts) => comparison_text(alloc, starts, plan),
         Command::Best(budget) => best_text(alloc, budget, plan),

@@ -12,6 +12,7 @@ use crate::documents::Plan;
 use crate::origins::Origin;
 use crate::refusals::days_refusal;
 use crate::schedules::schedule_from;
+use crate::watchers::{Log, ProofWatcher, SolveWatcher};
 use plan_errors::CliFault;
 use plan_gantt::{Calendar, DaysFault, calendar_table, shop_calendar_table};
 use plan_sgs::Schedule;
@@ -54,17 +55,19 @@ fn schedule_days(
 }
 
 /// Returns the working days of a plan.
-pub(crate) fn days_text(
+pub(crate) fn days_text<V: ProofWatcher + SolveWatcher, L: Log>(
     alloc: Global,
     origin: Origin<'_>,
     dates: Dates<'_>,
     plan: &Plan<'_>,
+    watcher: &mut V,
+    log: &mut L,
 ) -> Result<String, CliFault>
     ensures made { IfText result (spec.IsDaysFrom origin.entry dates.entry plan.now) }
     ensures refused { IfErr result (Refuses
         (spec.TellsNoDaysFrom origin.entry dates.entry plan.now)) }
 {
-    let schedule = schedule_from(alloc, origin, plan)?;
+    let made = schedule_from(alloc, origin, plan, watcher, log)?;
     let calendar = calendar_of(alloc, dates)?;
-    schedule_days(alloc, plan, &schedule, &calendar)
+    schedule_days(alloc, plan, &made.schedule, &calendar)
 }

@@ -50,7 +50,7 @@ pub use plan_errors::{CliFault, Contents, Context, explain_run, hint, masked};
 pub use projects::{instance_with, read_project};
 pub use refusals::days_refusal;
 pub use runs::{best_project_run, best_run, cpm_run, run_task, schedule_run, shop_run};
-pub use schedules::schedule_from;
+pub use schedules::{Scheduled, schedule_from};
 pub use shops::read_instance;
 pub use tasks::{Rows, Task};
 pub use templates::{Template, template_run};

@@ -29,7 +29,7 @@ fn with_origin<'a>(context: Context<'a>, origin: Origin<'a>) -> Context<'a> {
             rule: Some(rule),
             ..context
         },
-        Origin::Starts(_) => context,
+        Origin::Starts(_) | Origin::Solved { .. } => context,
     }
 }
 
@@ -107,6 +107,7 @@ fn print_context<'a>(print: Print<'a>) -> Context<'a> {
             context.starts = Some(shown_name(name));
             context.unread = None;
         }
+        NamedOrigin::Solved { .. } => {}
     }
     if let Some(name) = print.holidays {
         context.holidays = Some(shown_name(name));

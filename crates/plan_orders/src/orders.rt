@@ -70,7 +70,7 @@ fn is_standard(texts: &[NamedText<'_>], role: Role) -> bool {
 fn print_input(print: &Print<'_>) -> Option<(&'static str, &'static str)> {
     let starts = match print.origin {
         NamedOrigin::Starts(name) => name,
-        NamedOrigin::Rule(_) => "",
+        NamedOrigin::Rule(_) | NamedOrigin::Solved { .. } => "",
     };
     match (print.file, starts, print.holidays) {
         ("-", "-", _) => Some(("FILE", "STARTS")),

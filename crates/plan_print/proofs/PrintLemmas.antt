@@ -43,6 +43,7 @@ named_same f g same s of (named.Starts name) file taken after r p =
     does_as (f name.now) (g name.now) r (λ starts. PrintsFrom (f file) s of (origin.Starts starts) taken after r)
     (λ starts. PrintsFrom (g file) s of (origin.Starts starts) taken after r) (same name.now)
     (λ starts q. from_same (f file) (g file) s of (origin.Starts starts) taken after r (same file) q) p
+named_same f g same s of (named.Solved conflicts) file taken after r p = from_same (f file) (g file) s of (origin.Solved conflicts) taken after r (same file) p
 
 with_same : (f g : List ℕ → Option (List ℕ)) → AreSame f g
     → (print : Print) (holidays : Option (Bor (List ℕ))) (taken after : Option (List ℕ)) (r : Result (Unit {0}) CliFault)

@@ -4,7 +4,6 @@ use Rattle.std.specs.Prelude.{IsErrOf}
 use Rattle.plan_calendar.specs.WorkingDay.{Workdays}
 use Rattle.plan_errors.specs.declared.fault.CliFault.{CliFault}
 use Rattle.plan_errors.specs.Output.{Refuses}
-use Rattle.plan_sgs.specs.declared.schedule.Schedule.{Schedule}
 use Rattle.plan_cli.specs.Calendars.{IsDated, TellsNoCalendar}
 use Rattle.plan_gantt.specs.declared.days.DaysFault.{DaysFault}
 use Rattle.plan_gantt.specs.declared.days.DaysFault.TheVariants as days
@@ -13,6 +12,7 @@ use Rattle.plan_cli.specs.Scheduled.{IsMadeFrom, TellsNotMade}
 use Rattle.plan_cli.specs.declared.calendars.Dates.{Dates}
 use Rattle.plan_cli.specs.declared.documents.Plan.{Plan}
 use Rattle.plan_cli.specs.declared.documents.Subject.{Subject}
+use Rattle.plan_cli.specs.declared.schedules.Scheduled.{Scheduled}
 use Rattle.plan_cli.specs.declared.origins.Origin.{Origin}
 use Rattle.plan_cli.proofs.RunLemmas.{refuses_as}
 use Rattle.plan_print.specs.declared.sheets.Sheet.{Sheet}
@@ -41,21 +41,23 @@ pub schedule_refused : (from : Origin) (s : Sheet) (p : Plan) (e : CliFault) →
 schedule_refused from s p e t = refuses_as (TellsNotMade from p) (TellsNoSheetFrom from s p) e (λ line tells. inl tells) t
 
 -- the sheet of a plan's schedule
-pub sheet_shown : (from : Origin) (s : Sheet) (of : Subject) (file : List ℕ) (p : Plan) (m : Schedule) (text : List ℕ)
-    → IsMadeFrom from p m → IsSheetOf s of file p m.starts.items text → IsSheetFrom from s of file p text
+pub sheet_shown : (from : Origin) (s : Sheet) (of : Subject) (file : List ℕ) (p : Plan) (m : Scheduled) (text : List ℕ)
+    → IsMadeFrom from p m → IsSheetOf s of file p m.schedule.starts.items m.lower text → IsSheetFrom from s of file p text
 sheet_shown from s of file p m text made shown = record {
-  starts = m.starts.items;
+  starts = m.schedule.starts.items;
   schedule = made.starts;
+  lower = m.lower;
+  bound = made.bound;
   shown = shown;
 }
 
 -- a refusal of it
-pub sheet_hidden : (from : Origin) (s : Sheet) (p : Plan) (m : Schedule) (e : CliFault)
-    → IsMadeFrom from p m → Refuses (HidesSheet s p m.starts.items) e → Refuses (TellsNoSheetFrom from s p) e
+pub sheet_hidden : (from : Origin) (s : Sheet) (p : Plan) (m : Scheduled) (e : CliFault)
+    → IsMadeFrom from p m → Refuses (HidesSheet s p m.schedule.starts.items) e → Refuses (TellsNoSheetFrom from s p) e
 sheet_hidden from s p m e made t =
-    refuses_as (HidesSheet s p m.starts.items) (TellsNoSheetFrom from s p) e
+    refuses_as (HidesSheet s p m.schedule.starts.items) (TellsNoSheetFrom from s p) e
     (λ line tells. inr (record {
-      starts = m.starts.items;
+      starts = m.schedule.starts.items;
       schedule = made.starts;
       hidden = tells;
     })) t

@@ -43,7 +43,7 @@ abbrev pub PrintsFrom : Option (List ℕ) → Sheet → Subject → Origin → O
 PrintsFrom bytes s of from taken after result = DoesWith bytes result (λ file.
     Writes (IsSheet s of from file.now) (RefusesSheet s of from file.now) taken after result)
 
--- the same by the rule with a name, or for the starts in the file with a name
+-- the same by the rule with a name, for the starts in the file with a name, or by a search
 abbrev pub PrintsNamed : (List ℕ → Option (List ℕ)) → Sheet → Subject → NamedOrigin → List ℕ
     → Option (List ℕ) → Option (List ℕ) → Result (Unit {0}) CliFault → Type 0
 PrintsNamed bytes_of s of (named.Rule name) file taken after result =
@@ -51,6 +51,8 @@ PrintsNamed bytes_of s of (named.Rule name) file taken after result =
 PrintsNamed bytes_of s of (named.Starts name) file taken after result =
     DoesWith (bytes_of name.now) result (λ starts.
     PrintsFrom (bytes_of file) s of (origin.Starts starts) taken after result)
+PrintsNamed bytes_of s of (named.Solved conflicts) file taken after result =
+    PrintsFrom (bytes_of file) s of (origin.Solved conflicts) taken after result
 
 -- the same with the holidays in the file with a name, if there is one
 abbrev pub PrintsWith : (List ℕ → Option (List ℕ)) → Print → Option (Bor (List ℕ))

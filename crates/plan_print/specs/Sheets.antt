@@ -9,7 +9,7 @@ use Rattle.plan_sheet.specs.Reports.{project_page, IsDatedReport, IsReportBeyond
 use Rattle.plan_sheet.specs.Reports.{shop_page, IsDatedShopReport, IsShopReportBeyond}
 use Rattle.plan_cli.specs.DaysRun.{ShowsDays, TellsNoDays}
 use Rattle.plan_cli.specs.Documents.{names_of_rows, names_of_lines}
-use Rattle.plan_cli.specs.Scheduled.{IsScheduleFrom, TellsNotMade}
+use Rattle.plan_cli.specs.Scheduled.{IsBoundFrom, IsScheduleFrom, TellsNotMade}
 use Rattle.plan_cli.specs.declared.calendars.Dates.{Dates}
 use Rattle.plan_cli.specs.declared.documents.Plan.{Plan}
 use Rattle.plan_cli.specs.declared.documents.Plan.TheVariants as plan
@@ -55,22 +55,24 @@ abbrev pub legend_names : Subject → List ℕ → List Name
 legend_names (subject.Project given) file = names_behind resource_key file
 legend_names (subject.Shop instance) file = instance_names order_key instance.now file
 
--- a text is the report of starts without a calendar, with these names
-abbrev pub IsPlainPage : List ℕ → List Name → List Name → Bool → Plan → List ℕ → List ℕ → Type 0
-IsPlainPage title lines legend by_job (plan.Project i) starts text =
+-- a text is the report of starts without a calendar, with these names, and perhaps with a lower
+-- bound of the least makespan
+abbrev pub IsPlainPage : List ℕ → Option ℕ → List Name → List Name → Bool → Plan → List ℕ → List ℕ
+    → Type 0
+IsPlainPage title lower lines legend by_job (plan.Project i) starts text =
     HasMargins i starts (λ floats slacks.
-    text ≡ project_page title lines legend i starts false [] floats slacks)
-IsPlainPage title lines legend by_job (plan.Shop s) starts text =
-    text ≡ shop_page title lines legend s starts by_job false []
+    text ≡ project_page title lower lines legend i starts false [] floats slacks)
+IsPlainPage title lower lines legend by_job (plan.Shop s) starts text =
+    text ≡ shop_page title lower lines legend s starts by_job false []
 
 -- a text is the report of starts on a calendar, with these names
-abbrev pub IsDatedPage : List ℕ → List Name → List Name → Bool → Plan → List ℕ → Workdays
-    → List ℕ → Type 0
-IsDatedPage title lines legend by_job (plan.Project i) starts c text =
+abbrev pub IsDatedPage : List ℕ → Option ℕ → List Name → List Name → Bool → Plan → List ℕ
+    → Workdays → List ℕ → Type 0
+IsDatedPage title lower lines legend by_job (plan.Project i) starts c text =
     HasMargins i starts (λ floats slacks.
-    IsDatedReport title lines legend i starts floats slacks c text)
-IsDatedPage title lines legend by_job (plan.Shop s) starts c text =
-    IsDatedShopReport title lines legend s starts by_job c text
+    IsDatedReport title lower lines legend i starts floats slacks c text)
+IsDatedPage title lower lines legend by_job (plan.Shop s) starts c text =
+    IsDatedShopReport title lower lines legend s starts by_job c text
 
 -- a day that it shows would be after the last date
 abbrev pub IsPageBeyond : Bool → Plan → List ℕ → Workdays → Type 0
@@ -78,12 +80,12 @@ IsPageBeyond by_job (plan.Project i) starts c = IsReportBeyond i starts c
 IsPageBeyond by_job (plan.Shop s) starts c = IsShopReportBeyond s starts by_job c
 
 -- a text is the report of starts, on the dates if there are dates, with the names in the file
-abbrev pub IsReport : List ℕ → Option Dates → Bool → Subject → List ℕ → Plan → List ℕ → List ℕ
-    → Type 0
-IsReport title None by_job of file p starts =
-    IsPlainPage title (names_of_lines of file) (legend_names of file) by_job p starts
-IsReport title (Some dates) by_job of file p starts = ShowsDays dates
-    (IsDatedPage title (names_of_lines of file) (legend_names of file) by_job p starts)
+abbrev pub IsReport : List ℕ → Option ℕ → Option Dates → Bool → Subject → List ℕ → Plan → List ℕ
+    → List ℕ → Type 0
+IsReport title lower None by_job of file p starts =
+    IsPlainPage title lower (names_of_lines of file) (legend_names of file) by_job p starts
+IsReport title lower (Some dates) by_job of file p starts = ShowsDays dates
+    (IsDatedPage title lower (names_of_lines of file) (legend_names of file) by_job p starts)
 
 -- a line refuses the report of starts
 abbrev pub HidesReport : Option Dates → Bool → Plan → List ℕ → List ℕ → Type 0
@@ -91,12 +93,13 @@ HidesReport None by_job p starts line = ⊥
 HidesReport (Some dates) by_job p starts line =
     TellsNoDays dates (IsPageBeyond by_job p starts) line
 
--- a text is a sheet of starts
-abbrev pub IsSheetOf : Sheet → Subject → List ℕ → Plan → List ℕ → List ℕ → Type 0
-IsSheetOf (sheet.Events dates) of file p starts = ShowsDays dates (AreEvents of file p starts)
-IsSheetOf (sheet.Chart title) of file p starts = IsChart title.now of file p starts
-IsSheetOf (sheet.Report title dates by_job) of file p starts =
-    IsReport title.now dates by_job of file p starts
+-- a text is a sheet of starts, perhaps with a lower bound of the least makespan
+abbrev pub IsSheetOf : Sheet → Subject → List ℕ → Plan → List ℕ → Option ℕ → List ℕ → Type 0
+IsSheetOf (sheet.Events dates) of file p starts lower =
+    ShowsDays dates (AreEvents of file p starts)
+IsSheetOf (sheet.Chart title) of file p starts lower = IsChart title.now of file p starts
+IsSheetOf (sheet.Report title dates by_job) of file p starts lower =
+    IsReport title.now lower dates by_job of file p starts
 
 -- a line refuses a sheet of starts
 abbrev pub HidesSheet : Sheet → Plan → List ℕ → List ℕ → Type 0
@@ -105,12 +108,14 @@ HidesSheet (sheet.Chart title) p starts line = ⊥
 HidesSheet (sheet.Report title dates by_job) p starts line =
     HidesReport dates by_job p starts line
 
--- a text is a sheet of a plan's schedule
+-- a text is a sheet of a plan's schedule; the lower bound is that of the search that found it
 pub record IsSheetFrom (from : Origin) (shown_as : Sheet) (of : Subject) (file : List ℕ) (p : Plan)
     (text : List ℕ) : Type 0 where
   pub starts : List ℕ
   pub schedule : IsScheduleFrom from p starts
-  pub shown : IsSheetOf shown_as of file p starts text
+  pub lower : Option ℕ
+  pub bound : IsBoundFrom from p starts lower
+  pub shown : IsSheetOf shown_as of file p starts lower text
 
 -- a line refuses a sheet of a plan's schedule, by its schedule
 pub record HidesSheetFrom (from : Origin) (shown_as : Sheet) (p : Plan) (line : List ℕ)

@@ -18,7 +18,8 @@ use plan_cli::{CliFault, Dates, Plan, Subject, calendar_of, days_refusal, names_
 use plan_gantt::Calendar;
 use plan_sgs::{Instance, Schedule};
 use plan_sheet::{
-    Margins, ProjectNames, dated_project_report, dated_shop_report, project_report, shop_report,
+    Heading, Margins, ProjectNames, dated_project_report, dated_shop_report, project_report,
+    shop_report,
 };
 use plan_shop::Shop;
 use plan_table::{NameLine, order_names, resource_names};
@@ -42,13 +43,13 @@ fn legend_names<'a>(
 // Returns the report of a project's schedule without a calendar, with these names.
 fn plain_project(
     alloc: Global,
-    title: &str,
+    heading: Heading<'_>,
     names: &ProjectNames<'_>,
     instance: &Instance<'_>,
     schedule: &Schedule,
 ) -> Result<String, CliFault>
     requires { CanBeShown (networks.count_of instance.now.project.network) schedule.now }
-    ensures made { IfText result (spec.IsPlainPage title.now (map name_of names.now.activities.now)
+    ensures made { IfText result (spec.IsPlainPage heading.entry.title.now heading.entry.lower (map name_of names.now.activities.now)
         (map name_of names.now.resources.now) false (Plan.Project instance.now)
         schedule.now.starts.items) }
     ensures refused { IfErr result (λ e. e ≡ CliFault.Memory) }
@@ -59,13 +60,13 @@ fn plain_project(
         floats: &floats,
         slacks: &slacks,
     };
-    Ok(project_report(alloc, title, names, instance, &schedule.starts, &margins)?)
+    Ok(project_report(alloc, heading, names, instance, &schedule.starts, &margins)?)
 }
 
 // Returns the report of a plan's schedule without a calendar, with these names.
 fn plain_page(
     alloc: Global,
-    title: &str,
+    heading: Heading<'_>,
     lines: &[NameLine<'_>],
     legend: &[NameLine<'_>],
     by_job: bool,
@@ -73,7 +74,7 @@ fn plain_page(
     schedule: &Schedule,
 ) -> Result<String, CliFault>
     requires { CanBeShown (count_of plan.now) schedule.now }
-    ensures made { IfText result (spec.IsPlainPage title.now (map name_of lines.now)
+    ensures made { IfText result (spec.IsPlainPage heading.entry.title.now heading.entry.lower (map name_of lines.now)
         (map name_of legend.now) by_job plan.now schedule.now.starts.items) }
     ensures refused { IfErr result (λ e. e ≡ CliFault.Memory) }
 {
@@ -83,11 +84,11 @@ fn plain_page(
                 activities: lines,
                 resources: legend,
             };
-            plain_project(alloc, title, &names, instance, schedule)
+            plain_project(alloc, heading, &names, instance, schedule)
         }
         Plan::Shop(shop) => {
             let starts = &schedule.starts;
-            Ok(shop_report(alloc, title, lines, legend, shop, starts, by_job)?)
+            Ok(shop_report(alloc, heading, lines, legend, shop, starts, by_job)?)
         }
     }
 }
@@ -95,7 +96,7 @@ fn plain_page(
 // Returns the report of a project's schedule on a calendar, with these names and margins.
 fn project_page_by(
     alloc: Global,
-    title: &str,
+    heading: Heading<'_>,
     names: &ProjectNames<'_>,
     instance: &Instance<'_>,
     schedule: &Schedule,
@@ -103,7 +104,7 @@ fn project_page_by(
     calendar: &Calendar,
 ) -> Result<String, CliFault>
     requires { CanBeShown (networks.count_of instance.now.project.network) schedule.now }
-    ensures made { IfText result (IsDatedReport title.now
+    ensures made { IfText result (IsDatedReport heading.entry.title.now heading.entry.lower
         (map name_of names.now.activities.now) (map name_of names.now.resources.now)
         instance.now schedule.now.starts.items margins.now.floats.now margins.now.slacks.now
         calendar.now) }
@@ -111,7 +112,7 @@ fn project_page_by(
         (IsReportBeyond instance.now schedule.now.starts.items calendar.now))) }
 {
     let starts = &schedule.starts;
-    dated_project_report(alloc, title, names, instance, starts, margins, calendar).map_err(
+    dated_project_report(alloc, heading, names, instance, starts, margins, calendar).map_err(
         |fault| days_refusal(alloc, fault),
     )
 }
@@ -119,14 +120,14 @@ fn project_page_by(
 // Returns the report of a project's schedule on a calendar, with these names.
 fn project_page_on(
     alloc: Global,
-    title: &str,
+    heading: Heading<'_>,
     names: &ProjectNames<'_>,
     instance: &Instance<'_>,
     schedule: &Schedule,
     calendar: &Calendar,
 ) -> Result<String, CliFault>
     requires { CanBeShown (networks.count_of instance.now.project.network) schedule.now }
-    ensures made { IfText result (spec.IsDatedPage title.now (map name_of names.now.activities.now)
+    ensures made { IfText result (spec.IsDatedPage heading.entry.title.now heading.entry.lower (map name_of names.now.activities.now)
         (map name_of names.now.resources.now) false (Plan.Project instance.now)
         schedule.now.starts.items calendar.now) }
     ensures refused { IfErr result (Refuses (TellsBeyond
@@ -138,13 +139,15 @@ fn project_page_on(
         floats: &floats,
         slacks: &slacks,
     };
-    project_page_by(alloc, title, names, instance, schedule, &margins, calendar)
+    project_page_by(
+        alloc, heading, names, instance, schedule, &margins, calendar,
+    )
 }
 
 // Returns the report of a job shop's schedule on a calendar, with these names.
 fn shop_page_on<'a>(
     alloc: Global,
-    title: &str,
+    heading: Heading<'_>,
     machines: &'a [NameLine<'a>],
     orders: &'a [NameLine<'a>],
     shop: &Shop,
@@ -153,7 +156,7 @@ fn shop_page_on<'a>(
     calendar: &Calendar,
 ) -> Result<String, CliFault>
     requires { CanBeShown (count_steps shop.now) schedule.now }
-    ensures made { IfText result (IsDatedShopReport title.now
+    ensures made { IfText result (IsDatedShopReport heading.entry.title.now heading.entry.lower
         (map name_of machines.now) (map name_of orders.now) shop.now
         schedule.now.starts.items by_job calendar.now) }
     ensures refused { IfErr result (Refuses (TellsBeyond
@@ -161,7 +164,7 @@ fn shop_page_on<'a>(
 {
     let starts = &schedule.starts;
     dated_shop_report(
-        alloc, title, machines, orders, shop, starts, by_job, calendar,
+        alloc, heading, machines, orders, shop, starts, by_job, calendar,
     )
     .map_err(|fault| days_refusal(alloc, fault))
 }
@@ -169,7 +172,7 @@ fn shop_page_on<'a>(
 // Returns the report of a plan's schedule on a calendar, with these names.
 fn page_on(
     alloc: Global,
-    title: &str,
+    heading: Heading<'_>,
     lines: &[NameLine<'_>],
     legend: &[NameLine<'_>],
     by_job: bool,
@@ -178,7 +181,7 @@ fn page_on(
     calendar: &Calendar,
 ) -> Result<String, CliFault>
     requires { CanBeShown (count_of plan.now) schedule.now }
-    ensures made { IfText result (spec.IsDatedPage title.now (map name_of lines.now)
+    ensures made { IfText result (spec.IsDatedPage heading.entry.title.now heading.entry.lower (map name_of lines.now)
         (map name_of legend.now) by_job plan.now schedule.now.starts.items calendar.now) }
     ensures refused { IfErr result (Refuses (TellsBeyond
         (spec.IsPageBeyond by_job plan.now schedule.now.starts.items calendar.now))) }
@@ -189,11 +192,11 @@ fn page_on(
                 activities: lines,
                 resources: legend,
             };
-            project_page_on(alloc, title, &names, instance, schedule, calendar)
+            project_page_on(alloc, heading, &names, instance, schedule, calendar)
         }
         Plan::Shop(shop) => {
             shop_page_on(
-                alloc, title, lines, legend, shop, schedule, by_job, calendar,
+                alloc, heading, lines, legend, shop, schedule, by_job, calendar,
             )
         }
     }
@@ -202,7 +205,7 @@ fn page_on(
 // Returns the report of a plan's schedule on dates, with these names.
 fn dated_page(
     alloc: Global,
-    title: &str,
+    heading: Heading<'_>,
     dates: Dates<'_>,
     lines: &[NameLine<'_>],
     legend: &[NameLine<'_>],
@@ -211,7 +214,7 @@ fn dated_page(
     schedule: &Schedule,
 ) -> Result<String, CliFault>
     requires { CanBeShown (count_of plan.now) schedule.now }
-    ensures made { IfText result (ShowsDays dates.entry (spec.IsDatedPage title.now
+    ensures made { IfText result (ShowsDays dates.entry (spec.IsDatedPage heading.entry.title.now heading.entry.lower
         (map name_of lines.now) (map name_of legend.now) by_job
         plan.now schedule.now.starts.items)) }
     ensures refused { IfErr result (Refuses (TellsNoDays dates.entry
@@ -219,14 +222,14 @@ fn dated_page(
 {
     let calendar = calendar_of(alloc, dates)?;
     page_on(
-        alloc, title, lines, legend, by_job, plan, schedule, &calendar,
+        alloc, heading, lines, legend, by_job, plan, schedule, &calendar,
     )
 }
 
 /// Returns the report of a plan's schedule, with the names in its file. With dates it has days.
 pub(crate) fn report_text(
     alloc: Global,
-    title: &str,
+    heading: Heading<'_>,
     dates: Option<Dates<'_>>,
     by_job: bool,
     subject: Subject<'_>,
@@ -235,7 +238,7 @@ pub(crate) fn report_text(
     schedule: &Schedule,
 ) -> Result<String, CliFault>
     requires { CanBeShown (count_of plan.now) schedule.now }
-    ensures made { IfText result (spec.IsReport title.now dates.entry by_job subject.entry
+    ensures made { IfText result (spec.IsReport heading.entry.title.now heading.entry.lower dates.entry by_job subject.entry
         file.now plan.now schedule.now.starts.items) }
     ensures refused { IfErr result (Refuses
         (spec.HidesReport dates.entry by_job plan.now schedule.now.starts.items)) }
@@ -243,7 +246,11 @@ pub(crate) fn report_text(
     let lines = names_of_lines(alloc, subject, file)?;
     let legend = legend_names(alloc, subject, file)?;
     match dates {
-        Some(dates) => { dated_page(alloc, title, dates, &lines, &legend, by_job, plan, schedule) }
-        None => plain_page(alloc, title, &lines, &legend, by_job, plan, schedule),
+        Some(dates) => {
+            dated_page(
+                alloc, heading, dates, &lines, &legend, by_job, plan, schedule,
+            )
+        }
+        None => plain_page(alloc, heading, &lines, &legend, by_job, plan, schedule),
     }
 }

@@ -11,8 +11,11 @@ ghost use Rattle.plan_print.specs.Sheets as spec;
 use crate::charts::chart_text;
 use crate::events::events_text;
 use crate::reports::report_text;
-use plan_cli::{CliFault, Dates, Origin, Plan, Subject, plan_of, read_document, schedule_from};
-use plan_sgs::Schedule;
+use plan_cli::{
+    CliFault, Dates, Origin, Plan, ProofWatcher, Scheduled, SolveWatcher, Subject, Unlogged,
+    plan_of, read_document, schedule_from,
+};
+use plan_sheet::Heading;
 use std::alloc::Global;
 
 /// A sheet of a schedule.
@@ -44,14 +47,15 @@ fn schedule_sheet(
     subject: Subject<'_>,
     file: &[u8],
     plan: &Plan<'_>,
-    schedule: &Schedule,
+    made: &Scheduled,
 ) -> Result<String, CliFault>
-    requires { CanBeShown (count_of plan.now) schedule.now }
+    requires { CanBeShown (count_of plan.now) made.now.schedule }
     ensures made { IfText result (spec.IsSheetOf sheet.entry subject.entry file.now
-        plan.now schedule.now.starts.items) }
+        plan.now made.now.schedule.starts.items made.now.lower) }
     ensures refused { IfErr result (Refuses
-        (spec.HidesSheet sheet.entry plan.now schedule.now.starts.items)) }
+        (spec.HidesSheet sheet.entry plan.now made.now.schedule.starts.items)) }
 {
+    let schedule = &made.schedule;
     match sheet {
         Sheet::Events(dates) => events_text(alloc, dates, subject, file, plan, schedule),
         Sheet::Chart(title) => chart_text(alloc, title, subject, file, plan, schedule),
@@ -59,35 +63,42 @@ fn schedule_sheet(
             title,
             dates,
             by_job,
-        } => report_text(alloc, title, dates, by_job, subject, file, plan, schedule),
+        } => {
+            let lower = made.lower;
+            let heading = Heading { title, lower };
+            report_text(alloc, heading, dates, by_job, subject, file, plan, schedule)
+        }
     }
 }
 
 // Returns a sheet of a plan, for its file.
-fn plan_sheet(
+fn plan_sheet<V: ProofWatcher + SolveWatcher>(
     alloc: Global,
     sheet: Sheet<'_>,
     subject: Subject<'_>,
     origin: Origin<'_>,
     file: &[u8],
     plan: &Plan<'_>,
+    watcher: &mut V,
 ) -> Result<String, CliFault>
     ensures made { IfText result
         (spec.IsSheetFrom origin.entry sheet.entry subject.entry file.now plan.now) }
     ensures refused { IfErr result (Refuses
         (spec.TellsNoSheetFrom origin.entry sheet.entry plan.now)) }
 {
-    let schedule = schedule_from(alloc, origin, plan)?;
-    schedule_sheet(alloc, sheet, subject, file, plan, &schedule)
+    let made = schedule_from(alloc, origin, plan, watcher, &mut Unlogged)?;
+    schedule_sheet(alloc, sheet, subject, file, plan, &made)
 }
 
-/// Returns a sheet of the project or the job shop in a file.
-pub(crate) fn sheet_text(
+/// Returns a sheet of the project or the job shop in a file. The watcher is called during a search,
+/// and can stop it.
+pub(crate) fn sheet_text<V: ProofWatcher + SolveWatcher>(
     alloc: Global,
     sheet: Sheet<'_>,
     subject: Subject<'_>,
     origin: Origin<'_>,
     file: &[u8],
+    watcher: &mut V,
 ) -> Result<String, CliFault>
     ensures made { IfText result
         (IsSheet sheet.entry subject.entry origin.entry file.now) }
@@ -96,5 +107,5 @@ pub(crate) fn sheet_text(
 {
     let document = read_document(alloc, subject, file)?;
     let plan = plan_of(alloc, &document)?;
-    plan_sheet(alloc, sheet, subject, origin, file, &plan)
+    plan_sheet(alloc, sheet, subject, origin, file, &plan, watcher)
 }
