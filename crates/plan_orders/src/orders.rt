@@ -1,9 +1,9 @@
 //! The orders that the arguments of the command line spell.
 
 use clap::ArgMatches;
-use plan_cli::{Capacity, Dates, NamedText, Origin, Pair, Role, Rows, Task, Template};
+use plan_cli::{Capacity, Dates, NamedText, Origin, Pair, Role, Rows, Subject, Task, Template};
 use plan_formats::Format;
-use plan_print::{NamedOrigin, Print, Sheet, Subject};
+use plan_print::{NamedOrigin, Print, Sheet};
 use plan_solve::MOST_CONFLICTS;
 use plan_table::Override;
 use std::alloc::{AllocError, Global};
@@ -77,7 +77,7 @@ fn is_standard(texts: &[NamedText<'_>], role: Role) -> bool {
 fn print_input(print: &Print<'_>) -> Option<(&'static str, &'static str)> {
     let starts = match print.origin {
         NamedOrigin::Starts(name) => name,
-        NamedOrigin::Rule(_) => "",
+        NamedOrigin::Rule(_) | NamedOrigin::Solved { .. } => "",
     };
     match (print.file, starts, print.holidays) {
         ("-", "-", _) => Some(("FILE", "STARTS")),
@@ -171,39 +171,6 @@ pub enum Order<'a> {
     Office(OfficeOrder<'a>),
 }
 
-// Returns the task of `chart`: that of a job shop if an instance is given, else of a project.
-fn chart_task<'a>(
-    origin: Origin<'a>,
-    instance: Option<&'a str>,
-    capacities: &'a [Capacity<'a>],
-) -> Task<'a> {
-    match instance {
-        Some(instance) => Task::ShopChart { origin, instance },
-        None => Task::Chart { origin, capacities },
-    }
-}
-
-// Returns the task of `days`: that of a job shop if an instance is given, else of a project.
-fn days_task<'a>(
-    origin: Origin<'a>,
-    dates: Dates<'a>,
-    instance: Option<&'a str>,
-    capacities: &'a [Capacity<'a>],
-) -> Task<'a> {
-    match instance {
-        Some(instance) => Task::ShopDays {
-            origin,
-            dates,
-            instance,
-        },
-        None => Task::Days {
-            origin,
-            dates,
-            capacities,
-        },
-    }
-}
-
 // Returns the task of the command with this name.
 fn task_of<'a>(
     name: &str,
@@ -215,19 +182,19 @@ fn task_of<'a>(
         "names" => Some(Task::Names),
         "schedule" => Some(Task::Schedule {
             rule: arguments.get_str("RULE")?,
-            capacities,
+            subject: Subject::Project(capacities),
         }),
-        "shop" => Some(Task::Shop {
+        "shop" => Some(Task::Schedule {
             rule: arguments.get_str("RULE")?,
-            instance: arguments.get_str("INSTANCE")?,
+            subject: Subject::Shop(arguments.get_str("INSTANCE")?),
         }),
         "best" => Some(Task::Best {
             budget: arguments.get_str("BUDGET")?,
-            instance: arguments.get_str("INSTANCE")?,
+            subject: Subject::Shop(arguments.get_str("INSTANCE")?),
         }),
-        "best-project" => Some(Task::BestProject {
+        "best-project" => Some(Task::Best {
             budget: arguments.get_str("BUDGET")?,
-            capacities,
+            subject: Subject::Project(capacities),
         }),
         _ => None,
     }
@@ -347,16 +314,8 @@ fn solve_task<'a>(
     conflicts: u64,
     capacities: &'a [Capacity<'a>],
 ) -> Task<'a> {
-    match arguments.get_str("INSTANCE") {
-        Some(instance) => Task::SolveShop {
-            conflicts,
-            instance,
-        },
-        None => Task::Solve {
-            conflicts,
-            capacities,
-        },
-    }
+    let subject = subject_of(arguments.get_str("INSTANCE"), capacities);
+    Task::Solve { conflicts, subject }
 }
 
 // Returns the order of `solve`. A conflict limit replaces the default time limit.
@@ -546,12 +505,13 @@ fn chart_order<'a>(arguments: &'a ArgMatches<'_>, lists: Lists<'a>) -> Option<Fi
     } = lists;
     let rule = arguments.get_str("RULE")?;
     if arguments.get_str("starts").is_some() {
-        let instance = arguments.get_str("FILE");
-        let task = chart_task(Origin::Starts(&[]), instance, capacities);
-        return Some(texts_order(task, rule, texts));
+        let subject = subject_of(arguments.get_str("FILE"), capacities);
+        let origin = Origin::Starts(&[]);
+        return Some(texts_order(Task::Chart { origin, subject }, rule, texts));
     }
-    let instance = arguments.get_str("INSTANCE");
-    let task = chart_task(Origin::Rule(rule), instance, capacities);
+    let subject = subject_of(arguments.get_str("INSTANCE"), capacities);
+    let origin = Origin::Rule(rule);
+    let task = Task::Chart { origin, subject };
     Some(texts_order(task, arguments.get_str("FILE")?, texts))
 }
 
@@ -575,14 +535,18 @@ fn days_order<'a>(arguments: &'a ArgMatches<'_>, lists: Lists<'a>) -> Option<Fil
     let start = arguments.get_str("START")?;
     let marks = arguments.get_str("MARKS")?;
     if arguments.get_str("starts").is_some() {
-        let instance = arguments.get_str("FILE");
-        let dates = dates_of(rule, start);
-        let task = days_task(Origin::Starts(&[]), dates, instance, capacities);
+        let task = Task::Days {
+            origin: Origin::Starts(&[]),
+            dates: dates_of(rule, start),
+            subject: subject_of(arguments.get_str("FILE"), capacities),
+        };
         return Some(texts_order(task, marks, texts));
     }
-    let instance = arguments.get_str("INSTANCE");
-    let dates = dates_of(start, marks);
-    let task = days_task(Origin::Rule(rule), dates, instance, capacities);
+    let task = Task::Days {
+        origin: Origin::Rule(rule),
+        dates: dates_of(start, marks),
+        subject: subject_of(arguments.get_str("INSTANCE"), capacities),
+    };
     Some(texts_order(task, arguments.get_str("FILE")?, texts))
 }
 
@@ -591,11 +555,10 @@ fn check_order<'a>(
     arguments: &'a ArgMatches<'_>,
     texts: &'a [NamedText<'a>],
 ) -> Option<FileOrder<'a>> {
-    let starts = &[];
     Some(FileOrder::Texts {
-        task: match arguments.get_str("INSTANCE") {
-            Some(instance) => Task::ShopCheck { starts, instance },
-            None => Task::Check { starts },
+        task: Task::Check {
+            starts: &[],
+            subject: subject_of(arguments.get_str("INSTANCE"), &[]),
         },
         file: arguments.get_str("FILE")?,
         texts,
@@ -623,13 +586,9 @@ fn slack_order<'a>(arguments: &'a ArgMatches<'_>, lists: Lists<'a>) -> Option<Fi
 
 // Returns the order of `compare`.
 fn compare_order<'a>(arguments: &'a ArgMatches<'_>, lists: Lists<'a>) -> Option<FileOrder<'a>> {
-    let starts = Pair { a: &[], b: &[] };
-    let task = match arguments.get_str("INSTANCE") {
-        Some(instance) => Task::ShopCompare { starts, instance },
-        None => Task::Compare {
-            starts,
-            capacities: lists.capacities,
-        },
+    let task = Task::Compare {
+        starts: Pair { a: &[], b: &[] },
+        subject: subject_of(arguments.get_str("INSTANCE"), lists.capacities),
     };
     Some(texts_order(task, arguments.get_str("FILE")?, lists.texts))
 }

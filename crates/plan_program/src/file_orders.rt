@@ -38,7 +38,7 @@ fn do_check(
     path: &str,
 ) -> Result<Status, CliFault> {
     let mut text = MemSink::new(Vec::new(rt.alloc()));
-    run_on_files(rt, task, rows, texts, path, &mut text)?;
+    run_on_files(rt, task, rows, &mut Unwatched, texts, path, &mut text)?;
     let text = text.into_bytes();
     let mut writer = StdSink::new(io::writer(rt));
     write_whole(&mut writer, &text).map_err(|_| CliFault::Output)?;
@@ -99,7 +99,10 @@ fn do_file_order(rt: &HostRuntime, order: FileOrder<'_>, rows: Rows) -> Result<S
             file,
             texts,
             is_status: false,
-        } => run_on_files(rt, task, rows, texts, file, &mut writer)?,
+        } => {
+            let watcher = &mut Unwatched;
+            run_on_files(rt, task, rows, watcher, texts, file, &mut writer)?;
+        }
         FileOrder::Texts {
             task,
             file,
@@ -111,7 +114,7 @@ fn do_file_order(rt: &HostRuntime, order: FileOrder<'_>, rows: Rows) -> Result<S
             log,
             instance,
         } => do_verify(rt, file, instance, log)?,
-        FileOrder::Print(print) => print_on_files(rt, print, &mut writer)?,
+        FileOrder::Print(print) => print_on_files(rt, print, &mut Unwatched, &mut writer)?,
         FileOrder::New(template) => template_run(template, &mut writer)?,
         FileOrder::Explain(words) => {
             let line = words.join(rt.alloc(), " ")?;
