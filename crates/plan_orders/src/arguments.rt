@@ -74,10 +74,16 @@ enum Form {
     ListCapacity,
     /// An option with the name of a file to write.
     Output,
-    /// A name that isn't given if the option `starts` is.
+    /// A name that isn't given if the option `starts` or `solve` is.
     NameUnlessStarts,
     /// An option with the name of a file of starts.
     Starts,
+    /// An option without a value that asks for a search, in place of a rule.
+    Solve,
+    /// The same for a report, whose rule is an option.
+    ReportSolve,
+    /// An option with the time limit of such a search in seconds.
+    SolveSeconds,
     /// An option with the name of a file of holidays.
     Holidays,
     /// An option with the name of a folder.
@@ -228,6 +234,24 @@ const STARTS: Argument = Argument {
     form: Form::Starts,
     help: "show the schedule with the start times in this file, or - for standard input; \
         leave out RULE",
+};
+
+const SOLVE: Argument = Argument {
+    name: "solve",
+    form: Form::Solve,
+    help: "show the schedule that plan solve finds; leave out RULE",
+};
+
+const REPORT_SOLVE: Argument = Argument {
+    name: "solve",
+    form: Form::ReportSolve,
+    help: "show the schedule that plan solve finds",
+};
+
+const SOLVE_SECONDS: Argument = Argument {
+    name: "seconds",
+    form: Form::SolveSeconds,
+    help: "time limit of --solve in seconds, 1 to 86400 [default: 10]",
 };
 
 const HOLIDAYS: Argument = Argument {
@@ -487,10 +511,11 @@ const SCHEDULE_COMMANDS: [Entry; 5] = [
     },
     Entry {
         name: "chart",
-        about: "Draws the schedule by a priority rule, or a given one",
+        about: "Draws the schedule by a priority rule, the best one found, or a given one",
         examples: "Examples:\n  \
             plan chart lft examples/house.sm\n  \
             plan chart mwkr examples/shops.txt ft06\n  \
+            plan chart --solve examples/house.sm\n  \
             plan chart --starts examples/starts.txt examples/six.sm\n  \
             plan chart --svg lft examples/house.sm",
         arguments: &[
@@ -498,6 +523,8 @@ const SCHEDULE_COMMANDS: [Entry; 5] = [
             FILE_UNLESS_STARTS,
             INSTANCE_IF_SHOP,
             STARTS,
+            SOLVE,
+            SOLVE_SECONDS,
             CAPACITY_IF_PROJECT,
             NAMES,
             SVG,
@@ -505,10 +532,11 @@ const SCHEDULE_COMMANDS: [Entry; 5] = [
     },
     Entry {
         name: "days",
-        about: "Prints the calendar days of the schedule by a priority rule, or of a given one",
+        about: "Prints the calendar days of a schedule: by a rule, the best one found, or a given one",
         examples: "Examples:\n  \
             plan days lft 2024-03-01 1111100 examples/house.sm\n  \
             plan days mwkr 2024-03-01 1111100 examples/shops.txt ft06\n  \
+            plan days --solve 2024-03-01 mon-fri examples/house.sm\n  \
             plan days --starts examples/starts.txt 2024-03-01 1111100 examples/six.sm\n  \
             plan days --holidays examples/holidays.txt lft 2024-03-01 mon-fri examples/house.sm\n  \
             plan days --format ics lft 2024-03-01 mon-fri examples/house.sm",
@@ -528,6 +556,8 @@ const SCHEDULE_COMMANDS: [Entry; 5] = [
             FILE_UNLESS_STARTS,
             INSTANCE_IF_SHOP,
             STARTS,
+            SOLVE,
+            SOLVE_SECONDS,
             HOLIDAYS,
             CAPACITY_IF_PROJECT,
             NAMES,
@@ -540,6 +570,7 @@ const SCHEDULE_COMMANDS: [Entry; 5] = [
         examples: "Examples:\n  \
             plan report examples/house.sm\n  \
             plan report --rule slk --start 2024-03-01 --days mon-fri examples/house.sm\n  \
+            plan report --solve --seconds 60 examples/house.sm\n  \
             plan report --starts examples/starts.txt examples/six.sm\n  \
             plan report --by job --title Printing examples/shops.txt printing",
         arguments: &[
@@ -556,6 +587,8 @@ const SCHEDULE_COMMANDS: [Entry; 5] = [
                 help: "show the schedule with the start times in this file, \
                     or - for standard input",
             },
+            REPORT_SOLVE,
+            SOLVE_SECONDS,
             Argument {
                 name: "start",
                 form: Form::ReportStart,
@@ -807,11 +840,24 @@ fn arg_of<'a>(alloc: Global, argument: &Argument) -> Result<Arg<'a>, AllocError>
             .value_name("NAME=N")
             .action(ArgAction::Append)
             .conflicts_with("shop")?,
-        Form::NameUnlessStarts => arg.required_unless_present("starts")?,
+        Form::NameUnlessStarts => arg.required_unless_present_any(&["starts", "solve"])?,
         Form::Starts => arg
             .long(argument.name)
             .value_name("STARTS")
             .conflicts_with("INSTANCE")?,
+        Form::Solve => arg
+            .long(argument.name)
+            .action(ArgAction::SetTrue)
+            .conflicts_with_all(&["starts", "INSTANCE"])?,
+        Form::ReportSolve => arg
+            .long(argument.name)
+            .action(ArgAction::SetTrue)
+            .conflicts_with_all(&["starts", "rule"])?,
+        Form::SolveSeconds => arg
+            .long(argument.name)
+            .value_name("S")
+            .value_parser(value_parser!(u32).range(1..=86400))
+            .requires_arg("solve")?,
         Form::Holidays => arg.long(argument.name).value_name("HOLIDAYS"),
         Form::Folder => arg.long(argument.name).value_name("FOLDER"),
         Form::Keep => arg

@@ -169,7 +169,7 @@ impl<'a> FileOrder<'a> {
                 unread: None,
                 ..file_context(file)
             },
-            FileOrder::Print(print) => print_context(print),
+            FileOrder::Print(print, _) => print_context(print),
             FileOrder::New(_) | FileOrder::Explain(_) => Context::NONE,
         }
     }
@@ -183,7 +183,7 @@ impl<'a> FileOrder<'a> {
             | FileOrder::Solve { file, .. }
             | FileOrder::Verify { file, .. }
             | FileOrder::Texts { file, .. } => file,
-            FileOrder::Print(print) => print.file,
+            FileOrder::Print(print, _) => print.file,
             FileOrder::New(_) | FileOrder::Explain(_) => return None,
         };
         if file == "-" { None } else { Some(file) }
@@ -195,7 +195,7 @@ impl<'a> FileOrder<'a> {
         match *self {
             FileOrder::Texts { texts, .. } => push_texts(&mut names, texts)?,
             FileOrder::Verify { log, .. } => push_file(&mut names, log)?,
-            FileOrder::Print(print) => push_print_files(&mut names, print)?,
+            FileOrder::Print(print, _) => push_print_files(&mut names, print)?,
             _ => {}
         }
         Ok(names)

@@ -38,6 +38,8 @@ pub enum FileOrder<'a> {
         task: Task<'a>,
         file: &'a str,
         texts: &'a [NamedText<'a>],
+        /// The time limit of a search for the schedule, in seconds.
+        seconds: Option<u32>,
         is_status: bool,
     },
     /// A check of the log of a search. The problem is the project in a file, or an instance of a
@@ -47,8 +49,8 @@ pub enum FileOrder<'a> {
         log: &'a str,
         instance: Option<&'a str>,
     },
-    /// A sheet to print.
-    Print(Print<'a>),
+    /// A sheet to print, with the time limit of a search for the schedule, in seconds.
+    Print(Print<'a>, Option<u32>),
     /// A table to start from.
     New(Template),
     /// The meaning of an error line, which is given as one argument or as several.
@@ -90,7 +92,7 @@ fn print_input(print: &Print<'_>) -> Option<(&'static str, &'static str)> {
 impl<'a> FileOrder<'a> {
     /// Returns the names of two arguments that are standard input, if there are two.
     pub fn shared_input(&self) -> Option<(&'static str, &'static str)> {
-        if let FileOrder::Print(print) = *self {
+        if let FileOrder::Print(print, _) = *self {
             return print_input(&print);
         }
         if let FileOrder::Verify {
@@ -492,27 +494,54 @@ fn texts_order<'a>(task: Task<'a>, file: &'a str, texts: &'a [NamedText<'a>]) ->
         task,
         file,
         texts,
+        seconds: None,
         is_status: false,
     }
 }
 
-// Returns the order of `chart`. With starts, FILE is the first argument and INSTANCE the second.
-fn chart_order<'a>(arguments: &'a ArgMatches<'_>, lists: Lists<'a>) -> Option<FileOrder<'a>> {
-    let Lists {
-        capacities,
-        texts,
-        ..
-    } = lists;
-    let rule = arguments.get_str("RULE")?;
+// Returns the schedule that an option asks for in place of RULE, if one does. Then FILE is given in
+// the place of RULE, and so on.
+fn origin_by_option<'a>(arguments: &ArgMatches<'_>) -> Option<Origin<'a>> {
     if arguments.get_str("starts").is_some() {
-        let subject = subject_of(arguments.get_str("FILE"), capacities);
-        let origin = Origin::Starts(&[]);
-        return Some(texts_order(Task::Chart { origin, subject }, rule, texts));
+        return Some(Origin::Starts(&[]));
     }
-    let subject = subject_of(arguments.get_str("INSTANCE"), capacities);
-    let origin = Origin::Rule(rule);
-    let task = Task::Chart { origin, subject };
-    Some(texts_order(task, arguments.get_str("FILE")?, texts))
+    if arguments.get_flag("solve") {
+        return Some(Origin::Solved {
+            conflicts: MOST_CONFLICTS,
+        });
+    }
+    None
+}
+
+// Returns the time limit of a search that an option asks for, in seconds.
+fn limit_of(arguments: &ArgMatches<'_>) -> Option<u32> {
+    if arguments.get_flag("solve") {
+        let seconds: Option<u32> = arguments.get_one("seconds");
+        return Some(seconds.unwrap_or(DEFAULT_SECONDS));
+    }
+    None
+}
+
+// Returns the order of `chart`.
+fn chart_order<'a>(arguments: &'a ArgMatches<'_>, lists: Lists<'a>) -> Option<FileOrder<'a>> {
+    let (capacities, texts) = (lists.capacities, lists.texts);
+    let rule = arguments.get_str("RULE")?;
+    let (origin, file, instance) = match origin_by_option(arguments) {
+        Some(origin) => (origin, rule, arguments.get_str("FILE")),
+        None => (
+            Origin::Rule(rule),
+            arguments.get_str("FILE")?,
+            arguments.get_str("INSTANCE"),
+        ),
+    };
+    let subject = subject_of(instance, capacities);
+    Some(FileOrder::Texts {
+        task: Task::Chart { origin, subject },
+        file,
+        texts,
+        seconds: limit_of(arguments),
+        is_status: false,
+    })
 }
 
 // Returns the dates of `days`, without holidays.
@@ -524,30 +553,38 @@ fn dates_of<'a>(start: &'a str, marks: &'a str) -> Dates<'a> {
     }
 }
 
-// Returns the order of `days`. With starts, START is the first argument, and so on.
+// Returns the order of `days`.
 fn days_order<'a>(arguments: &'a ArgMatches<'_>, lists: Lists<'a>) -> Option<FileOrder<'a>> {
-    let Lists {
-        capacities,
-        texts,
-        ..
-    } = lists;
+    let (capacities, texts) = (lists.capacities, lists.texts);
     let rule = arguments.get_str("RULE")?;
     let start = arguments.get_str("START")?;
     let marks = arguments.get_str("MARKS")?;
-    if arguments.get_str("starts").is_some() {
-        let task = Task::Days {
-            origin: Origin::Starts(&[]),
-            dates: dates_of(rule, start),
-            subject: subject_of(arguments.get_str("FILE"), capacities),
-        };
-        return Some(texts_order(task, marks, texts));
-    }
-    let task = Task::Days {
-        origin: Origin::Rule(rule),
-        dates: dates_of(start, marks),
-        subject: subject_of(arguments.get_str("INSTANCE"), capacities),
+    let (origin, dates, file, instance) = match origin_by_option(arguments) {
+        Some(origin) => (
+            origin,
+            dates_of(rule, start),
+            marks,
+            arguments.get_str("FILE"),
+        ),
+        None => (
+            Origin::Rule(rule),
+            dates_of(start, marks),
+            arguments.get_str("FILE")?,
+            arguments.get_str("INSTANCE"),
+        ),
     };
-    Some(texts_order(task, arguments.get_str("FILE")?, texts))
+    let subject = subject_of(instance, capacities);
+    Some(FileOrder::Texts {
+        task: Task::Days {
+            origin,
+            dates,
+            subject,
+        },
+        file,
+        texts,
+        seconds: limit_of(arguments),
+        is_status: false,
+    })
 }
 
 // Returns the order of `check`.
@@ -562,6 +599,7 @@ fn check_order<'a>(
         },
         file: arguments.get_str("FILE")?,
         texts,
+        seconds: None,
         is_status: arguments.get_flag("status"),
     })
 }
@@ -601,21 +639,17 @@ fn subject_of<'a>(instance: Option<&'a str>, capacities: &'a [Capacity<'a>]) -> 
     }
 }
 
-// Returns the order of `days` for a calendar file with a list of starts: START is the first
-// argument, and so on.
-fn listed_events<'a>(
-    arguments: &'a ArgMatches<'_>,
-    starts: &'a str,
-    capacities: &'a [Capacity<'a>],
-) -> Option<Print<'a>> {
-    let (start, marks) = (arguments.get_str("RULE")?, arguments.get_str("START")?);
-    Some(Print {
-        sheet: Sheet::Events(dates_of(start, marks)),
-        subject: subject_of(arguments.get_str("FILE"), capacities),
-        origin: NamedOrigin::Starts(starts),
-        holidays: arguments.get_str("holidays"),
-        file: arguments.get_str("MARKS")?,
-    })
+// Returns the named schedule that an option asks for in place of RULE, if one does.
+fn named_by_option<'a>(arguments: &'a ArgMatches<'_>) -> Option<NamedOrigin<'a>> {
+    if let Some(starts) = arguments.get_str("starts") {
+        return Some(NamedOrigin::Starts(starts));
+    }
+    if arguments.get_flag("solve") {
+        return Some(NamedOrigin::Solved {
+            conflicts: MOST_CONFLICTS,
+        });
+    }
+    None
 }
 
 // Returns the order of `days` for a calendar file.
@@ -623,16 +657,29 @@ fn events_order<'a>(
     arguments: &'a ArgMatches<'_>,
     capacities: &'a [Capacity<'a>],
 ) -> Option<Print<'a>> {
-    if let Some(starts) = arguments.get_str("starts") {
-        return listed_events(arguments, starts, capacities);
-    }
-    let (start, marks) = (arguments.get_str("START")?, arguments.get_str("MARKS")?);
+    let rule = arguments.get_str("RULE")?;
+    let start = arguments.get_str("START")?;
+    let marks = arguments.get_str("MARKS")?;
+    let (origin, dates, file, instance) = match named_by_option(arguments) {
+        Some(origin) => (
+            origin,
+            dates_of(rule, start),
+            marks,
+            arguments.get_str("FILE"),
+        ),
+        None => (
+            NamedOrigin::Rule(rule),
+            dates_of(start, marks),
+            arguments.get_str("FILE")?,
+            arguments.get_str("INSTANCE"),
+        ),
+    };
     Some(Print {
-        sheet: Sheet::Events(dates_of(start, marks)),
-        subject: subject_of(arguments.get_str("INSTANCE"), capacities),
-        origin: NamedOrigin::Rule(arguments.get_str("RULE")?),
+        sheet: Sheet::Events(dates),
+        subject: subject_of(instance, capacities),
+        origin,
         holidays: arguments.get_str("holidays"),
-        file: arguments.get_str("FILE")?,
+        file,
     })
 }
 
@@ -648,36 +695,24 @@ fn title_of<'a>(instance: Option<&'a str>, file: &'a str) -> &'a str {
     }
 }
 
-// Returns the order of `chart` for an SVG image with a list of starts: FILE is the first argument,
-// INSTANCE the second.
-fn listed_image<'a>(
-    arguments: &'a ArgMatches<'_>,
-    starts: &'a str,
-    capacities: &'a [Capacity<'a>],
-) -> Option<Print<'a>> {
-    let (file, instance) = (arguments.get_str("RULE")?, arguments.get_str("FILE"));
-    Some(Print {
-        sheet: Sheet::Chart(title_of(instance, file)),
-        subject: subject_of(instance, capacities),
-        origin: NamedOrigin::Starts(starts),
-        holidays: None,
-        file,
-    })
-}
-
 // Returns the order of `chart` for an SVG image.
 fn image_order<'a>(
     arguments: &'a ArgMatches<'_>,
     capacities: &'a [Capacity<'a>],
 ) -> Option<Print<'a>> {
-    if let Some(starts) = arguments.get_str("starts") {
-        return listed_image(arguments, starts, capacities);
-    }
-    let (file, instance) = (arguments.get_str("FILE")?, arguments.get_str("INSTANCE"));
+    let rule = arguments.get_str("RULE")?;
+    let (origin, file, instance) = match named_by_option(arguments) {
+        Some(origin) => (origin, rule, arguments.get_str("FILE")),
+        None => (
+            NamedOrigin::Rule(rule),
+            arguments.get_str("FILE")?,
+            arguments.get_str("INSTANCE"),
+        ),
+    };
     Some(Print {
         sheet: Sheet::Chart(title_of(instance, file)),
         subject: subject_of(instance, capacities),
-        origin: NamedOrigin::Rule(arguments.get_str("RULE")?),
+        origin,
         holidays: None,
         file,
     })
@@ -685,8 +720,8 @@ fn image_order<'a>(
 
 // Returns the origin of the schedule of `report`. The default rule is `lft`, for a job shop `mwkr`.
 fn report_origin<'a>(arguments: &'a ArgMatches<'_>, is_shop: bool) -> NamedOrigin<'a> {
-    if let Some(starts) = arguments.get_str("starts") {
-        return NamedOrigin::Starts(starts);
+    if let Some(origin) = named_by_option(arguments) {
+        return origin;
     }
     match arguments.get_str("rule") {
         Some(rule) => NamedOrigin::Rule(rule),
@@ -754,7 +789,7 @@ fn file_order<'a>(
     lists: Lists<'a>,
 ) -> Option<FileOrder<'a>> {
     if let Some(print) = print_order(name, arguments, lists.capacities) {
-        return Some(FileOrder::Print(print));
+        return Some(FileOrder::Print(print, limit_of(arguments)));
     }
     match name {
         "import" => import_order(arguments, lists.overrides),
