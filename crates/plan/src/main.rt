@@ -283,9 +283,10 @@ fn do_file_order(rt: &HostRuntime, order: FileOrder<'_>, rows: Rows) -> Result<u
             file,
             texts,
             is_status: false,
+            seconds,
         } => {
-            let watcher = &mut Unwatched;
-            run_on_files(rt, task, rows, watcher, texts, file, &mut writer)?;
+            let mut line = ProgressLine::within(rt, seconds);
+            run_on_files(rt, task, rows, &mut line, texts, file, &mut writer)?;
         }
         FileOrder::Texts {
             task,
@@ -293,7 +294,10 @@ fn do_file_order(rt: &HostRuntime, order: FileOrder<'_>, rows: Rows) -> Result<u
             texts,
             ..
         } => return Ok(do_check(rt, task, rows, texts, file)?),
-        FileOrder::Print(print) => print_on_files(rt, print, &mut Unwatched, &mut writer)?,
+        FileOrder::Print(print, seconds) => {
+            let mut line = ProgressLine::within(rt, seconds);
+            print_on_files(rt, print, &mut line, &mut writer)?;
+        }
         FileOrder::New(template) => template_run(template, &mut writer)?,
         FileOrder::Explain(words) => {
             let line = words.join(rt.alloc(), " ")?;

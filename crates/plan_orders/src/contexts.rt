@@ -164,7 +164,7 @@ impl<'a> FileOrder<'a> {
                 texts,
                 ..
             } => texts_context(task, file, texts),
-            FileOrder::Print(print) => print_context(print),
+            FileOrder::Print(print, _) => print_context(print),
             FileOrder::New(_) | FileOrder::Explain(_) => Context::NONE,
         }
     }
@@ -177,7 +177,7 @@ impl<'a> FileOrder<'a> {
             | FileOrder::Watched(_, file)
             | FileOrder::Solve { file, .. }
             | FileOrder::Texts { file, .. } => file,
-            FileOrder::Print(print) => print.file,
+            FileOrder::Print(print, _) => print.file,
             FileOrder::New(_) | FileOrder::Explain(_) => return None,
         };
         if file == "-" { None } else { Some(file) }
@@ -188,7 +188,7 @@ impl<'a> FileOrder<'a> {
         let mut names = Vec::new(alloc);
         match *self {
             FileOrder::Texts { texts, .. } => push_texts(&mut names, texts)?,
-            FileOrder::Print(print) => push_print_files(&mut names, print)?,
+            FileOrder::Print(print, _) => push_print_files(&mut names, print)?,
             _ => {}
         }
         Ok(names)
