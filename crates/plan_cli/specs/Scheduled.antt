@@ -52,8 +52,8 @@ pub record IsListed (listed : List ℕ) (p : Plan) (starts : List ℕ) : Type 0 
 
 -- the starts are those of the schedule of a plan
 abbrev pub IsScheduleFrom : Origin → Plan → List ℕ → Type 0
-IsScheduleFrom (origin.Rule name) = IsByRule name.now
-IsScheduleFrom (origin.Starts listed) = IsListed listed.now
+IsScheduleFrom (origin.Rule name) p starts = IsByRule name.now p starts
+IsScheduleFrom (origin.Starts listed) p starts = IsListed listed.now p starts
 IsScheduleFrom (origin.Solved conflicts) p starts = IsActive (problem_of p) starts
 
 -- A lower bound of the makespans of all feasible schedules is one for starts: if it meets their
