@@ -1,1 +1,0 @@
-pub use Rattle.plan_sgs.specs.Problem
