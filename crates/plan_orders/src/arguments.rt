@@ -494,11 +494,10 @@ const SCHEDULE_COMMANDS: [Entry; 5] = [
     Entry {
         name: "verify",
         about: "Checks the log of a search, and prints what it shows",
-        examples: "Examples:\n  \
-            plan solve --log house.log examples/house.sm\n  \
-            plan verify examples/house.sm house.log\n\n\
-            It prints verified 45 if the log shows that 45 is the least makespan of all feasible\n\
-            schedules, and verified at least 45 if it shows that none is less than 45.",
+        examples: "Example:\n  plan verify examples/six.sm examples/six.log\n\n\
+            It prints verified 7 if the log shows that 7 is the least makespan of all feasible \
+            schedules,\n\
+            and verified at least 7 if it shows that no makespan is less than 7.",
         arguments: &[
             FILE,
             Argument {
