@@ -63,7 +63,7 @@ def judge_whole(room, text, instance, *limits):
     """Both checkers confirm what the search prints. The search of a job shop by nodes has no log, so
     its log may show less."""
     path, words, log = solved(room, text, instance, *limits)
-    told = plan("verify", path, *instance, os.path.join(room, "log"))
+    told = plan("verify", path, os.path.join(room, "log"), *instance)
     if instance:
         line = checker.shown_of_shop(text, *instance, log.decode())
     else:
@@ -156,7 +156,7 @@ def judge_damaged(room, path, instance, least, log, draw):
     for name in names:
         globals()[name](lines, draw)
     damaged = b"\n".join(lines) + draw.choice((b"\n", b"\n", b"\n", b"", b"\n\n"))
-    status, out, err = plan("verify", path, *instance, put(room, "damaged", damaged))
+    status, out, err = plan("verify", path, put(room, "damaged", damaged), *instance)
     if status == 1 and out == b"" and REFUSAL.fullmatch(err):
         return
     words = out.decode().split()
