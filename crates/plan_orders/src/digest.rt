@@ -2,4 +2,4 @@
 
 /// The digest of all sources of the program but this file, in hexadecimal digits, as
 /// `./release --digest` prints it.
-pub(crate) const SOURCES: &str = "6c6f42fc769a2ae39a8291d46ecfdd2803707708ef8e83980b000901875882ac";
+pub(crate) const SOURCES: &str = "1df844efd75253e7bd3438a9ef125be7efb0e9281952cefbf527ecd765e44b0a";

@@ -592,11 +592,11 @@ fn check_order<'a>(
     arguments: &'a ArgMatches<'_>,
     texts: &'a [NamedText<'a>],
 ) -> Option<FileOrder<'a>> {
+    let subject = subject_of(arguments.get_str("INSTANCE"), &[]);
+    let starts = &[];
+    let task = Task::Check { starts, subject };
     Some(FileOrder::Texts {
-        task: Task::Check {
-            starts: &[],
-            subject: subject_of(arguments.get_str("INSTANCE"), &[]),
-        },
+        task,
         file: arguments.get_str("FILE")?,
         texts,
         seconds: None,
