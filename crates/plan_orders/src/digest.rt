@@ -2,4 +2,4 @@
 
 /// The digest of all sources of the program but this file, in hexadecimal digits, as
 /// `./release --digest` prints it.
-pub(crate) const SOURCES: &str = "1df844efd75253e7bd3438a9ef125be7efb0e9281952cefbf527ecd765e44b0a";
+pub(crate) const SOURCES: &str = "7ea6e9d9157c1785af97ca9570fc85e2e91ed02778525ec6d9166940b9627db3";
