@@ -1,3 +1,4 @@
 pub mod CsvLemmas
 pub mod JsonLemmas
 pub mod ListLemmas
+pub mod ParsedLemmas

@@ -2,11 +2,11 @@ use Rattle.std.proofs.Common.{ℕ, map, IfOk, Vec, Global, sym, subst}
 use Rattle.plan_formats.specs.Formats.{ReadsIn}
 use Rattle.plan_formats.specs.NameColumns.{column_of}
 use Rattle.plan_formats.specs.Parts.{line_texts}
-use Rattle.plan_formats.specs.Tables.{table_of}
+use Rattle.plan_formats.specs.ParsedTables.{table_of}
 use Rattle.plan_formats.specs.TextTables.{table_of_text}
 use Rattle.plan_formats.specs.declared.format.Format.{Format}
 use Rattle.plan_formats.proofs.CsvLemmas.{have_fields, reads_table}
-use Rattle.plan_formats.proofs.JsonLemmas.{line_of_table}
+use Rattle.plan_formats.proofs.ParsedLemmas.{line_of_table}
 use Rattle.plan_formats.proofs.format.shown_in.Goals as goal
 
 pub returns-in-Csv-clause-reads : goal.returns-in-Csv-clause-reads
