@@ -150,7 +150,7 @@ fn heading_base(alloc: Global, columns: &[Column]) -> Result<Vec<u8>, AllocError
 }
 
 // Returns the heading of the first column with labels.
-fn heading_label(columns: &[Column]) -> Cell<'static>
+fn heading_label<'a>(columns: &[Column]) -> Cell<'a>
     ensures { cells.cell_of result ≡ spec.heading_label (map column_of columns.now) }
 {
     for column in columns {
