@@ -19,7 +19,7 @@ column_of c = record { heading = c.heading.now; word = c.word.now; layout = c.la
 
 -- a text aligned right in a number of characters; a longer text isn't cut
 abbrev pub column : ℕ → List ℕ → List ℕ
-column places text = replicate (places - length text) 32 ++ text
+column places word = replicate (places - length word) 32 ++ word
 
 -- the column has the names behind the rows
 abbrev pub is_label : Layout → Bool
