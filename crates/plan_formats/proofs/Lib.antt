@@ -2,3 +2,4 @@ pub mod CsvLemmas
 pub mod JsonLemmas
 pub mod ListLemmas
 pub mod ParsedLemmas
+pub mod TextLemmas

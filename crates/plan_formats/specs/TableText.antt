@@ -47,7 +47,7 @@ heading_label (c ∷ columns) =
 abbrev pub heading_row : List Column → TextRow
 heading_row columns = record { base = heading_base columns; label = heading_label columns }
 
--- whether the cells of a column are whole lines
+-- whether the cells of some column are whole lines
 abbrev pub has_lines : List Column → Bool
 has_lines columns = list_any (λ c. is_line c.layout) columns
 

@@ -17,7 +17,8 @@ fn worded(alloc: Global, word: &str, n: u64) -> Result<String, AllocError>
 // Returns two bounds of the least makespan.
 fn bounds_words(alloc: Global, lower: u64, upper: u64) -> Result<String, AllocError>
     ensures { IfOk result (λ text.
-        string_bytes text ≡ spec.line_words (spec.between lower upper)) }
+        string_bytes text
+        ≡ codes "between " ++ decimal lower ++ codes " " ++ decimal upper) }
 {
     format!(in alloc; "between {lower} {upper}")
 }
@@ -30,7 +31,8 @@ fn summary_words(
     verdict: &str,
 ) -> Result<String, AllocError>
     ensures { IfOk result (λ text.
-        string_bytes text ≡ spec.line_words (spec.summary name.now makespan verdict.now)) }
+        string_bytes text
+        ≡ name.now ++ codes " makespan " ++ decimal makespan ++ codes ": " ++ verdict.now) }
 {
     format!(in alloc; "{name} makespan {makespan}: {verdict}")
 }

@@ -2,6 +2,7 @@
 
 ghost use Rattle.std.specs.Prelude.{◌≡◌, ◌++◌, ◌-◌, map, length, replicate, IfOk, OnOk};
 ghost use Rattle.plan_formats.specs.Cells as cells;
+ghost use Rattle.plan_formats.specs.Columns as layouts;
 ghost use Rattle.plan_formats.specs.Columns.{column, column_of, mark_of, placed, placed_heading};
 ghost use Rattle.plan_formats.specs.Tables.{cells_of, rows_of, table_of};
 ghost use Rattle.plan_formats.specs.TableText as spec;
@@ -109,6 +110,13 @@ fn base_of(alloc: Global, columns: &[Column], row: &[Cell<'_>]) -> Result<Vec<u8
     Ok(text)
 }
 
+// Whether a column has labels.
+fn is_label(layout: Layout) -> bool
+    ensures { result ≡ layouts.is_label layout }
+{
+    matches!(layout, Layout::Label)
+}
+
 // Returns the label of a row.
 fn label_of<'a>(columns: &[Column], row: &[Cell<'a>]) -> Cell<'a>
     ensures { cells.cell_of result ≡ spec.label_of (map column_of columns.now) (cells_of row.now) }
@@ -118,7 +126,7 @@ fn label_of<'a>(columns: &[Column], row: &[Cell<'a>]) -> Cell<'a>
         let [column, rest @ ..] = left else {
             return Cell::Empty;
         };
-        if column.layout == Layout::Label {
+        if is_label(column.layout) {
             return *cell;
         }
         left = rest;
@@ -154,7 +162,7 @@ fn heading_label<'a>(columns: &[Column]) -> Cell<'a>
     ensures { cells.cell_of result ≡ spec.heading_label (map column_of columns.now) }
 {
     for column in columns {
-        if column.layout == Layout::Label {
+        if is_label(column.layout) {
             return Cell::Text(column.heading.as_bytes());
         }
     }
@@ -162,11 +170,18 @@ fn heading_label<'a>(columns: &[Column]) -> Cell<'a>
 }
 
 // Whether the cells of a column are whole lines.
+fn is_line(layout: Layout) -> bool
+    ensures { result ≡ layouts.is_line layout }
+{
+    matches!(layout, Layout::Line)
+}
+
+// Whether the cells of some column are whole lines.
 fn has_lines(columns: &[Column]) -> bool
     ensures { result ≡ spec.has_lines (map column_of columns.now) }
 {
     for column in columns {
-        if column.layout == Layout::Line {
+        if is_line(column.layout) {
             return true;
         }
     }
