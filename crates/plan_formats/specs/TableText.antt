@@ -22,12 +22,14 @@ text_row_of r = record { base = r.base.items; label = cells.cell_of r.label }
 abbrev pub base_of : List Column → List Cell → List ℕ
 base_of columns row = flat_map (λ pair. placed pair.0.layout pair.1) (zip columns row)
 
+-- the first cell whose column has labels
+abbrev pub label_in : List (Column × Cell) → Cell
+label_in [] = empty
+label_in (pair ∷ pairs) = if is_label pair.0.layout then pair.1 else label_in pairs
+
 -- the label of a row: the cell of the first column with labels
 abbrev pub label_of : List Column → List Cell → Cell
-label_of [] row = empty
-label_of (c ∷ columns) [] = empty
-label_of (c ∷ columns) (cell ∷ row) =
-    if is_label c.layout then cell else label_of columns row
+label_of columns row = label_in (zip columns row)
 
 -- a row of cells in the text
 abbrev pub row_of : List Column → List Cell → TextRow

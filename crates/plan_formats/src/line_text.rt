@@ -16,25 +16,35 @@ fn worded(alloc: Global, word: &str, n: u64) -> Result<String, AllocError>
 
 // Returns two bounds of the least makespan.
 fn bounds_words(alloc: Global, lower: u64, upper: u64) -> Result<String, AllocError>
-    ensures { IfOk result (λ text.
-        string_bytes text
+    ensures { IfOk result (λ text. string_bytes text
         ≡ codes "between " ++ decimal lower ++ codes " " ++ decimal upper) }
 {
-    format!(in alloc; "between {lower} {upper}")
+    let front = worded(alloc, "between", lower)?;
+    worded(alloc, &front, upper)
 }
 
-// Returns the makespan and the verdict of a schedule.
+// Returns the name and the makespan of a schedule.
+fn makespan_words(alloc: Global, name: &str, makespan: u64) -> Result<String, AllocError>
+    ensures { IfOk result (λ text.
+        string_bytes text ≡ name.now ++ codes " makespan " ++ decimal makespan) }
+{
+    format!(in alloc; "{name} makespan {makespan}")
+}
+
+// Returns the name, the makespan and the verdict of a schedule.
 fn summary_words(
     alloc: Global,
     name: &str,
     makespan: u64,
     verdict: &str,
 ) -> Result<String, AllocError>
-    ensures { IfOk result (λ text.
-        string_bytes text
+    ensures { IfOk result (λ text. string_bytes text
         ≡ name.now ++ codes " makespan " ++ decimal makespan ++ codes ": " ++ verdict.now) }
 {
-    format!(in alloc; "{name} makespan {makespan}: {verdict}")
+    let mut text = makespan_words(alloc, name, makespan)?;
+    text.push_str(": ")?;
+    text.push_str(verdict)?;
+    Ok(text)
 }
 
 // Appends numbers, each behind a blank.
