@@ -22,14 +22,18 @@ text_row_of r = record { base = r.base.items; label = cells.cell_of r.label }
 abbrev pub base_of : List Column → List Cell → List ℕ
 base_of columns row = flat_map (λ pair. placed pair.0.layout pair.1) (zip columns row)
 
--- the first cell whose column has labels
-abbrev pub label_in : List (Column × Cell) → Cell
-label_in [] = empty
-label_in (pair ∷ pairs) = if is_label pair.0.layout then pair.1 else label_in pairs
+-- a label, or in its place the cell of a column with labels
+abbrev pub label_after : Cell → Column → Cell → Cell
+label_after found c cell = if is_label c.layout then cell else found
 
--- the label of a row: the cell of the first column with labels
+-- a label, or in its place the last cell of a column with labels
+abbrev pub label_from : Cell → List Column → List Cell → Cell
+label_from found columns row =
+    fold (λ label pair. label_after label pair.0 pair.1) found (zip columns row)
+
+-- the label of a row
 abbrev pub label_of : List Column → List Cell → Cell
-label_of columns row = label_in (zip columns row)
+label_of columns row = label_from empty columns row
 
 -- a row of cells in the text
 abbrev pub row_of : List Column → List Cell → TextRow
@@ -39,11 +43,9 @@ row_of columns row = record { base = base_of columns row; label = label_of colum
 abbrev pub heading_base : List Column → List ℕ
 heading_base columns = flat_map (λ c. placed_heading c.layout c.heading) columns
 
--- the heading of the first column with labels
+-- the heading of the last column with labels
 abbrev pub heading_label : List Column → Cell
-heading_label [] = empty
-heading_label (c ∷ columns) =
-    if is_label c.layout then text c.heading else heading_label columns
+heading_label columns = fold (λ label c. label_after label c (text c.heading)) empty columns
 
 -- the line of headings
 abbrev pub heading_row : List Column → TextRow

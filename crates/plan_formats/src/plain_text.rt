@@ -117,21 +117,32 @@ fn is_label(layout: Layout) -> bool
     matches!(layout, Layout::Label)
 }
 
+// Returns a label, or in its place the cell of a column with labels.
+fn label_after<'a>(found: Cell<'a>, column: &Column, cell: &Cell<'a>) -> Cell<'a>
+    ensures { cells.cell_of result ≡ spec.label_after (cells.cell_of found.entry)
+        (column_of column.now) (cells.cell_of cell.now) }
+{
+    if is_label(column.layout) {
+        *cell
+    } else {
+        found
+    }
+}
+
 // Returns the label of a row.
 fn label_of<'a>(columns: &[Column], row: &[Cell<'a>]) -> Cell<'a>
     ensures { cells.cell_of result ≡ spec.label_of (map column_of columns.now) (cells_of row.now) }
 {
+    let mut label = Cell::Empty;
     let mut left = columns;
     for cell in row {
         let [column, rest @ ..] = left else {
-            return Cell::Empty;
+            return label;
         };
-        if is_label(column.layout) {
-            return *cell;
-        }
+        label = label_after(label, column, cell);
         left = rest;
     }
-    Cell::Empty
+    label
 }
 
 // Appends a heading at the place of its column.
@@ -157,16 +168,16 @@ fn heading_base(alloc: Global, columns: &[Column]) -> Result<Vec<u8>, AllocError
     Ok(text)
 }
 
-// Returns the heading of the first column with labels.
+// Returns the heading of the last column with labels.
 fn heading_label<'a>(columns: &[Column]) -> Cell<'a>
     ensures { cells.cell_of result ≡ spec.heading_label (map column_of columns.now) }
 {
+    let mut label = Cell::Empty;
     for column in columns {
-        if is_label(column.layout) {
-            return Cell::Text(column.heading.as_bytes());
-        }
+        let heading = Cell::Text(column.heading.as_bytes());
+        label = label_after(label, column, &heading);
     }
-    Cell::Empty
+    label
 }
 
 // Whether the cells of a column are whole lines.
