@@ -1,18 +1,15 @@
 -- The values of tables that were read from a text and of error lines have no float and are nested
 -- a few levels deep.
-use Rattle.std.proofs.Common.{ℕ, zero, suc, ◌≡◌, ◌≤◌, Bool, true, false, if◌then◌else◌, List, [], ◌∷◌, Option, Some, None, Ordering, Less, Equal, Greater, map, fold, codes, bytes_eq, length, drop, refl, sym, ap, ◌∙◌}
+use Rattle.std.proofs.Common.{ℕ, ◌≡◌, ◌≤◌, Bool, true, false, if◌then◌else◌, List, [], ◌∷◌, Option, Some, None, map, fold, codes, bytes_eq, length, drop, refl, sym, ap, ◌∙◌}
 use Rattle.std.proofs.Common.{subst, true≢false, eqb, Result, IfOk, arith}
 use Rattle.std.proofs.lemmas.List.{drop_all}
-use Rattle.std.specs.Cmp.Lexicographic.{slice_cmp}
-use Rattle.std.specs.Ordering.{nat_cmp, match_ordering}
 use Rattle.std.specs.Str.Lossy.{utf8_lossy}
 use Rattle.std.specs.List.{zip}
-use Rattle.serde_json.specs.Data.{Data, Members, no_members, member, object, array, string, put, depth, members_depth, items_depth}
-use Rattle.serde_json.specs.Written.{has_float, members_have_float, items_have_float}
+use Rattle.serde_json.specs.Data.{Members, no_members, array, string, put}
 use Rattle.serde_json.specs.View.{items_of, items_view}
 use Rattle.serde_json.specs.declared.value.Value.{Value}
 use Rattle.plan_psplib.specs.Lines.{words}
-use Rattle.plan_formats.specs.Cells.{Cell, number, below, text, flag, empty, value_of}
+use Rattle.plan_formats.specs.Cells.{Cell, value_of}
 use Rattle.plan_formats.specs.Tables.{cells_of}
 use Rattle.plan_formats.specs.ParsedTables.{Member, ParsedTable}
 use Rattle.plan_formats.proofs.JsonLemmas.{Fits, AllFit, MembersFit, object_fits, array_fits, put_fits, cell_fits}

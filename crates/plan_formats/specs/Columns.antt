@@ -1,5 +1,5 @@
 -- Columns of a table, and their places in the text (docs/definitions.md, "Formats").
-use Rattle.std.specs.Prelude.{ℕ, ◌-◌, Bool, true, false, if◌then◌else◌, List, [], ◌∷◌, ◌++◌}
+use Rattle.std.specs.Prelude.{ℕ, ◌-◌, Bool, true, false, if◌then◌else◌, List, [], ◌++◌}
 use Rattle.std.specs.Prelude.{length, replicate, codes}
 use Rattle.plan_formats.specs.Cells.{Cell, number, above, below, text, flag, empty, text_of}
 use Rattle.plan_formats.specs.declared.column.Column as declared

@@ -1,5 +1,5 @@
 -- Tables with a column of names (docs/definitions.md, "Formats").
-use Rattle.std.specs.Prelude.{ℕ, List, [], ◌∷◌, ◌++◌, map, codes}
+use Rattle.std.specs.Prelude.{List, [], ◌∷◌, ◌++◌, map, codes}
 use Rattle.std.specs.List.{slice_get}
 use Rattle.plan_table.specs.Names.{Name}
 use Rattle.plan_formats.specs.Cells.{Cell}

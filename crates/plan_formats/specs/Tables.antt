@@ -1,6 +1,6 @@
 -- A table: lines above its rows, its columns, its rows, and lines below them (docs/definitions.md,
 -- "Formats").
-use Rattle.std.specs.Prelude.{ℕ, List, map}
+use Rattle.std.specs.Prelude.{List, map}
 use Rattle.std.specs.declared.vec.Vec.{Vec}
 use Rattle.std.specs.declared.alloc.Global.{Global}
 use Rattle.plan_formats.specs.Cells.{Cell, cell_of}
