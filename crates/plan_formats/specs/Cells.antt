@@ -1,6 +1,6 @@
 -- Cells of a table: in the text, in CSV and in JSON (docs/definitions.md, "Formats").
-use Rattle.std.specs.Prelude.{ℕ, ℤ, ◌==◌, Bool, if◌then◌else◌, List, [], ◌∷◌, ◌++◌, Option, Some, None}
-use Rattle.std.specs.Prelude.{bytes_eq, codes, decimal, nat_le, pos, neg_ℤ}
+use Rattle.std.specs.Prelude.{ℕ, ℤ, Bool, if◌then◌else◌, List, [], ◌∷◌, ◌++◌}
+use Rattle.std.specs.Prelude.{codes, decimal, pos, neg_ℤ}
 use Rattle.std.specs.Str.Lossy.{utf8_lossy}
 use Rattle.serde_json.specs.Data as data_of
 use Rattle.serde_json.specs.Find.{of_integer}
