@@ -7,7 +7,7 @@ ghost use Rattle.plan_errors.specs.declared.codes.Code.{Code};
 
 /// The code of an error line.
 #[derive(Clone, Copy, Debug, PartialEq, Eq)]
-pub(crate) enum Code {
+pub enum Code {
     TooLong,
     NotText,
     MissingHead,
@@ -162,7 +162,7 @@ impl Code {
     }
 
     /// Returns its name, such as `F9`.
-    pub(crate) fn name(self) -> &'static str
+    pub fn name(self) -> &'static str
         ensures { result.now ≡ name_of self }
     {
         match self {

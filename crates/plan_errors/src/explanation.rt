@@ -10,7 +10,9 @@ ghost use Rattle.plan_errors.specs.ExplainRun.{TellsNoCode};
 
 use crate::bytes::write_text;
 use crate::codes::Code;
-use crate::fault::{CliFault, refusal_by};
+use crate::context::Subject;
+use crate::fault::CliFault;
+use crate::refusal::refuse_words;
 use plan_io::Sink;
 use plan_psplib::Words;
 use std::alloc::{AllocError, Global};
@@ -62,7 +64,7 @@ fn explanation(alloc: Global, code: Code, carried: Option<Code>) -> Result<Strin
 fn no_code(alloc: Global) -> CliFault
     ensures { Refuses (λ line. line ≡ codes "C1 unknown code") result }
 {
-    refusal_by("C1 unknown code".to_string(alloc))
+    refuse_words(alloc, Code::UnknownCode, Subject::Other, "unknown code")
 }
 
 /// Returns the text that explains an error line: the entry of the code that starts it, in capitals
