@@ -1,2 +1,6 @@
 pub mod CodeLemmas
 pub mod PartLemmas
+pub mod HintLemmas
+pub mod JsonLemmas
+pub mod OutputLemmas
+pub mod RefusalLemmas

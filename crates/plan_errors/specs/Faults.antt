@@ -1,5 +1,5 @@
 -- The error of a command, and its line of text (docs/definitions.md, "Runs").
-use Rattle.std.specs.Prelude.{◌≡◌, ℕ, List, ◌++◌, None, Vec, codes}
+use Rattle.std.specs.Prelude.{◌≡◌, ℕ, List, ◌++◌, Option, None, String, Vec, codes}
 use Rattle.std.specs.Global.{Global}
 use Rattle.plan_io.specs.declared.whole.InputError.{InputError}
 use Rattle.plan_io.specs.declared.whole.InputError.TheVariants as input
@@ -7,6 +7,7 @@ use Rattle.plan_errors.specs.Codes.{name_of}
 use Rattle.plan_errors.specs.Parts.{parts_text}
 use Rattle.plan_errors.specs.declared.codes.Code.{Code}
 use Rattle.plan_errors.specs.declared.codes.Code.TheVariants as code
+use Rattle.plan_errors.specs.declared.context.Contents.{Contents}
 use Rattle.plan_errors.specs.declared.context.Contents.TheVariants.{Unknown}
 use Rattle.plan_errors.specs.declared.context.Subject.{Subject}
 use Rattle.plan_errors.specs.declared.context.Subject.TheVariants as subject
@@ -56,3 +57,29 @@ IsAbout about (fault.Refused refusal) = refusal.about ≡ about
 IsAbout about fault.Memory = Unit {0}
 IsAbout about fault.Input = ⊥
 IsAbout about fault.Output = ⊥
+
+-- the same error with these contents of its file
+abbrev pub with_contents : Contents → CliFault → CliFault
+with_contents contents (fault.Refused refusal) = fault.Refused (record {
+  code = refusal.code;
+  parts = refusal.parts;
+  about = refusal.about;
+  contents = contents;
+  detail = refusal.detail;
+})
+with_contents contents fault.Memory = fault.Memory
+with_contents contents fault.Input = fault.Input
+with_contents contents fault.Output = fault.Output
+
+-- the same error with this detail
+abbrev pub with_detail : Option (String Global) → CliFault → CliFault
+with_detail detail (fault.Refused refusal) = fault.Refused (record {
+  code = refusal.code;
+  parts = refusal.parts;
+  about = refusal.about;
+  contents = refusal.contents;
+  detail = detail;
+})
+with_detail detail fault.Memory = fault.Memory
+with_detail detail fault.Input = fault.Input
+with_detail detail fault.Output = fault.Output

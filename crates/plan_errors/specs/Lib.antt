@@ -5,6 +5,7 @@ pub mod Codes
 pub mod ExplainRun
 pub mod Subjects
 pub mod HintText
+pub mod ErrorData
 pub use Rattle.plan_io.specs.Devices
 pub use Rattle.plan_psplib.specs.Lines
 pub use Rattle.plan_psplib.specs.Plain

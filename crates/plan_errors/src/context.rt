@@ -105,7 +105,11 @@ impl Subject {
     pub(crate) fn shown(self, argument: &str) -> &str
         ensures { result.now ≡ spec.shown_as self argument.now }
     {
-        if self.is_file() && argument == "-" { "standard input" } else { argument }
+        if self.is_file() && argument == "-" {
+            "standard input"
+        } else {
+            argument
+        }
     }
 }
 

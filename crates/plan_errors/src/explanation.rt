@@ -86,6 +86,7 @@ pub fn explanation_text(alloc: Global, line: &str) -> Result<String, CliFault>
 /// carries another error, such as `E10 F9 line 31`, an empty line and the entry of that one follow.
 /// Any other text is refused with `C1`, and nothing is written. A call of the writer that fails
 /// isn't repeated.
+#[tactic(auto, using(crate::proofs::OutputLemmas::sent_writes))]
 pub fn explain_run<W: Sink>(alloc: Global, line: &str, writer: &mut W) -> Result<(), CliFault>
     ensures writes { W.calls writer.new ≤ W.calls writer.old + most_calls }
     // The explanation if there is one, else nothing; a part of it if the output fails.

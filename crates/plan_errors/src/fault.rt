@@ -5,7 +5,7 @@ ghost use Rattle.plan_errors.specs.Faults as spec;
 ghost use Rattle.plan_errors.specs.declared.fault.CliFault.TheVariants.{Memory};
 
 use crate::codes::Code;
-use crate::context::Subject;
+use crate::context::{Contents, Subject};
 use crate::refusal::Refusal;
 use plan_io::InputError;
 use std::alloc::{AllocError, Global};
@@ -56,6 +56,36 @@ impl CliFault {
             CliFault::Refused(refusal) => refusal.about,
             CliFault::Memory | CliFault::Output => Subject::Other,
             CliFault::Input => Subject::Unread,
+        }
+    }
+
+    /// Returns the same error with these contents of its file.
+    pub fn with_contents(self, contents: Contents) -> CliFault
+        ensures { result ≡ spec.with_contents contents self }
+    {
+        match self {
+            CliFault::Refused(mut refusal) => {
+                refusal.contents = contents;
+                CliFault::Refused(refusal)
+            }
+            CliFault::Memory => CliFault::Memory,
+            CliFault::Input => CliFault::Input,
+            CliFault::Output => CliFault::Output,
+        }
+    }
+
+    /// Returns the same error with this detail.
+    pub fn with_detail(self, detail: Option<String>) -> CliFault
+        ensures { result ≡ spec.with_detail detail self }
+    {
+        match self {
+            CliFault::Refused(mut refusal) => {
+                refusal.detail = detail;
+                CliFault::Refused(refusal)
+            }
+            CliFault::Memory => CliFault::Memory,
+            CliFault::Input => CliFault::Input,
+            CliFault::Output => CliFault::Output,
         }
     }
 }

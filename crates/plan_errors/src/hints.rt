@@ -76,7 +76,7 @@ fn push_command(text: &mut String, code: Code) -> Result<(), AllocError>
 fn push_detail(alloc: Global, text: &mut String, refusal: &Refusal) -> Result<(), AllocError>
     ensures { OnOk result (string_bytes text.new ≡ string_bytes text.old
         ++ spec.cause_or refusal.now.detail
-            (cause_in refusal.now.contents refusal.now.about refusal.now.code)) }
+        (cause_in refusal.now.contents refusal.now.about refusal.now.code)) }
 {
     match &refusal.detail {
         Some(detail) => push_shown(alloc, text, detail.as_str()),
@@ -113,15 +113,24 @@ fn push_advice(
     push_command(text, fault.code())
 }
 
-/// Returns the hint for an error, such as
-/// `hint: house.sm: job numbers out of order; see: plan explain F7` for `F7 line 21`. A hint has
-/// the argument that the error is about, if the command has one, the cause, and the command that
-/// explains the code.
-pub fn hint(
+/// Returns the advice on an error: its hint without the word `hint`.
+pub(crate) fn advice(
     alloc: Global,
     context: Context<'_>,
     fault: &CliFault,
 ) -> Result<String, AllocError>
+    ensures { IfOk result (λ text. string_bytes text ≡ spec.advice_of context.entry fault.now) }
+{
+    let mut text = String::new(alloc);
+    push_advice(alloc, &mut text, context, fault)?;
+    Ok(text)
+}
+
+/// Returns the hint for an error, such as
+/// `hint: house.sm: job numbers out of order; see: plan explain F7` for `F7 line 21`. A hint has
+/// the argument that the error is about, if the command has one, the cause, and the command that
+/// explains the code.
+pub fn hint(alloc: Global, context: Context<'_>, fault: &CliFault) -> Result<String, AllocError>
     ensures { IfOk result (λ text. string_bytes text ≡ spec.hint_of context.entry fault.now) }
 {
     let mut text = "hint: ".to_string(alloc)?;

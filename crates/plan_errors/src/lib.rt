@@ -8,6 +8,7 @@ mod context;
 mod explanation;
 mod fault;
 mod hints;
+mod json;
 mod parts;
 mod refusal;
 
@@ -17,5 +18,6 @@ pub use context::{Contents, Context, Subject};
 pub use explanation::{explain_run, explanation_text};
 pub use fault::CliFault;
 pub use hints::{code_hint, hint, masked};
+pub use json::error_value;
 pub use parts::{Key, Part};
 pub use refusal::{Refusal, refuse, refuse_words};

@@ -1,6 +1,7 @@
 //! The parts of error lines.
 
 ghost use Rattle.std.specs.Prelude.{◌≡◌, ◌++◌, OnOk, string_bytes};
+ghost use Rattle.std.specs.List.{flat_map};
 ghost use Rattle.plan_errors.specs.Parts as spec;
 
 use std::alloc::AllocError;
@@ -77,8 +78,8 @@ fn push_keyed(text: &mut String, key: Key, numbers: &[u32]) -> Result<(), AllocE
     push_numbers(text, numbers)
 }
 
-/// Appends a part, with the blank before it.
-pub(crate) fn push_part(text: &mut String, part: &Part) -> Result<(), AllocError>
+// Appends a part, with the blank before it.
+fn push_part(text: &mut String, part: &Part) -> Result<(), AllocError>
     ensures { OnOk result
         (string_bytes text.new ≡ string_bytes text.old ++ spec.part_text part.now) }
 {
@@ -93,4 +94,15 @@ pub(crate) fn push_part(text: &mut String, part: &Part) -> Result<(), AllocError
         Part::Text(name) => write!(text, " {name}"),
         Part::Ids(ids) => text.push_str(ids.as_str()),
     }
+}
+
+/// Appends parts, with a blank before each.
+pub(crate) fn push_parts(text: &mut String, parts: &[Part]) -> Result<(), AllocError>
+    ensures { OnOk result
+        (string_bytes text.new ≡ string_bytes text.old ++ flat_map spec.part_text parts.now) }
+{
+    for part in parts {
+        push_part(text, part)?;
+    }
+    Ok(())
 }

@@ -9,7 +9,7 @@ ghost use Rattle.plan_errors.specs.declared.parts.Part.TheVariants as part;
 use crate::codes::Code;
 use crate::context::{Contents, Subject};
 use crate::fault::CliFault;
-use crate::parts::{Part, push_part};
+use crate::parts::{Part, push_parts};
 use std::alloc::{AllocError, Global};
 
 /// The error of a file or of an argument.
@@ -28,13 +28,12 @@ pub struct Refusal {
 
 impl Refusal {
     /// Returns its line without the end, such as `F9 line 31`.
+    #[tactic(auto, using(crate::proofs::PartLemmas::parts_flat))]
     pub fn line(&self, alloc: Global) -> Result<String, AllocError>
         ensures { IfOk result (λ text. string_bytes text ≡ refusal_line self.now) }
     {
         let mut text = self.code.name().to_string(alloc)?;
-        for part in &self.parts {
-            push_part(&mut text, part)?;
-        }
+        push_parts(&mut text, &self.parts)?;
         Ok(text)
     }
 }
@@ -59,7 +58,7 @@ pub fn refuse(code: Code, about: Subject, parts: Result<Vec<Part>, AllocError>) 
 
 // Returns words as the parts of a line.
 fn word_parts(alloc: Global, words: &'static str) -> Result<Vec<Part>, AllocError>
-    ensures { IfOk result (λ list. list.items ≡ (part.Words words ∷ [])) }
+    ensures { IfOk result (λ list. list.items ≡ (part.Words words.entry ∷ [])) }
 {
     let mut parts = Vec::new(alloc);
     parts.push(Part::Words(words))?;
