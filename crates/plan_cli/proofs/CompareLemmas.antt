@@ -1,12 +1,13 @@
 -- Comparisons of two schedules.
 use Rattle.std.proofs.Common.{◌≡◌, inl, inr, ℕ, List, Result, Ok, Err, sym, subst, codes}
-use Rattle.std.specs.Prelude.{IfErr, string_bytes}
+use Rattle.std.specs.Prelude.{IfErr}
 use Rattle.plan_net.specs.Network.{Net}
 use Rattle.plan_sgs.specs.Problem.{NeedsFit}
 use Rattle.plan_sgs.specs.Instances.{Planned, problem_of}
 use Rattle.plan_report.specs.Comparison.{IsComparison}
 use Rattle.plan_report.specs.Sheet.{Sheet}
 use Rattle.plan_report.specs.StartsText.{SaysStarts, activity_sheet}
+use Rattle.plan_errors.specs.Faults.{refusal_line}
 use Rattle.plan_errors.specs.Output.{Refuses}
 use Rattle.plan_errors.specs.declared.fault.CliFault.{CliFault}
 use Rattle.plan_errors.specs.declared.fault.CliFault.TheVariants as cli
@@ -18,9 +19,9 @@ use Rattle.plan_cli.proofs.RunLemmas.{refuses_as}
 pub named_refuses : (name : List ℕ) (sheet : Sheet) (text : List ℕ) (e named : CliFault)
     → Refuses (TellsNoStarts sheet text) e → IsNamedFault name e named
     → Refuses (TellsNoStartsOf name sheet text) named
-named_refuses name sheet text (cli.Refused line) named told is =
-    refuses_as (λ said. said ≡ named_line name (string_bytes line)) (TellsNoStartsOf name sheet text) named
-    (λ said same. (string_bytes line, told, same)) is
+named_refuses name sheet text (cli.Refused refusal) named told is =
+    refuses_as (λ said. said ≡ named_line name (refusal_line refusal)) (TellsNoStartsOf name sheet text) named
+    (λ said same. (refusal_line refusal, told, same)) is
 named_refuses name sheet text cli.Memory named told is =
     subst (λ (f : CliFault). Refuses (TellsNoStartsOf name sheet text) f) (sym is) tt
 named_refuses name sheet text cli.Input named told is = absurd told

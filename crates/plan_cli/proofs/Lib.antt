@@ -1,5 +1,6 @@
 pub mod CapacityLemmas
 pub mod RunLemmas
+pub mod RefusalLemmas
 pub mod PlanLemmas
 pub mod SlackLemmas
 pub mod CompareLemmas

@@ -1,6 +1,6 @@
 -- The text or line for the first bytes of a file is that for the whole file.
 use Rattle.std.proofs.Common.{◌≡◌, ◌⊎◌, inl, inr, ℕ, ◌+◌, ◌≤◌, ◌<◌, List, [], Option, Some, None, Result, Ok, Err, length, take, map, refl, sym, ap, ◌∙◌, subst, arith}
-use Rattle.std.specs.Prelude.{IfSome, IfOk, IfErr, string_bytes}
+use Rattle.std.specs.Prelude.{IfSome, IfOk, IfErr}
 use Rattle.std.specs.Io.KnownBytes.{Consumes}
 use Rattle.std.proofs.lemmas.Bool.{lt-leb, cases_lt}
 use Rattle.std.proofs.lemmas.List.{length-take, take_all}
@@ -53,13 +53,14 @@ use Rattle.plan_cli.specs.declared.tasks.Task.TheVariants as task
 use Rattle.plan_cli.specs.ScheduleRun.{TellsNeed}
 use Rattle.plan_errors.specs.declared.fault.CliFault.{CliFault}
 use Rattle.plan_errors.specs.declared.fault.CliFault.TheVariants as cli
+use Rattle.plan_errors.specs.Faults.{refusal_line}
 use Rattle.plan_errors.specs.Output.{Writes, Refuses, Sends}
 use Rattle.plan_cli.specs.Run.{IsDateTableOf, JudgesFront, ReadsFront, Tells}
 
 -- a refusal by lines of one kind is one by lines of another kind that has them too
 pub refuses_as : (IsLine IsOther : List ℕ → Type 0) (e : CliFault)
     → ((line : List ℕ) → IsLine line → IsOther line) → Refuses IsLine e → Refuses IsOther e
-refuses_as IsLine IsOther (cli.Refused line) same r = same (string_bytes line) r
+refuses_as IsLine IsOther (cli.Refused refusal) same r = same (refusal_line refusal) r
 refuses_as IsLine IsOther cli.Memory same r = tt
 refuses_as IsLine IsOther cli.Input same r = absurd r
 refuses_as IsLine IsOther cli.Output same r = absurd r
@@ -134,7 +135,7 @@ writes_front : (IsText IsLine : List ℕ → List ℕ → Type 0) (file : List �
     → Writes (IsText (take (longest_text + 1) file)) (IsLine (take (longest_text + 1) file)) taken after r
     → Writes (IsText file) (IsLine file) taken after r
 writes_front IsText IsLine file taken after (Ok u) texts lines (text, is, took) = (text, texts file text is, took)
-writes_front IsText IsLine file taken after (Err (cli.Refused line)) texts lines (is, same) = (lines file (string_bytes line) is, same)
+writes_front IsText IsLine file taken after (Err (cli.Refused refusal)) texts lines (is, same) = (lines file (refusal_line refusal) is, same)
 writes_front IsText IsLine file taken after (Err cli.Memory) texts lines same = same
 writes_front IsText IsLine file taken after (Err cli.Input) texts lines same = same
 writes_front IsText IsLine file taken after (Err cli.Output) texts lines (text, n, is, part, took) = (text, n, texts file text is, part, took)
@@ -163,8 +164,8 @@ pub reads_front : (IsText IsLine : List ℕ → List ℕ → Type 0) (known rest
     → Writes (IsText front) (IsLine front) taken after r → ReadsFront IsText IsLine known rest taken after r
 reads_front IsText IsLine known rest read front taken after (Ok u) same short e used w =
     judges_front known rest read front (λ bytes. Writes (IsText bytes) (IsLine bytes) taken after (Ok u)) same short e used w
-reads_front IsText IsLine known rest read front taken after (Err (cli.Refused line)) same short e used w =
-    judges_front known rest read front (λ bytes. Writes (IsText bytes) (IsLine bytes) taken after (Err (cli.Refused line))) same short e used w
+reads_front IsText IsLine known rest read front taken after (Err (cli.Refused refusal)) same short e used w =
+    judges_front known rest read front (λ bytes. Writes (IsText bytes) (IsLine bytes) taken after (Err (cli.Refused refusal))) same short e used w
 reads_front IsText IsLine known rest read front taken after (Err cli.Memory) same short e used w = tt
 reads_front IsText IsLine known rest read front taken after (Err cli.Input) same short e used w = tt
 reads_front IsText IsLine known rest read front taken after (Err cli.Output) same short e used w =
@@ -176,14 +177,14 @@ pub sent_writes : (IsText IsLine : List ℕ → Type 0) (text : List ℕ) (taken
     → IsText text → Sends text taken after r → Writes IsText IsLine taken after r
 sent_writes IsText IsLine text taken after (Ok u) is sent = (text, is, sent)
 sent_writes IsText IsLine text taken after (Err cli.Output) is (n, part, took) = (text, n, is, part, took)
-sent_writes IsText IsLine text taken after (Err (cli.Refused line)) is sent = absurd sent
+sent_writes IsText IsLine text taken after (Err (cli.Refused refusal)) is sent = absurd sent
 sent_writes IsText IsLine text taken after (Err cli.Memory) is sent = absurd sent
 sent_writes IsText IsLine text taken after (Err cli.Input) is sent = absurd sent
 
 -- nothing is written for a file that is refused
 pub refused_writes : (IsText IsLine : List ℕ → Type 0) (taken : Option (List ℕ)) (e : CliFault)
     → Refuses IsLine e → Writes IsText IsLine taken taken (Err e)
-refused_writes IsText IsLine taken (cli.Refused line) refuses = (refuses, refl)
+refused_writes IsText IsLine taken (cli.Refused refusal) refuses = (refuses, refl)
 refused_writes IsText IsLine taken cli.Memory refuses = refl
 refused_writes IsText IsLine taken cli.Input refuses = absurd refuses
 refused_writes IsText IsLine taken cli.Output refuses = absurd refuses
@@ -193,7 +194,7 @@ pub judged_bytes : (IsText IsLine : List ℕ → List ℕ → Type 0) (known res
     (taken after : Option (List ℕ)) (r : Result (Unit {0}) CliFault)
     → ReadsFront IsText IsLine known rest taken after r → ReadsFront IsText IsLine None None taken after r
 judged_bytes IsText IsLine known rest taken after (Ok u) (front, short, e, used, does) = (front, short, tt, tt, does)
-judged_bytes IsText IsLine known rest taken after (Err (cli.Refused line)) (front, short, e, used, does) = (front, short, tt, tt, does)
+judged_bytes IsText IsLine known rest taken after (Err (cli.Refused refusal)) (front, short, e, used, does) = (front, short, tt, tt, does)
 judged_bytes IsText IsLine known rest taken after (Err cli.Memory) w = tt
 judged_bytes IsText IsLine known rest taken after (Err cli.Input) w = tt
 judged_bytes IsText IsLine known rest taken after (Err cli.Output) (front, short, e, used, does) = (front, short, tt, tt, does)
@@ -204,7 +205,7 @@ writes_as : (IsText IsOther IsLine IsOtherLine : List ℕ → Type 0) (taken aft
     → ((text : List ℕ) → IsText text → IsOther text) → ((line : List ℕ) → IsLine line → IsOtherLine line)
     → Writes IsText IsLine taken after r → Writes IsOther IsOtherLine taken after r
 writes_as IsText IsOther IsLine IsOtherLine taken after (Ok u) texts lines (text, is, took) = (text, texts text is, took)
-writes_as IsText IsOther IsLine IsOtherLine taken after (Err (cli.Refused line)) texts lines (is, same) = (lines (string_bytes line) is, same)
+writes_as IsText IsOther IsLine IsOtherLine taken after (Err (cli.Refused refusal)) texts lines (is, same) = (lines (refusal_line refusal) is, same)
 writes_as IsText IsOther IsLine IsOtherLine taken after (Err cli.Memory) texts lines same = same
 writes_as IsText IsOther IsLine IsOtherLine taken after (Err cli.Input) texts lines same = same
 writes_as IsText IsOther IsLine IsOtherLine taken after (Err cli.Output) texts lines (text, n, is, part, took) = (text, n, texts text is, part, took)
@@ -226,8 +227,8 @@ pub front_as : (IsText IsOther IsLine IsOtherLine : List ℕ → List ℕ → Ty
     → ReadsFront IsText IsLine known rest taken after r → ReadsFront IsOther IsOtherLine known rest taken after r
 front_as IsText IsOther IsLine IsOtherLine known rest taken after (Ok u) texts lines (front, short, e, used, does) =
     (front, short, e, used, writes_as (IsText front) (IsOther front) (IsLine front) (IsOtherLine front) taken after (Ok u) (texts front) (lines front) does)
-front_as IsText IsOther IsLine IsOtherLine known rest taken after (Err (cli.Refused line)) texts lines (front, short, e, used, does) =
-    (front, short, e, used, writes_as (IsText front) (IsOther front) (IsLine front) (IsOtherLine front) taken after (Err (cli.Refused line)) (texts front) (lines front) does)
+front_as IsText IsOther IsLine IsOtherLine known rest taken after (Err (cli.Refused refusal)) texts lines (front, short, e, used, does) =
+    (front, short, e, used, writes_as (IsText front) (IsOther front) (IsLine front) (IsOtherLine front) taken after (Err (cli.Refused refusal)) (texts front) (lines front) does)
 front_as IsText IsOther IsLine IsOtherLine known rest taken after (Err cli.Memory) texts lines w = tt
 front_as IsText IsOther IsLine IsOtherLine known rest taken after (Err cli.Input) texts lines w = tt
 front_as IsText IsOther IsLine IsOtherLine known rest taken after (Err cli.Output) texts lines (front, short, e, used, does) =

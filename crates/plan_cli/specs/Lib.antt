@@ -9,6 +9,8 @@ pub use Rattle.plan_net.specs.Network
 pub use Rattle.plan_cpm.specs.Dates
 pub use Rattle.plan_io.specs.Devices
 pub use Rattle.plan_errors.specs.Faults
+pub use Rattle.plan_errors.specs.Parts
+pub use Rattle.plan_errors.specs.Subjects
 pub use Rattle.plan_errors.specs.Output
 pub use Rattle.plan_errors.specs.Codes
 pub use Rattle.plan_errors.specs.ExplainRun
@@ -45,6 +47,8 @@ pub mod CompareRun
 pub mod FormattedText
 pub mod ExplainedText
 pub mod TableFaultText
+pub mod Refusals
+pub mod Contents
 pub mod ImportRun
 pub mod RowNames
 pub mod TemplateRun

@@ -1,11 +1,13 @@
 //! Capacities that replace those of a project file.
 
-ghost use Rattle.std.specs.Prelude.{◌≡◌, ◌+◌, ◌<◌, ℕ, true, false, codes, length};
-ghost use Rattle.std.specs.Prelude.{IfOk, IfErr, IfSome, IfNone};
+ghost use Rattle.std.specs.Prelude.{◌≡◌, ◌+◌, ◌<◌, ◌++◌, ℕ, true, false, codes, length};
+ghost use Rattle.std.specs.Prelude.{IfOk, IfErr, IfSome, IfNone, string_bytes};
+ghost use Rattle.plan_errors.specs.Faults.{IsAbout};
 ghost use Rattle.plan_errors.specs.Output.{Refuses};
+ghost use Rattle.plan_errors.specs.Parts.{parts_text};
 ghost use Rattle.plan_cli.specs.Capacities as spec;
 
-use plan_errors::{CliFault, refusal_by};
+use plan_errors::{CliFault, Code, Part, Subject, refuse};
 use std::alloc::{AllocError, Global};
 use std::fmt::Write;
 
@@ -43,13 +45,34 @@ fn index_of(alloc: Global, name: &str, count: usize) -> Result<Option<usize>, Al
     Ok(None)
 }
 
-// Returns the error of a name that no resource has.
-fn unknown(alloc: Global, name: &str) -> CliFault
-    ensures { Refuses (spec.SaysUnknown name.now) result }
+// Returns a name behind words.
+fn name_parts(alloc: Global, name: &str) -> Result<Vec<Part>, AllocError>
+    ensures { IfOk result (λ list. spec.SaysUnknown name.now
+        (codes "S8" ++ parts_text list.items)) }
 {
-    let mut line = String::new(alloc);
-    match write!(line, "S8 no resource {name}") {
-        Ok(()) => CliFault::Refused(line),
+    let name = Part::Text(name.to_string(alloc)?);
+    Ok(Vec::from_array(alloc, [Part::Words("no resource"), name])?)
+}
+
+// Returns the resources that there are.
+fn resources(alloc: Global, count: usize) -> Result<String, AllocError>
+    ensures { IfOk result (λ text. string_bytes text ≡ spec.resources_text count) }
+{
+    if count == 1 {
+        return "the only resource is 1".to_string(alloc);
+    }
+    format!(in alloc; "the resources are 1 to {count}")
+}
+
+// Returns the error of a name that none of so many resources has.
+fn unknown(alloc: Global, name: &str, count: usize) -> CliFault
+    ensures told { Refuses (spec.SaysUnknown name.now) result }
+    ensures about { IsAbout Subject.Capacity result }
+    ensures detail { spec.NamesResources count result }
+{
+    let fault = refuse(Code::NoResource, Subject::Capacity, name_parts(alloc, name));
+    match resources(alloc, count) {
+        Ok(detail) => fault.with_detail(Some(detail)),
         Err(_) => CliFault::Memory,
     }
 }
@@ -67,7 +90,7 @@ pub fn replaced(
     let mut list = Vec::from_slice(alloc, capacities)?;
     for capacity in given {
         let Some(k) = index_of(alloc, capacity.resource, list.len())? else {
-            return Err(unknown(alloc, capacity.resource));
+            return Err(unknown(alloc, capacity.resource, list.len()));
         };
         list[k] = capacity.amount;
     }

@@ -1,12 +1,13 @@
 //! `plan compare`: two schedules of a project or of a job shop.
 
-ghost use Rattle.std.specs.Prelude.{◌≡◌, All, IfOk, IfErr, length, string_bytes};
+ghost use Rattle.std.specs.Prelude.{◌≡◌, All, IfOk, IfErr, length};
 ghost use Rattle.plan_net.specs.Network.{count_of};
 ghost use Rattle.plan_profile.specs.Usage.{IsInTime};
 ghost use Rattle.plan_sgs.specs.Instances.{planned};
 ghost use Rattle.plan_shop.specs.Docs.{shop_of};
 ghost use Rattle.plan_shop.specs.Shop.{count_steps};
 ghost use Rattle.plan_report.specs.StartsText.{SaysStarts, activity_sheet, step_sheet};
+ghost use Rattle.plan_errors.specs.Faults.{IsAbout, refusal_line};
 ghost use Rattle.plan_errors.specs.Output.{Refuses};
 ghost use Rattle.plan_cli.specs.Run.{IfText};
 ghost use Rattle.plan_cli.specs.Plans.{IsOfProject, PlannedWith, RefusesFile, RefusesWith};
@@ -17,14 +18,14 @@ use crate::capacities::{Capacity, replaced};
 use crate::projects::{instance_with, read_project};
 use crate::shops::{open_shop, read_instance};
 use crate::starts::{read_shop_starts, read_starts};
-use plan_errors::{CliFault, refusal_by};
+use plan_errors::{CliFault, Part, Refusal, Subject};
 use plan_net::Network;
 use plan_orlib::ShopDoc;
 use plan_psplib::ProjectDoc;
 use plan_report::{compare_text, shop_compare_text};
 use plan_sgs::Instance;
 use plan_shop::Shop;
-use std::alloc::{AllocError, Global};
+use std::alloc::Global;
 
 /// The texts of the starts of two schedules, A and B.
 #[derive(Clone, Copy, Debug, Drop)]
@@ -33,22 +34,37 @@ pub struct Pair<'a> {
     pub b: &'a [u8],
 }
 
-// Returns a line with the name of a schedule behind it.
-fn named_line(alloc: Global, line: &str, name: &str) -> Result<String, AllocError>
-    ensures { IfOk result (λ text. string_bytes text ≡ spec.named_line name.now line.now) }
+// Returns the argument with the starts of a schedule.
+fn subject_of(name: &str) -> Subject
+    ensures { result ≡ spec.subject_of name.now }
 {
-    let mut text = line.to_string(alloc)?;
-    text.push_str(" ")?;
-    text.push_str(name)?;
-    Ok(text)
+    if name == "A" {
+        Subject::StartsA
+    } else {
+        Subject::StartsB
+    }
 }
 
 // Returns the error of a text of starts with the name of its schedule.
-fn named_fault(alloc: Global, fault: CliFault, name: &str) -> CliFault
+#[tactic(auto, using(crate::proofs::CompareLemmas::named_parts))]
+fn named_refusal(mut refusal: Refusal, name: &'static str) -> CliFault
+    ensures told { Refuses
+        (λ told. told ≡ spec.named_line name.now (refusal_line refusal)) result }
+    ensures about { IsAbout (spec.subject_of name.now) result }
+{
+    if refusal.parts.push(Part::Words(name)).is_err() {
+        return CliFault::Memory;
+    }
+    refusal.about = subject_of(name);
+    CliFault::Refused(refusal)
+}
+
+// Returns the error of a text of starts with the name of its schedule.
+fn named_fault(fault: CliFault, name: &'static str) -> CliFault
     ensures { spec.IsNamedFault name.now fault result }
 {
     match fault {
-        CliFault::Refused(line) => refusal_by(named_line(alloc, line.as_str(), name)),
+        CliFault::Refused(refusal) => named_refusal(refusal, name),
         CliFault::Memory => CliFault::Memory,
         CliFault::Input => CliFault::Input,
         CliFault::Output => CliFault::Output,
@@ -60,7 +76,7 @@ fn starts_of(
     alloc: Global,
     network: &Network,
     text: &[u8],
-    name: &str,
+    name: &'static str,
 ) -> Result<Vec<u64>, CliFault>
     ensures said { IfOk result (λ starts.
         SaysStarts (activity_sheet network.now) text.now starts.items) }
@@ -69,11 +85,16 @@ fn starts_of(
     ensures refused { IfErr result (Refuses
         (spec.TellsNoStartsOf name.now (activity_sheet network.now) text.now)) }
 {
-    read_starts(alloc, network, text).map_err(|fault| named_fault(alloc, fault, name))
+    read_starts(alloc, network, text).map_err(|fault| named_fault(fault, name))
 }
 
 // Reads the starts of the schedule with this name of a job shop.
-fn shop_starts_of(alloc: Global, shop: &Shop, text: &[u8], name: &str) -> Result<Vec<u64>, CliFault>
+fn shop_starts_of(
+    alloc: Global,
+    shop: &Shop,
+    text: &[u8],
+    name: &'static str,
+) -> Result<Vec<u64>, CliFault>
     ensures said { IfOk result (λ starts.
         SaysStarts (step_sheet shop.now) text.now starts.items) }
     ensures whole { IfOk result (λ starts. length starts.items ≡ count_steps shop.now) }
@@ -81,7 +102,7 @@ fn shop_starts_of(alloc: Global, shop: &Shop, text: &[u8], name: &str) -> Result
     ensures refused { IfErr result (Refuses
         (spec.TellsNoStartsOf name.now (step_sheet shop.now) text.now)) }
 {
-    read_shop_starts(alloc, shop, text).map_err(|fault| named_fault(alloc, fault, name))
+    read_shop_starts(alloc, shop, text).map_err(|fault| named_fault(fault, name))
 }
 
 // Returns the comparison of the schedules with the starts in two texts, for an instance.

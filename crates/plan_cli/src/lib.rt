@@ -5,11 +5,13 @@ mod calendars;
 mod capacities;
 mod charts;
 mod comparisons;
+mod contents;
 mod days;
 mod explanations;
 mod files;
 mod formatted;
 mod imports;
+mod infeasible;
 mod inputs;
 mod named_texts;
 mod names;
@@ -40,7 +42,9 @@ pub use files::{read_named, run_on_file, run_on_files, run_on_named, run_on_text
 pub use inputs::{Inputs, SystemInputs};
 pub use named_texts::{NamedText, Role};
 pub use origins::Origin;
-pub use plan_errors::{CliFault, Contents, Context, explain_run, hint, masked};
+pub use plan_errors::{
+    CliFault, Code, Context, Subject, code_hint, error_value, explain_run, hint, masked,
+};
 pub use projects::{instance_with, read_project, schedule_from};
 pub use refusals::days_refusal;
 pub use runs::{best_project_run, best_run, cpm_run, run_task, schedule_run, shop_run};

@@ -27,6 +27,6 @@ pub(crate) fn names_text(alloc: Global, file: &[u8]) -> Result<Vec<u8>, CliFault
     ensures made { IfOk result (λ text. spec.AreNamesOf file.now text.items) }
     ensures refused { IfErr result (Refuses (spec.TellsNotPlain file.now)) }
 {
-    let names = names(alloc, file).map_err(|fault| file_refusal(alloc, &fault))?;
+    let names = names(alloc, file).map_err(|fault| file_refusal(alloc, &fault, file))?;
     Ok(name_lines(alloc, &names)?)
 }

@@ -11,13 +11,13 @@ ghost use Rattle.plan_cli.specs.Scheduled.{IsListed, IsMade, IsMadeBy, IsMadeFro
 ghost use Rattle.plan_cli.specs.Scheduled.{TellsNotListed, TellsNotMade};
 
 use crate::origins::Origin;
-use crate::refusals::{file_refusal, schedule_refusal};
+use crate::refusals::{file_refusal, need_refusal, rule_refusal};
 use crate::starts::read_starts;
 use crate::verdicts::check_feasible;
 use plan_errors::CliFault;
 use plan_psplib::{ProjectDoc, read_sm};
 use plan_report::makespan_of;
-use plan_sgs::{Instance, Rule, Schedule, serial};
+use plan_sgs::{Instance, Rule, Schedule, SgsFault, serial};
 use std::alloc::Global;
 
 /// Reads the project in a file.
@@ -25,7 +25,7 @@ pub fn read_project(alloc: Global, file: &[u8]) -> Result<ProjectDoc, CliFault>
     ensures said { IfOk result (SaysProject file.now) }
     ensures refused { IfErr result (Refuses (TellsFirstFailing file.now)) }
 {
-    read_sm(alloc, file).map_err(|fault| file_refusal(alloc, &fault))
+    read_sm(alloc, file).map_err(|fault| file_refusal(alloc, &fault, file))
 }
 
 /// Returns the instance of a project with these capacities.
@@ -38,7 +38,11 @@ pub fn instance_with<'a>(
     ensures ok { IfOk result (λ instance. instance ≡ planned project.now capacities.now) }
     ensures refused { IfErr result (Refuses (TellsNeed (planned project.now capacities.now))) }
 {
-    Instance::of_project(project, capacities).map_err(|fault| schedule_refusal(alloc, &fault))
+    match Instance::of_project(project, capacities) {
+        Ok(instance) => Ok(instance),
+        Err(SgsFault::NeedsTooMuch { act, res }) => Err(need_refusal(alloc, act, res)),
+        Err(_) => unreachable!(),
+    }
 }
 
 /// Returns the instance of a project with the capacities of its file.
@@ -70,7 +74,7 @@ pub(crate) fn schedule_by(
         (TellsRefusal name.now (planned project.now capacities.now))) }
 {
     let instance = instance_with(alloc, project, capacities)?;
-    let rule = Rule::parse(name).map_err(|fault| schedule_refusal(alloc, &fault))?;
+    let rule = Rule::parse(name).map_err(|_| rule_refusal(alloc))?;
     schedule_by_rule(alloc, &instance, rule)
 }
 

@@ -12,7 +12,7 @@ ghost use Rattle.plan_cli.specs.ProofText.{IsBoundLine, ShowsProof};
 ghost use Rattle.plan_cli.specs.ProveRun as spec;
 
 use crate::shops::{open_shop, read_instance};
-use plan_errors::{CliFault, refusal_by};
+use plan_errors::{CliFault, Code, Subject, refuse_words};
 use plan_gantt::shop_table;
 use plan_orlib::ShopDoc;
 use plan_prove::{Proof, ProveFault, Watcher, parse_nodes, prove_watched};
@@ -72,7 +72,7 @@ fn proved_text<V: Watcher>(
 fn no_nodes(alloc: Global) -> CliFault
     ensures { Refuses (λ line. line ≡ codes "S7 nodes") result }
 {
-    refusal_by("S7 nodes".to_string(alloc))
+    refuse_words(alloc, Code::BadNodes, Subject::Limit, "nodes")
 }
 
 // Returns the text of the proof for a file's job shop.

@@ -26,7 +26,7 @@ pub fn read_instance(alloc: Global, instance: &str, file: &[u8]) -> Result<ShopD
     ensures said { IfOk result (Says instance.now file.now) }
     ensures refused { IfErr result (Refuses (TellsFirstShopFault instance.now file.now)) }
 {
-    read_shop(alloc, file, instance.as_bytes()).map_err(|fault| file_refusal(alloc, &fault))
+    read_shop(alloc, file, instance.as_bytes()).map_err(|fault| file_refusal(alloc, &fault, file))
 }
 
 /// Returns the job shop of a file with all machines open, so that no closed machine refuses it.

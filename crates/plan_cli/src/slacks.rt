@@ -8,10 +8,10 @@ ghost use Rattle.plan_cli.specs.Plans.{IsOfProject, PlannedWith, RefusesFile, Re
 ghost use Rattle.plan_cli.specs.SlackRun as spec;
 
 use crate::capacities::{Capacity, replaced};
+use crate::infeasible::infeasible_refusal;
 use crate::projects::{instance_with, read_project};
 use crate::starts::read_starts;
-use crate::verdicts::infeasible_text;
-use plan_errors::{CliFault, refusal_by};
+use plan_errors::{CliFault, Code, Subject, refuse_words};
 use plan_psplib::ProjectDoc;
 use plan_report::{SlackFault, slack_text};
 use plan_sgs::Instance;
@@ -23,8 +23,8 @@ fn slack_refusal(alloc: Global, fault: SlackFault) -> CliFault
 {
     match fault {
         SlackFault::NoMemory => CliFault::Memory,
-        SlackFault::NotFeasible(verdict) => refusal_by(infeasible_text(alloc, verdict)),
-        SlackFault::Late => refusal_by("S9 late".to_string(alloc)),
+        SlackFault::NotFeasible(verdict) => infeasible_refusal(alloc, verdict),
+        SlackFault::Late => refuse_words(alloc, Code::LateEnd, Subject::Starts, "late"),
     }
 }
 

@@ -8,42 +8,24 @@ ghost use Rattle.plan_sgs.specs.Problem.{IsFeasible};
 ghost use Rattle.plan_errors.specs.Output.{Refuses};
 ghost use Rattle.plan_cli.specs.Run.{IfText};
 ghost use Rattle.plan_cli.specs.ScheduleRun.{as_available};
-ghost use Rattle.plan_report.specs.VerdictText.{sentence_of, shop_sentence_of};
+ghost use Rattle.plan_report.specs.VerdictText.{sentence_of};
 ghost use Rattle.plan_shop.specs.Docs.{shop_of};
 ghost use Rattle.plan_shop.specs.Shop.{count_steps};
 ghost use Rattle.plan_shop.specs.Shop as shops;
-ghost use Rattle.plan_cli.specs.VerdictText.{verdict_text_of, infeasible_line};
+ghost use Rattle.plan_cli.specs.VerdictText.{verdict_text_of};
 ghost use Rattle.plan_cli.specs.CheckRun as spec;
 
+use crate::infeasible::{infeasible_refusal, shop_infeasible_refusal};
 use crate::projects::{instance_of, read_project};
 use crate::shops::{open_shop, read_instance};
 use crate::starts::{read_shop_starts, read_starts};
-use plan_errors::{CliFault, refusal_by};
+use plan_errors::CliFault;
 use plan_orlib::ShopDoc;
 use plan_psplib::ProjectDoc;
-use plan_report::{push_sentence, push_shop_sentence, shop_verdict_text};
+use plan_report::{push_sentence, shop_verdict_text};
 use plan_sgs::{Instance, Verdict, check};
 use plan_shop::{self, Shop};
 use std::alloc::{AllocError, Global};
-
-/// Returns the error line of infeasible starts, for their verdict.
-pub(crate) fn infeasible_text(alloc: Global, verdict: Verdict) -> Result<String, AllocError>
-    ensures { IfOk result (λ text. string_bytes text ≡ infeasible_line (sentence_of verdict)) }
-{
-    let mut text = "S10 ".to_string(alloc)?;
-    push_sentence(&mut text, verdict)?;
-    Ok(text)
-}
-
-// Returns the error line of infeasible starts of a job shop, for their verdict.
-fn shop_infeasible_text(alloc: Global, shop: &Shop, verdict: Verdict) -> Result<String, AllocError>
-    ensures { IfOk result (λ text.
-        string_bytes text ≡ infeasible_line (shop_sentence_of shop.now verdict)) }
-{
-    let mut text = "S10 ".to_string(alloc)?;
-    push_shop_sentence(&mut text, shop, verdict)?;
-    Ok(text)
-}
 
 // Returns the sentence of a verdict, without an end of line.
 fn sentence(alloc: Global, verdict: Verdict) -> Result<String, AllocError>
@@ -77,9 +59,7 @@ pub(crate) fn check_feasible(
 {
     let verdict = check(alloc, instance, starts).map_err(|_| CliFault::Memory)?;
     match verdict {
-        Verdict::Arc(_, _) | Verdict::Over(_, _) => Err(refusal_by(infeasible_text(
-            alloc, verdict,
-        ))),
+        Verdict::Arc(_, _) | Verdict::Over(_, _) => Err(infeasible_refusal(alloc, verdict)),
         Verdict::Shift(_) | Verdict::Active => Ok(()),
     }
 }
@@ -127,7 +107,7 @@ pub(crate) fn check_shop_feasible(
     let verdict = plan_shop::check(shop, starts);
     match verdict {
         Verdict::Arc(_, _) | Verdict::Over(_, _) => {
-            Err(refusal_by(shop_infeasible_text(alloc, shop, verdict)))
+            Err(shop_infeasible_refusal(alloc, shop, verdict))
         }
         Verdict::Shift(_) | Verdict::Active => Ok(()),
     }

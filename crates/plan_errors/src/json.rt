@@ -59,11 +59,7 @@ fn put_numbers(
 }
 
 // Sets the member `cycle` to the ids in front that are numbers, if there are any.
-fn put_ids(
-    alloc: Global,
-    object: &mut Map<String, Value>,
-    ids: &str,
-) -> Result<(), AllocError>
+fn put_ids(alloc: Global, object: &mut Map<String, Value>, ids: &str) -> Result<(), AllocError>
     ensures { OnOk result (members_view object.new.entries ≡ spec.with_numbers (codes "cycle")
         (spec.front_numbers (words ids.now)) (members_view object.old.entries)) }
 {
@@ -76,17 +72,18 @@ fn put_ids(
 }
 
 // Sets the members of a part.
-fn put_part(
-    alloc: Global,
-    object: &mut Map<String, Value>,
-    part: &Part,
-) -> Result<(), AllocError>
+fn put_part(alloc: Global, object: &mut Map<String, Value>, part: &Part) -> Result<(), AllocError>
     ensures { OnOk result (members_view object.new.entries
         ≡ spec.with_part (members_view object.old.entries) part.now) }
 {
     match part {
         Part::Words(_) | Part::Text(_) => {}
-        Part::Number(key, n) | Part::Bare(key, n) => put(object, alloc, key.word(), Value::from(*n))?,
+        Part::Number(key, n) | Part::Bare(key, n) => put(
+            object,
+            alloc,
+            key.word(),
+            Value::from(*n),
+        )?,
         Part::Numbers(key, numbers) => put_numbers(alloc, object, key.word(), numbers)?,
         Part::Ids(ids) => put_ids(alloc, object, ids.as_str())?,
     }
@@ -158,7 +155,12 @@ fn put_texts(
         ≡ spec.with_texts context.entry fault.now (members_view object.old.entries)) }
 {
     put(object, alloc, "text", Value::String(fault.line(alloc)?))?;
-    put(object, alloc, "hint", Value::String(advice(alloc, context, fault)?))
+    put(
+        object,
+        alloc,
+        "hint",
+        Value::String(advice(alloc, context, fault)?),
+    )
 }
 
 // Sets all members but the code.
