@@ -20,7 +20,7 @@ pub advice_pushed : {A E : Type 0} (context : Context) (fault : CliFault) (about
     (argument : Option (Bor (List ℕ))) (code : Code) (old one two three : List ℕ) (r : Result A E)
     → about ≡ subject_of fault → argument ≡ argument_of context about → code ≡ code_of fault
     → one ≡ old ++ named about argument → two ≡ one ++ cause_shown fault
-    → OnOk r (three ≡ two ++ (codes "; see: plan explain " ++ name_of code))
+    → OnOk r (three ≡ two ++ codes "; see: plan explain " ++ name_of code)
     → OnOk r (three ≡ old ++ advice_of context fault)
 advice_pushed context fault about argument code old one two three (Err e) is_about is_argument is_code first second third = tt
 advice_pushed context fault about argument code old one two three (Ok x) is_about is_argument is_code first second third =
@@ -28,6 +28,7 @@ advice_pushed context fault about argument code old one two three (Ok x) is_abou
     ∙ ap (λ (s : Subject). named s (argument_of context s)) is_about in
     let command = ap (λ (c : Code). codes "; see: plan explain " ++ name_of c) is_code in
     third
+    ∙ append_assoc two (codes "; see: plan explain ") (name_of code)
     ∙ ap (λ (text : List ℕ). two ++ text) command
     ∙ ap (λ (text : List ℕ). text ++ (codes "; see: plan explain " ++ name_of (code_of fault)))
     (second ∙ ap (λ (text : List ℕ). text ++ cause_shown fault) (first ∙ ap (λ (text : List ℕ). old ++ text) subject))

@@ -66,7 +66,7 @@ fn push_argument(
 // Appends the command that explains a code.
 fn push_command(text: &mut String, code: Code) -> Result<(), AllocError>
     ensures { OnOk result (string_bytes text.new
-        ≡ string_bytes text.old ++ (codes "; see: plan explain " ++ name_of code)) }
+        ≡ string_bytes text.old ++ codes "; see: plan explain " ++ name_of code) }
 {
     text.push_str("; see: plan explain ")?;
     text.push_str(code.name())
