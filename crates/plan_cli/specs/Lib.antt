@@ -49,6 +49,7 @@ pub mod ExplainedText
 pub mod TableFaultText
 pub mod Refusals
 pub mod Contents
+pub mod Details
 pub mod ImportRun
 pub mod RowNames
 pub mod TemplateRun

@@ -7,6 +7,7 @@ mod charts;
 mod comparisons;
 mod contents;
 mod days;
+mod details;
 mod explanations;
 mod files;
 mod formatted;
