@@ -1,5 +1,5 @@
 -- Refusals by their codes and parts.
-use Rattle.std.proofs.Common.{◌≡◌, ℕ, List, ◌++◌, Result, Ok, Err, Vec, refl, sym, ap, ◌∙◌, subst, append_assoc, codes}
+use Rattle.std.proofs.Common.{◌≡◌, ℕ, List, [], ◌∷◌, ◌++◌, Result, Ok, Err, Vec, refl, sym, ap, ◌∙◌, subst, append_assoc, codes}
 use Rattle.std.specs.Prelude.{IfOk, IfErr}
 use Rattle.std.specs.Fmt.{decimal}
 use Rattle.std.specs.Global.{Global}
@@ -10,18 +10,23 @@ use Rattle.plan_gantt.specs.FaultText.{fault_text_by, file_fault_text_of, spaced
 use Rattle.plan_errors.specs.Codes.{name_of}
 use Rattle.plan_errors.specs.Faults.{refusal_of, with_contents, IsAbout}
 use Rattle.plan_errors.specs.Output.{Refuses}
-use Rattle.plan_errors.specs.Parts.{parts_text}
+use Rattle.plan_errors.specs.Parts.{part_text, parts_text}
 use Rattle.plan_errors.specs.declared.codes.Code.{Code}
 use Rattle.plan_errors.specs.declared.context.Contents.{Contents}
 use Rattle.plan_errors.specs.declared.context.Subject.{Subject}
 use Rattle.plan_errors.specs.declared.fault.CliFault.{CliFault}
 use Rattle.plan_errors.specs.declared.fault.CliFault.TheVariants as cli
 use Rattle.plan_errors.specs.declared.parts.Part.{Part}
+use Rattle.plan_errors.proofs.PartLemmas.{parts_push}
 use Rattle.plan_errors.proofs.RefusalLemmas.{refused_with, contents_refuse, contents_about}
 use Rattle.plan_cli.specs.Contents.{HasContents, KnowsFile}
 use Rattle.plan_cli.specs.Refusals.{file_code, place_by, place_of}
 use Rattle.plan_cli.specs.Run.{Tells}
 use Rattle.plan_cli.specs.Starts.{TellsStarts}
+
+-- one more part follows the text
+pub pushed : (parts : List Part) (last : Part) → parts_text (parts ++ last ∷ []) ≡ parts_text parts ++ part_text last
+pushed parts last = parts_push parts last
 
 -- the line of a file's error is its code and its place
 line_by : (code : FileCode) (line : ℕ) (cycle : List ℕ) → (code ≡ file.Memory → ⊥)

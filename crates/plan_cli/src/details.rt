@@ -8,12 +8,7 @@ use plan_table::{NameLine, activity_names, first_name, resource_names};
 use std::alloc::{AllocError, Global};
 
 // Returns the first name of a number among names, or else a word and the number.
-fn label(
-    alloc: Global,
-    names: &[NameLine<'_>],
-    word: &str,
-    n: u32,
-) -> Result<String, AllocError>
+fn label(alloc: Global, names: &[NameLine<'_>], word: &str, n: u32) -> Result<String, AllocError>
     ensures { IfOk result (λ text.
         string_bytes text ≡ spec.label word.now (map name_of names.now) n) }
 {

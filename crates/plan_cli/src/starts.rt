@@ -20,7 +20,7 @@ use plan_shop::Shop;
 use std::alloc::{AllocError, Global};
 
 // Returns the place of an error in a text of starts.
-#[tactic(auto, using(Rattle.plan_errors.proofs.PartLemmas.parts_push))]
+#[tactic(auto, using(crate::proofs::RefusalLemmas::pushed))]
 fn starts_parts(alloc: Global, fault: &FileFault) -> Result<Vec<Part>, AllocError>
     ensures { IfOk result (λ list.
         parts_text list.items ≡ place_of fault.now ++ codes " of the starts") }
