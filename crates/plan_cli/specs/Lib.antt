@@ -1,6 +1,7 @@
 pub mod Capacities
 pub mod Run
 pub mod Plans
+pub mod Documents
 pub mod ScheduleRun
 pub mod ShopRun
 pub mod Tasks
@@ -35,6 +36,7 @@ pub mod ProofText
 pub mod ProveRun
 pub mod SolveRun
 pub mod Scheduled
+pub mod Tables
 pub mod ChartRun
 pub mod Calendars
 pub mod DaysRun
@@ -51,6 +53,7 @@ pub mod Refusals
 pub mod Contents
 pub mod Details
 pub mod ImportRun
+pub mod Commands
 pub mod RowNames
 pub mod TemplateRun
 pub use Rattle.plan_table.specs.Names

@@ -4,10 +4,12 @@
 mod calendars;
 mod capacities;
 mod charts;
+mod commands;
 mod comparisons;
 mod contents;
 mod days;
 mod details;
+mod documents;
 mod explanations;
 mod files;
 mod formatted;
@@ -22,6 +24,7 @@ mod proof;
 mod refusals;
 mod row_names;
 mod runs;
+mod schedules;
 mod shops;
 mod slacks;
 mod solutions;
@@ -38,18 +41,22 @@ mod watchers;
 pub use calendars::{Dates, calendar_of};
 pub use capacities::{Capacity, replaced};
 pub use comparisons::Pair;
+pub use documents::{
+    Document, Plan, Subject, names_of_lines, names_of_rows, plan_of, read_document,
+};
 pub use explanations::explain_run_in;
 pub use files::{read_named, run_on_file, run_on_files, run_on_named, run_on_texts};
 pub use inputs::{Inputs, SystemInputs};
 pub use named_texts::{NamedText, Role};
 pub use origins::Origin;
 pub use plan_errors::{
-    CliFault, Code, Context, Subject, code_hint, error_value, explain_run, hint, masked,
+    CliFault, Code, Context, Subject as About, code_hint, error_value, explain_run, hint, masked,
 };
-pub use projects::{instance_with, read_project, schedule_from};
+pub use projects::{instance_with, read_project};
 pub use refusals::days_refusal;
 pub use runs::{best_project_run, best_run, cpm_run, run_task, schedule_run, shop_run};
-pub use shops::{read_instance, shop_schedule_from};
+pub use schedules::{Scheduled, schedule_from};
+pub use shops::read_instance;
 pub use tasks::{Rows, Task};
 pub use templates::{Template, template_run};
 pub use watchers::{Log, ProofWatcher, SolveWatcher, Unlogged, Unwatched};

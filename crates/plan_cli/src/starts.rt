@@ -8,9 +8,11 @@ ghost use Rattle.plan_report.specs.StartsText.{SaysStarts, activity_sheet, step_
 ghost use Rattle.plan_errors.specs.Faults.{IsAbout};
 ghost use Rattle.plan_errors.specs.Output.{Refuses};
 ghost use Rattle.plan_errors.specs.Parts.{parts_text};
+ghost use Rattle.plan_cli.specs.Documents.{count_of as plan_count, sheet_of};
 ghost use Rattle.plan_cli.specs.Refusals.{place_of};
 ghost use Rattle.plan_cli.specs.Starts as spec;
 
+use crate::documents::Plan;
 use crate::refusals::{file_code, place_parts};
 use plan_errors::{CliFault, Part, Subject, refuse};
 use plan_net::Network;
@@ -69,12 +71,8 @@ pub(crate) fn read_starts(
     read_starts_text(alloc, network, text).map_err(|error| read_refusal(alloc, error))
 }
 
-/// Reads the starts of a job shop's steps, in flat order.
-pub(crate) fn read_shop_starts(
-    alloc: Global,
-    shop: &Shop,
-    text: &[u8],
-) -> Result<Vec<u64>, CliFault>
+// Reads the starts of a job shop's steps, in flat order.
+fn read_shop_starts(alloc: Global, shop: &Shop, text: &[u8]) -> Result<Vec<u64>, CliFault>
     ensures said { IfOk result (λ starts.
         SaysStarts (step_sheet shop.now) text.now starts.items) }
     ensures whole { IfOk result (λ starts. length starts.items ≡ count_steps shop.now) }
@@ -82,4 +80,18 @@ pub(crate) fn read_shop_starts(
     ensures refused { IfErr result (Refuses (spec.TellsNoStarts (step_sheet shop.now) text.now)) }
 {
     read_shop_starts_text(alloc, shop, text).map_err(|error| read_refusal(alloc, error))
+}
+
+/// Reads the starts of a plan's activities or steps.
+pub(crate) fn starts_of(alloc: Global, plan: &Plan<'_>, text: &[u8]) -> Result<Vec<u64>, CliFault>
+    ensures said { IfOk result (λ starts.
+        SaysStarts (sheet_of plan.now) text.now starts.items) }
+    ensures whole { IfOk result (λ starts. length starts.items ≡ plan_count plan.now) }
+    ensures in_time { IfOk result (λ starts. All IsInTime starts.items) }
+    ensures refused { IfErr result (Refuses (spec.TellsNoStarts (sheet_of plan.now) text.now)) }
+{
+    match plan {
+        Plan::Project(instance) => read_starts(alloc, instance.network(), text),
+        Plan::Shop(shop) => read_shop_starts(alloc, shop, text),
+    }
 }
