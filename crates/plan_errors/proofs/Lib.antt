@@ -1,4 +1,5 @@
 pub mod CodeLemmas
+pub mod EntryLemmas
 pub mod PartLemmas
 pub mod HintLemmas
 pub mod JsonLemmas
