@@ -1,5 +1,6 @@
 """The project and job shop files that bench/run measures, and those that bench/agree draws."""
 
+import itertools
 import os
 
 HERE = os.path.dirname(os.path.abspath(__file__))
@@ -37,6 +38,62 @@ def project(durations, successors, needs, available):
     lines += [row(j, 1, time, *amounts) for j, (time, amounts) in enumerate(activities, 1)]
     lines += [STARS, "RESOURCEAVAILABILITIES:", heads, row(*available), STARS]
     return "\n".join(lines) + "\n"
+
+
+def section(lines, title):
+    """The numbers of a section of an .sm file, behind its title and its line of headings."""
+    first = next(k for k, line in enumerate(lines) if line.startswith(title)) + 2
+    rows = itertools.takewhile(lambda line: not line.startswith("***"), lines[first:])
+    return iter([int(word) for line in rows if not line.startswith("---") for word in line.split()])
+
+
+def value(lines, key):
+    """The number behind a key in the head of an .sm file."""
+    line = next(line for line in lines if line.strip().startswith(key))
+    return int(line.split(":")[1].split()[0])
+
+
+def read_sm(text):
+    """The durations, successors, needs and capacities in an .sm file of PSPLIB, for `project`."""
+    lines = text.splitlines()
+    count, kinds = value(lines, "jobs"), value(lines, "- renewable")
+    words, successors = section(lines, "PRECEDENCE"), []
+    for _ in range(count):
+        _, _, size = next(words), next(words), next(words)
+        successors.append([next(words) for _ in range(size)])
+    words, durations, needs = section(lines, "REQUESTS"), [], []
+    for _ in range(count):
+        _, _, time = next(words), next(words), next(words)
+        durations.append(time)
+        needs.append([next(words) for _ in range(kinds)])
+    return durations, successors, needs, list(section(lines, "RESOURCEAVAILABILITIES"))
+
+
+def read_rcp(text):
+    """The same in a file of Patterson's form (.rcp): the numbers of activities and of resources, the
+    capacities, and for each activity its duration, its needs, the number of its successors and
+    these."""
+    words = map(int, text.split())
+    count, kinds = next(words), next(words)
+    available = [next(words) for _ in range(kinds)]
+    durations, successors, needs = [], [], []
+    for _ in range(count):
+        durations.append(next(words))
+        needs.append([next(words) for _ in range(kinds)])
+        successors.append([next(words) for _ in range(next(words))])
+    return durations, successors, needs, available
+
+
+READERS = {".sm": read_sm, ".rcp": read_rcp}
+
+
+def in_folder(folder):
+    """The name and the parts of each project file in a folder, in the order of the names."""
+    for name in sorted(os.listdir(folder)):
+        label, end = os.path.splitext(name)
+        if end in READERS:
+            with open(os.path.join(folder, name), encoding="latin-1") as file:
+                yield label, READERS[end](file.read())
 
 
 def all_arcs():

@@ -15,7 +15,9 @@ import { searchWords, shorterOf } from "./search.js";
 import { makespanOf, verdictOf } from "./slack.js";
 import { page, recordOf, remember, RULES, shapeOf, WORDS_OF_KIND } from "./state.js";
 import { showTable } from "./table.js";
-import { nameOf, namesIn, settleCalendar, settleModel, viewOf } from "./view.js";
+import {
+  nameOf, namesIn, needWords, settleCalendar, settleModel, viewOf,
+} from "./view.js";
 import { COLUMN_WORDS, RULE_WORDS } from "./words.js";
 
 let view = null;
@@ -82,6 +84,7 @@ export function leavePlan() {
 export function showPlan() {
   const { plan } = page;
   const faults = [plan.fault, plan.dates].filter((part) => part instanceof Refusal);
+  for (const fault of faults) fault.lead = needWords(plan, fault.message);
   fill("plan-answer", ...faults.flatMap(faultNodes));
   byId("plan-body").hidden = false;
   const [table] = plan.schedules.values();

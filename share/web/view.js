@@ -37,6 +37,20 @@ function projectModel(plan) {
   return { ...project, arcs, capacities };
 }
 
+/** Returns what an error S1 means in names; nothing if the plan's file, with the changes that were
+ * made here, has no such need, or the page hasn't read it. */
+export function needWords(plan, line) {
+  const [, activity, resource] =
+    line.match(/\bS1 activity (\d+) resource (\d+)/)?.map(Number) ?? [];
+  const model = activity ? projectModel(plan) : null;
+  const need = model?.needs[activity - 1]?.[resource - 1];
+  const capacity = model?.capacities[resource - 1];
+  if (!(need > capacity)) return "";
+  const name = model.resources.get(resource) ?? `resource ${resource}`;
+  return `Activity ${named(activity, model.names.get(activity))} needs ${need} of ${name}, which `
+    + `has ${capacity}.`;
+}
+
 // the office's dates and active schedules are those of the model
 function agrees(model, { dates, schedules }) {
   const isSame = (head, side) => {

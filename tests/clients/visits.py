@@ -673,6 +673,29 @@ def visit_capacity(browser, office):
         "return document.querySelector('#use svg').getAttribute('aria-label')"), True)
 
 
+def visit_need(browser, office):
+    """A need above its capacity is told with the names and numbers of the plan's file."""
+    def publish(capacity):
+        body = b'{"code":"crew-c","kind":"crew","capacity":%d}' % capacity
+        sent(office.server.port, "POST", "/office/capacities", OFFICE_KEY, body)
+        focus_window(browser)
+        wait_text(browser, "#codes tbody tr:nth-child(2)", "crew-c")
+        wait_text(browser, "#codes tbody tr:nth-child(2) td:last-child", str(capacity))
+        browser.wait("the plan", "return !document.getElementById('plan').hasAttribute('aria-busy')")
+    publish(4)
+    open_tab(browser, "changes")
+    browser.type("#bind [name=place]", "1")
+    browser.click("#bind option[value=crew-c]")
+    submit(browser, "bind")
+    wait_text(browser, "#plan-answer strong", "E11 S1 activity 3 resource 1")
+    same("the need in names", texts(browser, "#plan-answer .lead"),
+         ["Activity 3 Foundation needs 5 of crew, which has 4."])
+    publish(5)
+    same("the error then", texts(browser, "#plan-answer strong"), [])
+    same("its schedule", column(browser, "start"), ["0", "0", "4", "10", "13", "23"])
+    browser.click("#tab-table")
+
+
 def visit_names(browser):
     """Names outlast a sign-in on this computer, without any key, and can be switched off; the plan's
     file gives them back."""
@@ -1258,7 +1281,8 @@ def named_house():
 VISIT = [
     visit_door, visit_help, visit_office, visit_desk, visit_left, visit_import, visit_bars, visit_slack,
     visit_use, visit_sort, visit_calendar, visit_today, visit_bind, visit_lag, visit_elsewhere,
-    visit_best, visit_large, visit_check, visit_save, visit_table, visit_capacity, visit_names, visit_other,
+    visit_best, visit_large, visit_check, visit_save, visit_table, visit_capacity, visit_need,
+    visit_names, visit_other,
     visit_shop, visit_colours, visit_links, visit_focus, visit_closed, visit_refused, visit_keys, visit_delete,
     visit_lost, visit_found, visit_waiting, visit_sizes, visit_senses, visit_paper, visit_orders,
     visit_quiet, visit_pictures,

@@ -34,7 +34,6 @@ mod table_faults;
 mod tables;
 mod tasks;
 mod templates;
-mod turns;
 mod verdicts;
 mod watchers;
 

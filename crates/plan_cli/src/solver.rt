@@ -9,12 +9,12 @@ ghost use Rattle.plan_cli.specs.SolveRun as spec;
 use crate::documents::Plan;
 use crate::proof::bound_line;
 use crate::tables::table_of;
-use crate::turns::search_in_turns;
 use crate::watchers::{ProofWatcher, SolveWatcher};
 use plan_errors::CliFault;
 use plan_sgs::Instance;
 use plan_shop::Shop;
 use plan_solve::{Log, MOST_CONFLICTS, SolveFault, Solved, solve_logged};
+use plan_turns::search_in_turns;
 use std::alloc::{AllocError, Global};
 
 // Returns the solution of an instance that a search of at most so many conflicts finds.
@@ -37,18 +37,19 @@ fn solved_project<V: SolveWatcher, L: Log>(
 
 // Returns the solution of a job shop that searches in turns find. Each turn has at most so many
 // conflicts.
-fn solved_shop<V: ProofWatcher + SolveWatcher>(
+fn solved_shop<V: ProofWatcher + SolveWatcher, L: Log>(
     alloc: Global,
     conflicts: u64,
     shop: &Shop,
     watcher: &mut V,
+    log: &mut L,
 ) -> Result<Solved, AllocError>
     requires { IsConflictLimit conflicts }
     ensures { IfOk result (spec.IsSolution (Plan.Shop shop.now)) }
 {
     // The proof needs the shop's invariant, which this call states.
     let _machines = shop.machines();
-    let proof = search_in_turns(alloc, shop, conflicts, watcher)?;
+    let proof = search_in_turns(alloc, shop, conflicts, watcher, log)?;
     Ok(Solved {
         schedule: proof.schedule,
         lower: proof.lower,
@@ -64,7 +65,7 @@ fn allowed(conflicts: u64) -> u64
 }
 
 /// Returns the solution of a plan by a search of at most so many conflicts. The watcher is called
-/// during the search, and can stop it. The log gets what the search proves for a project.
+/// during the search, and can stop it. The log gets what the search by conflicts proves.
 pub(crate) fn solution_of<V: ProofWatcher + SolveWatcher, L: Log>(
     alloc: Global,
     conflicts: u64,
@@ -78,7 +79,7 @@ pub(crate) fn solution_of<V: ProofWatcher + SolveWatcher, L: Log>(
         Plan::Project(instance) => {
             solved_project(alloc, allowed(conflicts), instance, watcher, log)
         }
-        Plan::Shop(shop) => solved_shop(alloc, allowed(conflicts), shop, watcher),
+        Plan::Shop(shop) => solved_shop(alloc, allowed(conflicts), shop, watcher, log),
     }
 }
 

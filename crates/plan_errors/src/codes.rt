@@ -53,6 +53,8 @@ pub enum Code {
     NoCalendar,
     BadHoliday,
     ManyHolidays,
+    DoesNotFollow,
+    BadLogLine,
     UnknownCode,
     BadMessage,
     LargeBody,
@@ -132,6 +134,8 @@ impl Code {
             "G4" => Some(Code::NoCalendar),
             "G5" => Some(Code::BadHoliday),
             "G6" => Some(Code::ManyHolidays),
+            "V1" => Some(Code::DoesNotFollow),
+            "V2" => Some(Code::BadLogLine),
             "C1" => Some(Code::UnknownCode),
             "H1" => Some(Code::BadMessage),
             "H2" => Some(Code::LargeBody),
@@ -211,6 +215,8 @@ impl Code {
             Code::NoCalendar => "G4",
             Code::BadHoliday => "G5",
             Code::ManyHolidays => "G6",
+            Code::DoesNotFollow => "V1",
+            Code::BadLogLine => "V2",
             Code::UnknownCode => "C1",
             Code::BadMessage => "H1",
             Code::LargeBody => "H2",
@@ -289,6 +295,8 @@ impl Code {
             Code::NoCalendar => "the plan has no calendar",
             Code::BadHoliday => "a line of the holidays is invalid",
             Code::ManyHolidays => "too many holidays",
+            Code::DoesNotFollow => "a line of the log doesn't follow",
+            Code::BadLogLine => "a line isn't one of a log",
             Code::UnknownCode => "no such code",
             Code::BadMessage => "the request is incomplete or malformed",
             Code::LargeBody => "the body is too large",
@@ -374,6 +382,8 @@ impl Code {
             Code::NoCalendar => "G4 no calendar",
             Code::BadHoliday => "G5 line N date",
             Code::ManyHolidays => "G6 holidays",
+            Code::DoesNotFollow => "V1 line N",
+            Code::BadLogLine => "V2 line N",
             Code::UnknownCode => "C1 unknown code",
             Code::BadMessage => "H1 message",
             Code::LargeBody => "H2 too large",
@@ -510,6 +520,10 @@ impl Code {
             Code::ManyHolidays => {
                 "The file of holidays names more than 10,000 days, or has more than 1,048,576 bytes. A day counts as often as it is named."
             }
+            Code::DoesNotFollow => {
+                "Line N of the log doesn't follow from the problem and the lines above it, so the log shows nothing."
+            }
+            Code::BadLogLine => "Line N isn't a line of a log of plan solve --log.",
             Code::UnknownCode => "No error has this code.",
             Code::BadMessage => {
                 "The connection doesn't start with the head of a request (at most 8,192 bytes and 64 fields); or the Host field is missing (HTTP/1.1) or occurs twice; or Content-Length isn't a number or has two values; or the body is shorter than Content-Length."
@@ -638,6 +652,10 @@ impl Code {
             Code::NoCalendar => "Set its first date and its weekday marks.",
             Code::BadHoliday => "Correct the line. A comment starts with #.",
             Code::ManyHolidays => "Delete the days before and after the schedule.",
+            Code::DoesNotFollow => {
+                "Give the file of which the log was written, or write the log again with plan solve --log."
+            }
+            Code::BadLogLine => "Check the name of the log, or write it again.",
             Code::UnknownCode => "Give an error line or its first word, for example F7.",
             Code::BadMessage => "Send a complete request, with an ordinary HTTP client.",
             Code::LargeBody => "Send a smaller file.",

@@ -5,7 +5,7 @@ use clap::{Arg, ArgAction, Command, value_parser};
 use std::alloc::{AllocError, Global};
 
 // The number of the release.
-const RELEASE: &str = "0.5.0";
+const RELEASE: &str = "0.5.1";
 
 // The start of the help.
 const HELP_START: &str =
@@ -72,18 +72,18 @@ enum Form {
     CapacityIfProject,
     /// An option with the capacity of a resource of a list, any number of times.
     ListCapacity,
-    /// An option with the name of a file to write. It is for projects only.
+    /// An option with the name of a file to write.
     Output,
     /// A name that isn't given if the option `starts` or `solve` is.
     NameUnlessStarts,
-    /// An option that shows the schedule of a search. The command then has no rule.
-    Solve,
-    /// The same for a report.
-    ReportSolve,
-    /// An option with the time limit of that search in seconds.
-    SolveSeconds,
     /// An option with the name of a file of starts.
     Starts,
+    /// An option without a value that asks for a search, in place of a rule.
+    Solve,
+    /// The same for a report, whose rule is an option.
+    ReportSolve,
+    /// An option with the time limit of such a search in seconds.
+    SolveSeconds,
     /// An option with the name of a file of holidays.
     Holidays,
     /// An option with the name of a folder.
@@ -245,13 +245,13 @@ const SOLVE: Argument = Argument {
 const REPORT_SOLVE: Argument = Argument {
     name: "solve",
     form: Form::ReportSolve,
-    help: "show the schedule that plan solve finds, and its lower bound",
+    help: "show the schedule that plan solve finds",
 };
 
 const SOLVE_SECONDS: Argument = Argument {
     name: "seconds",
     form: Form::SolveSeconds,
-    help: "with --solve: time limit in seconds, 1 to 86400 [default: 10]",
+    help: "time limit of --solve in seconds, 1 to 86400 [default: 10]",
 };
 
 const HOLIDAYS: Argument = Argument {
@@ -456,7 +456,7 @@ const SHOP_COMMANDS: [Entry; 4] = [
     },
 ];
 
-const SCHEDULE_COMMANDS: [Entry; 4] = [
+const SCHEDULE_COMMANDS: [Entry; 5] = [
     Entry {
         name: "solve",
         about: "Prints a short schedule and a proved lower bound",
@@ -487,18 +487,35 @@ const SCHEDULE_COMMANDS: [Entry; 4] = [
             Argument {
                 name: "log",
                 form: Form::Output,
-                help: "write what the search proves about a project to this file",
+                help: "write what the search proves to this file",
             },
         ],
     },
     Entry {
+        name: "verify",
+        about: "Checks the log of a search, and prints what it shows",
+        examples: "Example:\n  plan verify examples/six.sm examples/six.log\n\n\
+            It prints verified 7 if the log shows that 7 is the least makespan of all feasible \
+            schedules,\n\
+            and verified at least 7 if it shows that no makespan is less than 7.",
+        arguments: &[
+            FILE,
+            Argument {
+                name: "LOG",
+                form: Form::Name,
+                help: "the log of plan solve --log, or - for standard input",
+            },
+            INSTANCE_IF_SHOP,
+        ],
+    },
+    Entry {
         name: "chart",
-        about: "Draws the schedule by a priority rule, or a given one",
+        about: "Draws the schedule by a priority rule, the best one found, or a given one",
         examples: "Examples:\n  \
             plan chart lft examples/house.sm\n  \
             plan chart mwkr examples/shops.txt ft06\n  \
+            plan chart --solve examples/house.sm\n  \
             plan chart --starts examples/starts.txt examples/six.sm\n  \
-            plan chart --solve --seconds 60 examples/house.sm\n  \
             plan chart --svg lft examples/house.sm",
         arguments: &[
             RULE,
@@ -514,10 +531,11 @@ const SCHEDULE_COMMANDS: [Entry; 4] = [
     },
     Entry {
         name: "days",
-        about: "Prints the calendar days of the schedule by a priority rule, or of a given one",
+        about: "Prints the calendar days of a schedule: by a rule, the best one found, or a given one",
         examples: "Examples:\n  \
             plan days lft 2024-03-01 1111100 examples/house.sm\n  \
             plan days mwkr 2024-03-01 1111100 examples/shops.txt ft06\n  \
+            plan days --solve 2024-03-01 mon-fri examples/house.sm\n  \
             plan days --starts examples/starts.txt 2024-03-01 1111100 examples/six.sm\n  \
             plan days --holidays examples/holidays.txt lft 2024-03-01 mon-fri examples/house.sm\n  \
             plan days --format ics lft 2024-03-01 mon-fri examples/house.sm",
@@ -551,8 +569,8 @@ const SCHEDULE_COMMANDS: [Entry; 4] = [
         examples: "Examples:\n  \
             plan report examples/house.sm\n  \
             plan report --rule slk --start 2024-03-01 --days mon-fri examples/house.sm\n  \
+            plan report --solve --seconds 60 examples/house.sm\n  \
             plan report --starts examples/starts.txt examples/six.sm\n  \
-            plan report --solve examples/house.sm\n  \
             plan report --by job --title Printing examples/shops.txt printing",
         arguments: &[
             FILE,
@@ -878,10 +896,7 @@ fn arg_of<'a>(alloc: Global, argument: &Argument) -> Result<Arg<'a>, AllocError>
             .value_name("FORMAT")
             .value_parser(DAY_FORMATS)
             .default_value("text"),
-        Form::Output => arg
-            .long(argument.name)
-            .value_name("LOG")
-            .conflicts_with("INSTANCE")?,
+        Form::Output => arg.long(argument.name).value_name("LOG"),
         Form::Flag => arg.long(argument.name).action(ArgAction::SetTrue),
         Form::OldFlag => arg
             .long(argument.name)

@@ -164,6 +164,11 @@ impl<'a> FileOrder<'a> {
                 texts,
                 ..
             } => texts_context(task, file, texts),
+            // Either file may be the one that can't be read.
+            FileOrder::Verify { file, .. } => Context {
+                unread: None,
+                ..file_context(file)
+            },
             FileOrder::Print(print, _) => print_context(print),
             FileOrder::New(_) | FileOrder::Explain(_) => Context::NONE,
         }
@@ -176,6 +181,7 @@ impl<'a> FileOrder<'a> {
             FileOrder::Task(_, file)
             | FileOrder::Watched(_, file)
             | FileOrder::Solve { file, .. }
+            | FileOrder::Verify { file, .. }
             | FileOrder::Texts { file, .. } => file,
             FileOrder::Print(print, _) => print.file,
             FileOrder::New(_) | FileOrder::Explain(_) => return None,
@@ -183,11 +189,12 @@ impl<'a> FileOrder<'a> {
         if file == "-" { None } else { Some(file) }
     }
 
-    // Returns the files of starts and holidays that the order reads, in the order of the arguments.
+    // Returns the files of starts, holidays or a log that the order reads, in the order of the arguments.
     fn text_files(&self, alloc: Global) -> Result<Vec<&'a str>, AllocError> {
         let mut names = Vec::new(alloc);
         match *self {
             FileOrder::Texts { texts, .. } => push_texts(&mut names, texts)?,
+            FileOrder::Verify { log, .. } => push_file(&mut names, log)?,
             FileOrder::Print(print, _) => push_print_files(&mut names, print)?,
             _ => {}
         }

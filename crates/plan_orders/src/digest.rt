@@ -2,4 +2,4 @@
 
 /// The digest of all sources of the program but this file, in hexadecimal digits, as
 /// `./release --digest` prints it.
-pub(crate) const SOURCES: &str = "6b0e6c3afba781937f7dfe37375369cc096958649c629a1c64c408ed5cd67791";
+pub(crate) const SOURCES: &str = "6c6f42fc769a2ae39a8291d46ecfdd2803707708ef8e83980b000901875882ac";

@@ -38,11 +38,18 @@ pub enum FileOrder<'a> {
         task: Task<'a>,
         file: &'a str,
         texts: &'a [NamedText<'a>],
-        is_status: bool,
-        /// The time limit of a search in seconds, if there is one.
+        /// The time limit of a search for the schedule, in seconds.
         seconds: Option<u32>,
+        is_status: bool,
     },
-    /// A sheet to print, with the time limit of a search in seconds, if there is one.
+    /// A check of the log of a search. The problem is the project in a file, or an instance of a
+    /// job shop file.
+    Verify {
+        file: &'a str,
+        log: &'a str,
+        instance: Option<&'a str>,
+    },
+    /// A sheet to print, with the time limit of a search for the schedule, in seconds.
     Print(Print<'a>, Option<u32>),
     /// A table to start from.
     New(Template),
@@ -87,6 +94,14 @@ impl<'a> FileOrder<'a> {
     pub fn shared_input(&self) -> Option<(&'static str, &'static str)> {
         if let FileOrder::Print(print, _) = *self {
             return print_input(&print);
+        }
+        if let FileOrder::Verify {
+            file: "-",
+            log: "-",
+            ..
+        } = *self
+        {
+            return Some(("FILE", "LOG"));
         }
         let FileOrder::Texts { file, texts, .. } = *self else {
             return None;
@@ -479,39 +494,14 @@ fn texts_order<'a>(task: Task<'a>, file: &'a str, texts: &'a [NamedText<'a>]) ->
         task,
         file,
         texts,
-        is_status: false,
         seconds: None,
-    }
-}
-
-// Returns the order of such a task, with the time limit of a search if the schedule is that of one.
-fn schedule_order<'a>(
-    task: Task<'a>,
-    file: &'a str,
-    texts: &'a [NamedText<'a>],
-    seconds: Option<u32>,
-) -> FileOrder<'a> {
-    FileOrder::Texts {
-        task,
-        file,
-        texts,
         is_status: false,
-        seconds,
     }
 }
 
-// Returns the time limit of the search of `--solve`.
-fn seconds_of(arguments: &ArgMatches<'_>) -> Option<u32> {
-    if arguments.get_flag("solve") {
-        Some(arguments.get_one("seconds").unwrap_or(DEFAULT_SECONDS))
-    } else {
-        None
-    }
-}
-
-// Returns the origin of a schedule that has no rule: a list of starts, or a search. The arguments
-// are then one place further on.
-fn origin_without_rule<'a>(arguments: &'a ArgMatches<'_>) -> Option<Origin<'a>> {
+// Returns the schedule that an option asks for in place of RULE, if one does. Then FILE is given in
+// the place of RULE, and so on.
+fn origin_by_option<'a>(arguments: &ArgMatches<'_>) -> Option<Origin<'a>> {
     if arguments.get_str("starts").is_some() {
         return Some(Origin::Starts(&[]));
     }
@@ -523,36 +513,35 @@ fn origin_without_rule<'a>(arguments: &'a ArgMatches<'_>) -> Option<Origin<'a>> 
     None
 }
 
-// Returns the same for a sheet, with the name of the file of starts.
-fn named_origin<'a>(arguments: &'a ArgMatches<'_>) -> Option<NamedOrigin<'a>> {
-    if let Some(starts) = arguments.get_str("starts") {
-        return Some(NamedOrigin::Starts(starts));
-    }
+// Returns the time limit of a search that an option asks for, in seconds.
+fn limit_of(arguments: &ArgMatches<'_>) -> Option<u32> {
     if arguments.get_flag("solve") {
-        return Some(NamedOrigin::Solved {
-            conflicts: MOST_CONFLICTS,
-        });
+        let seconds: Option<u32> = arguments.get_one("seconds");
+        return Some(seconds.unwrap_or(DEFAULT_SECONDS));
     }
     None
 }
 
-// Returns the order of `chart`. Without a rule, FILE is the first argument and INSTANCE the second.
+// Returns the order of `chart`.
 fn chart_order<'a>(arguments: &'a ArgMatches<'_>, lists: Lists<'a>) -> Option<FileOrder<'a>> {
-    let Lists {
-        capacities,
-        texts,
-        ..
-    } = lists;
+    let (capacities, texts) = (lists.capacities, lists.texts);
     let rule = arguments.get_str("RULE")?;
-    if let Some(origin) = origin_without_rule(arguments) {
-        let subject = subject_of(arguments.get_str("FILE"), capacities);
-        let task = Task::Chart { origin, subject };
-        return Some(schedule_order(task, rule, texts, seconds_of(arguments)));
-    }
-    let subject = subject_of(arguments.get_str("INSTANCE"), capacities);
-    let origin = Origin::Rule(rule);
-    let task = Task::Chart { origin, subject };
-    Some(texts_order(task, arguments.get_str("FILE")?, texts))
+    let (origin, file, instance) = match origin_by_option(arguments) {
+        Some(origin) => (origin, rule, arguments.get_str("FILE")),
+        None => (
+            Origin::Rule(rule),
+            arguments.get_str("FILE")?,
+            arguments.get_str("INSTANCE"),
+        ),
+    };
+    let subject = subject_of(instance, capacities);
+    Some(FileOrder::Texts {
+        task: Task::Chart { origin, subject },
+        file,
+        texts,
+        seconds: limit_of(arguments),
+        is_status: false,
+    })
 }
 
 // Returns the dates of `days`, without holidays.
@@ -564,30 +553,38 @@ fn dates_of<'a>(start: &'a str, marks: &'a str) -> Dates<'a> {
     }
 }
 
-// Returns the order of `days`. Without a rule, START is the first argument, and so on.
+// Returns the order of `days`.
 fn days_order<'a>(arguments: &'a ArgMatches<'_>, lists: Lists<'a>) -> Option<FileOrder<'a>> {
-    let Lists {
-        capacities,
-        texts,
-        ..
-    } = lists;
+    let (capacities, texts) = (lists.capacities, lists.texts);
     let rule = arguments.get_str("RULE")?;
     let start = arguments.get_str("START")?;
     let marks = arguments.get_str("MARKS")?;
-    if let Some(origin) = origin_without_rule(arguments) {
-        let task = Task::Days {
+    let (origin, dates, file, instance) = match origin_by_option(arguments) {
+        Some(origin) => (
             origin,
-            dates: dates_of(rule, start),
-            subject: subject_of(arguments.get_str("FILE"), capacities),
-        };
-        return Some(schedule_order(task, marks, texts, seconds_of(arguments)));
-    }
-    let task = Task::Days {
-        origin: Origin::Rule(rule),
-        dates: dates_of(start, marks),
-        subject: subject_of(arguments.get_str("INSTANCE"), capacities),
+            dates_of(rule, start),
+            marks,
+            arguments.get_str("FILE"),
+        ),
+        None => (
+            Origin::Rule(rule),
+            dates_of(start, marks),
+            arguments.get_str("FILE")?,
+            arguments.get_str("INSTANCE"),
+        ),
     };
-    Some(texts_order(task, arguments.get_str("FILE")?, texts))
+    let subject = subject_of(instance, capacities);
+    Some(FileOrder::Texts {
+        task: Task::Days {
+            origin,
+            dates,
+            subject,
+        },
+        file,
+        texts,
+        seconds: limit_of(arguments),
+        is_status: false,
+    })
 }
 
 // Returns the order of `check`.
@@ -602,8 +599,17 @@ fn check_order<'a>(
         },
         file: arguments.get_str("FILE")?,
         texts,
-        is_status: arguments.get_flag("status"),
         seconds: None,
+        is_status: arguments.get_flag("status"),
+    })
+}
+
+// Returns the order of `verify`.
+fn verify_order<'a>(arguments: &'a ArgMatches<'_>) -> Option<FileOrder<'a>> {
+    Some(FileOrder::Verify {
+        file: arguments.get_str("FILE")?,
+        log: arguments.get_str("LOG")?,
+        instance: arguments.get_str("INSTANCE"),
     })
 }
 
@@ -633,21 +639,17 @@ fn subject_of<'a>(instance: Option<&'a str>, capacities: &'a [Capacity<'a>]) -> 
     }
 }
 
-// Returns the order of `days` for a calendar file without a rule: START is the first argument, and
-// so on.
-fn listed_events<'a>(
-    arguments: &'a ArgMatches<'_>,
-    origin: NamedOrigin<'a>,
-    capacities: &'a [Capacity<'a>],
-) -> Option<Print<'a>> {
-    let (start, marks) = (arguments.get_str("RULE")?, arguments.get_str("START")?);
-    Some(Print {
-        sheet: Sheet::Events(dates_of(start, marks)),
-        subject: subject_of(arguments.get_str("FILE"), capacities),
-        origin,
-        holidays: arguments.get_str("holidays"),
-        file: arguments.get_str("MARKS")?,
-    })
+// Returns the named schedule that an option asks for in place of RULE, if one does.
+fn named_by_option<'a>(arguments: &'a ArgMatches<'_>) -> Option<NamedOrigin<'a>> {
+    if let Some(starts) = arguments.get_str("starts") {
+        return Some(NamedOrigin::Starts(starts));
+    }
+    if arguments.get_flag("solve") {
+        return Some(NamedOrigin::Solved {
+            conflicts: MOST_CONFLICTS,
+        });
+    }
+    None
 }
 
 // Returns the order of `days` for a calendar file.
@@ -655,16 +657,29 @@ fn events_order<'a>(
     arguments: &'a ArgMatches<'_>,
     capacities: &'a [Capacity<'a>],
 ) -> Option<Print<'a>> {
-    if let Some(origin) = named_origin(arguments) {
-        return listed_events(arguments, origin, capacities);
-    }
-    let (start, marks) = (arguments.get_str("START")?, arguments.get_str("MARKS")?);
+    let rule = arguments.get_str("RULE")?;
+    let start = arguments.get_str("START")?;
+    let marks = arguments.get_str("MARKS")?;
+    let (origin, dates, file, instance) = match named_by_option(arguments) {
+        Some(origin) => (
+            origin,
+            dates_of(rule, start),
+            marks,
+            arguments.get_str("FILE"),
+        ),
+        None => (
+            NamedOrigin::Rule(rule),
+            dates_of(start, marks),
+            arguments.get_str("FILE")?,
+            arguments.get_str("INSTANCE"),
+        ),
+    };
     Some(Print {
-        sheet: Sheet::Events(dates_of(start, marks)),
-        subject: subject_of(arguments.get_str("INSTANCE"), capacities),
-        origin: NamedOrigin::Rule(arguments.get_str("RULE")?),
+        sheet: Sheet::Events(dates),
+        subject: subject_of(instance, capacities),
+        origin,
         holidays: arguments.get_str("holidays"),
-        file: arguments.get_str("FILE")?,
+        file,
     })
 }
 
@@ -680,14 +695,20 @@ fn title_of<'a>(instance: Option<&'a str>, file: &'a str) -> &'a str {
     }
 }
 
-// Returns the order of `chart` for an SVG image without a rule: FILE is the first argument,
-// INSTANCE the second.
-fn listed_image<'a>(
+// Returns the order of `chart` for an SVG image.
+fn image_order<'a>(
     arguments: &'a ArgMatches<'_>,
-    origin: NamedOrigin<'a>,
     capacities: &'a [Capacity<'a>],
 ) -> Option<Print<'a>> {
-    let (file, instance) = (arguments.get_str("RULE")?, arguments.get_str("FILE"));
+    let rule = arguments.get_str("RULE")?;
+    let (origin, file, instance) = match named_by_option(arguments) {
+        Some(origin) => (origin, rule, arguments.get_str("FILE")),
+        None => (
+            NamedOrigin::Rule(rule),
+            arguments.get_str("FILE")?,
+            arguments.get_str("INSTANCE"),
+        ),
+    };
     Some(Print {
         sheet: Sheet::Chart(title_of(instance, file)),
         subject: subject_of(instance, capacities),
@@ -697,27 +718,9 @@ fn listed_image<'a>(
     })
 }
 
-// Returns the order of `chart` for an SVG image.
-fn image_order<'a>(
-    arguments: &'a ArgMatches<'_>,
-    capacities: &'a [Capacity<'a>],
-) -> Option<Print<'a>> {
-    if let Some(origin) = named_origin(arguments) {
-        return listed_image(arguments, origin, capacities);
-    }
-    let (file, instance) = (arguments.get_str("FILE")?, arguments.get_str("INSTANCE"));
-    Some(Print {
-        sheet: Sheet::Chart(title_of(instance, file)),
-        subject: subject_of(instance, capacities),
-        origin: NamedOrigin::Rule(arguments.get_str("RULE")?),
-        holidays: None,
-        file,
-    })
-}
-
 // Returns the origin of the schedule of `report`. The default rule is `lft`, for a job shop `mwkr`.
 fn report_origin<'a>(arguments: &'a ArgMatches<'_>, is_shop: bool) -> NamedOrigin<'a> {
-    if let Some(origin) = named_origin(arguments) {
+    if let Some(origin) = named_by_option(arguments) {
         return origin;
     }
     match arguments.get_str("rule") {
@@ -786,7 +789,7 @@ fn file_order<'a>(
     lists: Lists<'a>,
 ) -> Option<FileOrder<'a>> {
     if let Some(print) = print_order(name, arguments, lists.capacities) {
-        return Some(FileOrder::Print(print, seconds_of(arguments)));
+        return Some(FileOrder::Print(print, limit_of(arguments)));
     }
     match name {
         "import" => import_order(arguments, lists.overrides),
@@ -795,6 +798,7 @@ fn file_order<'a>(
         "prove" => proof_order(arguments),
         "solve" => solve_order(arguments, lists.capacities),
         "check" => check_order(arguments, lists.texts),
+        "verify" => verify_order(arguments),
         "slack" => slack_order(arguments, lists),
         "compare" => compare_order(arguments, lists),
         "chart" => chart_order(arguments, lists),

@@ -1,0 +1,144 @@
+//! The commands on files.
+
+use crate::errors::{FileFault, print_fault};
+use crate::file_log::FileLog;
+use crate::misuse::Misuse;
+use crate::progress::ProgressLine;
+use crate::status::Status;
+use crate::verification::do_verify;
+use plan_cli::{
+    CliFault, Log, NamedText, ProofWatcher, Rows, SolveWatcher, Task, Unlogged, Unwatched,
+    explain_run, explain_run_in, run_on_file, run_on_files, template_run,
+};
+use plan_io::{MemSink, Sink, StdSink, write_whole};
+use plan_orders::FileOrder;
+use plan_print::print_on_files;
+use std::alloc::Global;
+use std::io;
+
+// Runs a task on a file, and writes to standard output.
+fn do_task<V: ProofWatcher + SolveWatcher, L: Log>(
+    rt: &HostRuntime,
+    task: Task<'_>,
+    rows: Rows,
+    watcher: &mut V,
+    log: &mut L,
+    path: &str,
+) -> Result<(), CliFault> {
+    let mut writer = StdSink::new(io::writer(rt));
+    run_on_file(rt, task, rows, watcher, log, path, &mut writer)
+}
+
+// Writes a verdict to standard output, and returns whether the schedule is active.
+fn do_check(
+    rt: &HostRuntime,
+    task: Task<'_>,
+    rows: Rows,
+    texts: &[NamedText<'_>],
+    path: &str,
+) -> Result<Status, CliFault> {
+    let mut text = MemSink::new(Vec::new(rt.alloc()));
+    run_on_files(rt, task, rows, &mut Unwatched, texts, path, &mut text)?;
+    let text = text.into_bytes();
+    let mut writer = StdSink::new(io::writer(rt));
+    write_whole(&mut writer, &text).map_err(|_| CliFault::Output)?;
+    // No other verdict contains this word.
+    Ok(if text.windows(6).any(|word| word == b"active".as_slice()) {
+        Status::Done
+    } else {
+        Status::NotActive
+    })
+}
+
+// Writes the explanation of an error line.
+fn explain<W: Sink>(alloc: Global, line: &str, rows: Rows, writer: &mut W) -> Result<(), CliFault> {
+    match rows {
+        Rows::In(format) => explain_run_in(alloc, line, format, writer),
+        Rows::Plain | Rows::Named => explain_run(alloc, line, writer),
+    }
+}
+
+// Runs a task of `solve`, and writes to standard output and to a log. If only the output can't be
+// written, the log is complete.
+fn do_solve(
+    rt: &HostRuntime,
+    task: Task<'_>,
+    rows: Rows,
+    seconds: Option<u32>,
+    log: Option<&str>,
+    path: &str,
+) -> Result<(), FileFault> {
+    let mut line = ProgressLine::within(rt, seconds);
+    let mut log = FileLog::create(rt, log, path)?;
+    let done = do_task(rt, task, rows, &mut line, &mut log, path);
+    let ended = log.end(rt, matches!(done, Ok(()) | Err(CliFault::Output)));
+    done?;
+    ended?;
+    Ok(())
+}
+
+// Runs an order on files, and writes to standard output. Returns the status.
+fn do_file_order(rt: &HostRuntime, order: FileOrder<'_>, rows: Rows) -> Result<Status, FileFault> {
+    let mut writer = StdSink::new(io::writer(rt));
+    match order {
+        FileOrder::Task(task, path) => {
+            do_task(rt, task, rows, &mut Unwatched, &mut Unlogged, path)?;
+        }
+        FileOrder::Watched(task, path) => {
+            let mut line = ProgressLine::new(rt);
+            do_task(rt, task, rows, &mut line, &mut Unlogged, path)?;
+        }
+        FileOrder::Solve {
+            task,
+            file,
+            seconds,
+            log,
+        } => do_solve(rt, task, rows, seconds, log, file)?,
+        FileOrder::Texts {
+            task,
+            file,
+            texts,
+            seconds,
+            is_status: false,
+        } => {
+            let mut line = ProgressLine::within(rt, seconds);
+            run_on_files(rt, task, rows, &mut line, texts, file, &mut writer)?;
+        }
+        FileOrder::Texts {
+            task,
+            file,
+            texts,
+            ..
+        } => return Ok(do_check(rt, task, rows, texts, file)?),
+        FileOrder::Verify {
+            file,
+            log,
+            instance,
+        } => do_verify(rt, file, instance, log)?,
+        FileOrder::Print(print, seconds) => {
+            let mut line = ProgressLine::within(rt, seconds);
+            print_on_files(rt, print, &mut line, &mut writer)?;
+        }
+        FileOrder::New(template) => template_run(template, &mut writer)?,
+        FileOrder::Explain(words) => {
+            let line = words.join(rt.alloc(), " ")?;
+            explain(rt.alloc(), line.as_str(), rows, &mut writer)?;
+        }
+    }
+    Ok(Status::Done)
+}
+
+/// Runs an order on files, prints its error, and returns the status.
+pub(crate) fn run_file_order(
+    rt: &HostRuntime,
+    order: FileOrder<'_>,
+    rows: Rows,
+) -> Result<Status, Misuse> {
+    if let Some((first, second)) = order.shared_input() {
+        return Err(Misuse::OneInput(first, second));
+    }
+    Ok(match do_file_order(rt, order, rows) {
+        Ok(status) => status,
+        Err(fault) => print_fault(rt, &order, rows, &fault),
+    })
+}

@@ -1,0 +1,18 @@
+//! The program `plan` without the commands on offices: it reads the command line, runs an order on
+//! files, prints errors with their hints, and returns the exit status.
+#![tactic(auto)]
+
+mod command_line;
+mod errors;
+mod file_log;
+mod file_orders;
+mod hints;
+mod misuse;
+mod progress;
+mod status;
+mod verification;
+
+pub use command_line::{Offices, run_program};
+pub use hints::{asked_hints, has_hints, print_hint};
+pub use misuse::Misuse;
+pub use status::Status;

@@ -1,0 +1,103 @@
+//! The reasons why no command starts.
+
+use crate::hints::print_error;
+use crate::status::Status;
+use clap::Error;
+use clap::error::ErrorKind;
+use plan_cli::{CliFault, Context};
+use std::alloc::{AllocError, Global};
+use std::io;
+
+/// The reason why no command starts.
+#[derive(Drop)]
+pub enum Misuse {
+    NoMemory,
+    /// clap refuses the command line, or prints a help text.
+    Usage(Error),
+    /// An argument isn't UTF-8.
+    NoText,
+    NoCommand,
+    /// The program has no commands on offices.
+    NoOffice,
+    /// Two arguments with these names are standard input.
+    OneInput(&'static str, &'static str),
+    /// A text that gives no capacity.
+    BadCapacity(String),
+}
+
+impl From<AllocError> for Misuse {
+    fn from(_: AllocError) -> Misuse {
+        Misuse::NoMemory
+    }
+}
+
+impl Misuse {
+    /// Returns the reason why the arguments can't be read: memory ran out, or one isn't UTF-8.
+    pub(crate) fn of_arguments(error: &io::Error) -> Misuse {
+        if error.kind() == io::ErrorKind::OutOfMemory {
+            Misuse::NoMemory
+        } else {
+            Misuse::NoText
+        }
+    }
+
+    /// Returns the misuse of a text that gives no capacity.
+    pub(crate) fn of_capacity(alloc: Global, text: &str) -> Misuse {
+        text.to_string(alloc)
+            .map_or(Misuse::NoMemory, Misuse::BadCapacity)
+    }
+
+    /// Prints the reason, and returns the status.
+    pub(crate) fn print(&self, rt: &HostRuntime) -> Status {
+        match self {
+            Misuse::NoMemory => print_error(rt, Context::NONE, CliFault::Memory.line()),
+            Misuse::Usage(error) => print_usage(rt, error),
+            Misuse::NoText => print_misuse(rt, "a word of the command line isn't UTF-8"),
+            Misuse::NoCommand => print_misuse(rt, "no command"),
+            Misuse::NoOffice => {
+                print_misuse(rt, "the commands of an office need the program itself")
+            }
+            Misuse::BadCapacity(text) => print_bad_capacity(rt, text),
+            Misuse::OneInput(first, second) => print_one_input(rt, first, second),
+        }
+    }
+}
+
+// Prints clap's help or usage. The status is that of usage even if the usage can't be printed.
+fn print_usage(rt: &HostRuntime, error: &Error) -> Status {
+    if error.kind() == ErrorKind::OutOfMemory {
+        return print_error(rt, Context::NONE, CliFault::Memory.line());
+    }
+    let printed = error.print(rt);
+    if error.use_stderr() {
+        return Status::Misused;
+    }
+    match printed {
+        Ok(()) => Status::Done,
+        Err(_) => print_error(rt, Context::NONE, CliFault::Output.line()),
+    }
+}
+
+/// Prints an error of the command line as clap does, and returns the status of usage.
+pub(crate) fn print_misuse<R: Eprint>(rt: &R, what: &str) -> Status {
+    let _ = eprintln!(rt; "error: {what}\n\nFor more information, try '--help'.");
+    Status::Misused
+}
+
+// Prints the error of two arguments that are standard input, and returns the status of usage.
+fn print_one_input<R: Eprint>(rt: &R, first: &str, second: &str) -> Status {
+    let _ = eprintln!(rt;
+        "error: {first} and {second} can't both be standard input\n\n\
+        For more information, try '--help'."
+    );
+    Status::Misused
+}
+
+// Prints the error of a text that gives no capacity, and returns the status of usage.
+fn print_bad_capacity(rt: &HostRuntime, text: &str) -> Status {
+    let _ = eprintln!(rt;
+        "error: invalid value '{text}' for '--capacity <NAME=N>': N is a number from 0 to 10000\n\n\
+        For more information, try '--help'."
+    );
+    Status::Misused
+}
