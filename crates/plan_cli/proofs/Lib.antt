@@ -1,6 +1,7 @@
 pub mod CapacityLemmas
 pub mod RunLemmas
 pub mod RefusalLemmas
+pub mod DetailLemmas
 pub mod PlanLemmas
 pub mod SlackLemmas
 pub mod CompareLemmas

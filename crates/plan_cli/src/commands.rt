@@ -69,6 +69,6 @@ pub(crate) fn subject_text<V: ProofWatcher + SolveWatcher, L: Log>(
         (RefusesSubject subject.entry (spec.IsPlanLine command.entry) file.now)) }
 {
     let document = read_document(alloc, subject, file)?;
-    let plan = plan_of(alloc, &document)?;
+    let plan = plan_of(alloc, &document, file)?;
     Ok(plan_text(alloc, command, &plan, watcher, log)?.into_bytes())
 }

@@ -1,9 +1,16 @@
 //! The causes of errors with the names in a file.
 
-ghost use Rattle.std.specs.Prelude.{◌≡◌, IfOk, map, string_bytes};
+ghost use Rattle.std.specs.Prelude.{◌≡◌, IfOk, IfSome, map, string_bytes};
+ghost use Rattle.plan_gantt.specs.ScheduleFaultText as lines;
+ghost use Rattle.plan_errors.specs.Output.{Refuses};
+ghost use Rattle.plan_sgs.specs.Instances.{planned, problem_of};
+ghost use Rattle.plan_sgs.specs.Problem.{IsFirstTooMuch};
 ghost use Rattle.plan_table.specs.Names.{name_of};
 ghost use Rattle.plan_cli.specs.Details as spec;
 
+use crate::refusals::need_refusal;
+use plan_errors::CliFault;
+use plan_psplib::ProjectDoc;
 use plan_table::{NameLine, activity_names, first_name, resource_names};
 use std::alloc::{AllocError, Global};
 
@@ -48,9 +55,9 @@ fn need_sentence(
     format!(in alloc; "{activity} needs {need} of {resource}, which has {capacity}")
 }
 
-/// Returns the sentence that an activity of a project file needs more of a resource than its
+// Returns the sentence that an activity of a project file needs more of a resource than its
 /// capacity, with their names.
-pub(crate) fn need_detail(
+fn need_detail(
     alloc: Global,
     file: &[u8],
     activity: u32,
@@ -65,4 +72,67 @@ pub(crate) fn need_detail(
     let activity = activity_label(alloc, file, activity)?;
     let resource = resource_label(alloc, file, resource)?;
     need_sentence(alloc, activity.as_str(), resource.as_str(), need, capacity)
+}
+
+// Returns the need of an activity for a resource, and the capacity of the resource.
+#[tactic(auto, using(crate::proofs::DetailLemmas::first_activity, crate::proofs::DetailLemmas::need_is, crate::proofs::DetailLemmas::capacity_is))]
+fn amounts(
+    project: &ProjectDoc,
+    capacities: &[u64],
+    activity: u32,
+    resource: u32,
+) -> Option<(u64, u64)>
+    requires { IsFirstTooMuch
+        (problem_of (planned project.now capacities.now)) activity resource }
+    ensures need { IfSome result (λ found. found.0
+        ≡ spec.need_of (planned project.now capacities.now) activity resource) }
+    ensures capacity { IfSome result (λ found. found.1
+        ≡ spec.capacity_of (planned project.now capacities.now) resource) }
+{
+    let k = (resource as usize).saturating_sub(1);
+    let need = *project.needs(activity).get(k)?;
+    let capacity = *capacities.get(k)?;
+    Some((need, capacity))
+}
+
+// Returns the sentence that an activity of a project needs more of a resource than its capacity.
+fn need_text(
+    alloc: Global,
+    file: &[u8],
+    project: &ProjectDoc,
+    capacities: &[u64],
+    activity: u32,
+    resource: u32,
+) -> Result<Option<String>, AllocError>
+    requires { IsFirstTooMuch
+        (problem_of (planned project.now capacities.now)) activity resource }
+    ensures { IfOk result (λ made. IfSome made (λ text. string_bytes text ≡ spec.need_text
+        file.now (planned project.now capacities.now) activity resource)) }
+{
+    let Some((need, capacity)) = amounts(project, capacities, activity, resource) else {
+        return Ok(None);
+    };
+    Ok(Some(need_detail(alloc, file, activity, resource, need, capacity)?))
+}
+
+/// Returns the error of a project in a file whose first need above a capacity is that of this
+/// activity for this resource.
+#[tactic(auto, using(crate::proofs::DetailLemmas::need_told, crate::proofs::DetailLemmas::need_named))]
+pub(crate) fn need_fault(
+    alloc: Global,
+    file: &[u8],
+    project: &ProjectDoc,
+    capacities: &[u64],
+    activity: u32,
+    resource: u32,
+) -> CliFault
+    requires { IsFirstTooMuch
+        (problem_of (planned project.now capacities.now)) activity resource }
+    ensures told { Refuses (λ line. line ≡ lines.need_text activity resource) result }
+    ensures detail { spec.NamesNeed file.now (planned project.now capacities.now) result }
+{
+    match need_text(alloc, file, project, capacities, activity, resource) {
+        Ok(detail) => need_refusal(alloc, activity, resource).with_detail(detail),
+        Err(_) => CliFault::Memory,
+    }
 }

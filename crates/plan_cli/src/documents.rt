@@ -68,8 +68,8 @@ pub fn read_document(alloc: Global, subject: Subject<'_>, file: &[u8]) -> Result
     }
 }
 
-/// Returns the plan of a document.
-pub fn plan_of(alloc: Global, document: &Document) -> Result<Plan<'_>, CliFault>
+/// Returns the plan of the document in a file.
+pub fn plan_of<'a>(alloc: Global, document: &'a Document, file: &[u8]) -> Result<Plan<'a>, CliFault>
     requires { spec.IsWhole document.now }
     ensures plan { IfOk result (λ plan. plan ≡ spec.plan_in document.now) }
     ensures fit { IfOk result spec.HasFit }
@@ -77,7 +77,7 @@ pub fn plan_of(alloc: Global, document: &Document) -> Result<Plan<'_>, CliFault>
 {
     match document {
         Document::Project(project, capacities) => {
-            let instance = instance_with(alloc, project, capacities)?;
+            let instance = instance_with(alloc, project, capacities, file)?;
             // The proof needs the instance's invariant, which this call states.
             let _network = instance.network();
             Ok(Plan::Project(instance))

@@ -43,6 +43,7 @@ fn planned_text(
     listed: &[u8],
     project: &ProjectDoc,
     capacities: &[u64],
+    file: &[u8],
 ) -> Result<String, CliFault>
     requires { length capacities.now ≡ length project.now.available }
     ensures made { IfText result
@@ -50,7 +51,7 @@ fn planned_text(
     ensures refused { IfErr result (Refuses
         (spec.TellsNoSlack listed.now (planned project.now capacities.now))) }
 {
-    let instance = instance_with(alloc, project, capacities)?;
+    let instance = instance_with(alloc, project, capacities, file)?;
     instance_text(alloc, listed, &instance)
 }
 
@@ -60,6 +61,7 @@ fn project_text(
     listed: &[u8],
     given: &[Capacity<'_>],
     project: &ProjectDoc,
+    file: &[u8],
 ) -> Result<String, CliFault>
     ensures made { IfText result (λ text.
         PlannedWith given.now project.now (λ i. spec.IsSlackOf listed.now i text)) }
@@ -67,7 +69,7 @@ fn project_text(
         (RefusesWith given.now project.now (spec.TellsNoSlack listed.now))) }
 {
     let capacities = replaced(alloc, given, project.avail())?;
-    planned_text(alloc, listed, project, &capacities)
+    planned_text(alloc, listed, project, &capacities, file)
 }
 
 /// Returns the table of slacks for the starts in one text and the project in another, with the
@@ -83,5 +85,5 @@ pub(crate) fn slacks_text(
         (RefusesFile given.now (spec.TellsNoSlack listed.now) file.now)) }
 {
     let project = read_project(alloc, file)?;
-    project_text(alloc, listed, given, &project)
+    project_text(alloc, listed, given, &project, file)
 }

@@ -16,5 +16,5 @@ entry_pushed code old one two three (Err e) first second third = tt
 entry_pushed code old one two three (Ok x) first second third =
     third
     ∙ ap (λ (text : List ℕ). text ++ ended (remedy_of code))
-        (second ∙ ap (λ (text : List ℕ). text ++ ended (meaning_of code)) first)
+    (second ∙ ap (λ (text : List ℕ). text ++ ended (meaning_of code)) first)
     ∙ joined old (ended (form_of code)) (ended (meaning_of code)) (ended (remedy_of code))

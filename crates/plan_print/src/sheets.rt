@@ -106,6 +106,6 @@ pub(crate) fn sheet_text<V: ProofWatcher + SolveWatcher>(
         (RefusesSheet sheet.entry subject.entry origin.entry file.now)) }
 {
     let document = read_document(alloc, subject, file)?;
-    let plan = plan_of(alloc, &document)?;
+    let plan = plan_of(alloc, &document, file)?;
     plan_sheet(alloc, sheet, subject, origin, file, &plan, watcher)
 }
