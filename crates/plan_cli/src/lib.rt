@@ -50,7 +50,7 @@ pub use named_texts::{NamedText, Role};
 pub use origins::Origin;
 pub use plan_errors::{CliFault, Code, Context, code_hint, error_value, explain_run, hint, masked};
 pub use projects::{instance_with, read_project};
-pub use refusals::days_refusal;
+pub use refusals::{days_refusal, file_refusal, need_refusal};
 pub use runs::{best_project_run, best_run, cpm_run, run_task, schedule_run, shop_run};
 pub use schedules::{Scheduled, schedule_from};
 pub use shops::read_instance;

@@ -91,7 +91,7 @@ fn plain_refusal(alloc: Global, fault: &FileFault) -> CliFault
 
 /// Returns the error of a file.
 #[tactic(auto, using(crate::proofs::RefusalLemmas::known_refused))]
-pub(crate) fn file_refusal(alloc: Global, fault: &FileFault, file: &[u8]) -> CliFault
+pub fn file_refusal(alloc: Global, fault: &FileFault, file: &[u8]) -> CliFault
     ensures told { Refuses (Tells fault.now) result }
     ensures about { IsAbout Subject.Plan result }
     ensures contents { KnowsFile file.now result }
@@ -110,7 +110,7 @@ fn need_parts(alloc: Global, activity: u32, resource: u32) -> Result<Vec<Part>, 
 }
 
 /// Returns the error of a project with a need above a capacity.
-pub(crate) fn need_refusal(alloc: Global, activity: u32, resource: u32) -> CliFault
+pub fn need_refusal(alloc: Global, activity: u32, resource: u32) -> CliFault
     ensures told { Refuses (λ line. line ≡ need_text activity resource) result }
     ensures about { IsAbout Subject.Plan result }
 {

@@ -1,23 +1,16 @@
 //! The arguments of an order that its errors are about, for hints.
 
 use crate::orders::{FileOrder, OfficeOrder};
-use plan_cli::{Contents, Context, Dates, NamedText, Origin, Role, Task};
+use plan_cli::{Context, Dates, NamedText, Origin, Role, Task};
 use plan_print::{NamedOrigin, Print, Sheet};
-use plan_table::{ReadError, TableCode, read_shop_table, read_table};
 use std::alloc::{AllocError, Global};
-
-// Returns the name of a file as hints print it.
-fn shown_name(path: &str) -> &str {
-    if path == "-" { "standard input" } else { path }
-}
 
 // Returns the context of a command on this file alone.
 fn file_context(file: &str) -> Context<'_> {
-    let name = Some(shown_name(file));
     Context {
-        file: name,
+        file: Some(file),
         capacity: Some("--capacity"),
-        unread: name,
+        unread: Some(file),
         ..Context::NONE
     }
 }
@@ -66,7 +59,7 @@ fn task_context<'a>(task: Task<'a>, file: &'a str) -> Context<'a> {
 
 // Returns a context with a text in a file of its own.
 fn with_text<'a>(context: Context<'a>, text: NamedText<'a>) -> Context<'a> {
-    let name = Some(shown_name(text.name));
+    let name = Some(text.name);
     match text.role {
         Role::Starts => Context {
             starts: name,
@@ -104,13 +97,13 @@ fn print_context<'a>(print: Print<'a>) -> Context<'a> {
     match print.origin {
         NamedOrigin::Rule(rule) => context.rule = Some(rule),
         NamedOrigin::Starts(name) => {
-            context.starts = Some(shown_name(name));
+            context.starts = Some(name);
             context.unread = None;
         }
         NamedOrigin::Solved { .. } => {}
     }
     if let Some(name) = print.holidays {
-        context.holidays = Some(shown_name(name));
+        context.holidays = Some(name);
         context.unread = None;
     }
     match print.sheet {
@@ -151,8 +144,8 @@ fn push_print_files<'a>(names: &mut Vec<&'a str>, print: Print<'a>) -> Result<()
 }
 
 impl<'a> FileOrder<'a> {
-    /// Returns the arguments that an error of the order can be about. The contents of the file are
-    /// unknown, and so is the file that can't be read, if there are several.
+    /// Returns the arguments that an error of the order can be about. The file that can't
+    /// be read is unknown if there are several.
     pub fn context(&self) -> Context<'a> {
         match *self {
             FileOrder::Task(task, file)
@@ -227,53 +220,5 @@ impl<'a> OfficeOrder<'a> {
             office: Some(database),
             ..Context::NONE
         }
-    }
-}
-
-// Whether a text with this error is a list of activities: its header is one, but a row is wrong.
-fn is_in_activities(error: &ReadError) -> bool {
-    match error {
-        ReadError::Memory => false,
-        ReadError::Fault(fault) => matches!(
-            fault.code,
-            TableCode::BadDuration
-                | TableCode::BadId
-                | TableCode::IdTwice
-                | TableCode::NoSuchId
-                | TableCode::BadNeed
-                | TableCode::NoCapacity
-                | TableCode::Cycle
-        ),
-    }
-}
-
-// Whether a text with this error is a list of orders: its header is one, but a row is wrong.
-fn is_in_orders(error: &ReadError) -> bool {
-    match error {
-        ReadError::Memory => false,
-        ReadError::Fault(fault) => matches!(
-            fault.code,
-            TableCode::BadDuration | TableCode::BadId | TableCode::TooManySteps
-        ),
-    }
-}
-
-/// Returns what a text contains: a list if `plan import` reads it or names one of its rows.
-pub fn contents_of(alloc: Global, text: &[u8]) -> Contents {
-    let is_activities = match read_table(alloc, text) {
-        Ok(_) => true,
-        Err(error) => is_in_activities(&error),
-    };
-    if is_activities {
-        return Contents::ActivityList;
-    }
-    let is_orders = match read_shop_table(alloc, text) {
-        Ok(_) => true,
-        Err(error) => is_in_orders(&error),
-    };
-    if is_orders {
-        Contents::OrderList
-    } else {
-        Contents::Unknown
     }
 }

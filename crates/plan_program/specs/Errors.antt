@@ -16,5 +16,5 @@ form_in rows other = other
 -- its cause
 abbrev pub form_of : FileFault → Rows → Form
 form_of (fault.Usage text) rows = form.Usage
-form_of (fault.Log line) rows = form_in rows form.Bare
+form_of (fault.Log error) rows = form_in rows form.Bare
 form_of (fault.Task error) rows = form_in rows form.Hinted
