@@ -1,8 +1,8 @@
 use Rattle.std.proofs.Common.{◌≡◌, map, take}
 use Rattle.serde_json.specs.View.{members_view}
-use Rattle.plan_formats.specs.Tables.{member_of}
-use Rattle.plan_formats.specs.JsonData.{with_members}
-use Rattle.plan_formats.proofs.json_value.put_members.Given as goal
+use Rattle.plan_formats.specs.ParsedTables.{member_of}
+use Rattle.plan_formats.specs.ParsedJson.{with_members}
+use Rattle.plan_formats.proofs.parsed_value.put_members.Given as goal
 
 -- the members with the named values so far
 abbrev pub invariant-loop-member : goal.invariant-loop-member
