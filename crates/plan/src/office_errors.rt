@@ -1,7 +1,7 @@
 //! The errors of the commands on offices, and their hints.
 
-use plan_errors::{Code, Subject, code_hint, masked};
 use plan_copies::CopyFault;
+use plan_errors::{Code, Subject, code_hint, masked};
 use plan_orders::OfficeOrder;
 use plan_program::{Status, has_hints, print_hint};
 use plan_serve::{ServeFault, Target};

@@ -48,7 +48,7 @@ pub use files::{read_named, run_on_file, run_on_files, run_on_named, run_on_text
 pub use inputs::{Inputs, SystemInputs};
 pub use named_texts::{NamedText, Role};
 pub use origins::Origin;
-pub use plan_errors::{CliFault, Code, Context, code_hint, error_value, explain_run, hint, masked};
+pub use plan_errors::{CliFault, Code, Context, code_hint, error_json, explain_run, hint, masked};
 pub use projects::{instance_with, read_project};
 pub use refusals::{days_refusal, file_refusal, need_refusal};
 pub use runs::{best_project_run, best_run, cpm_run, run_task, schedule_run, shop_run};

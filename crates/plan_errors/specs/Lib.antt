@@ -9,3 +9,4 @@ pub mod ErrorData
 pub use Rattle.plan_io.specs.Devices
 pub use Rattle.plan_psplib.specs.Lines
 pub use Rattle.plan_psplib.specs.Plain
+pub use Rattle.plan_formats.specs.JsonText

@@ -2,6 +2,7 @@
 
 ghost use Rattle.std.specs.Prelude.{◌≡◌, map, IfOk, OnOk, codes, fold};
 ghost use Rattle.serde_json.specs.View.{view, items_view, members_view};
+ghost use Rattle.plan_formats.specs.JsonText.{IsLineOf, json_text_of};
 ghost use Rattle.plan_psplib.specs.Lines.{words};
 ghost use Rattle.plan_errors.specs.ErrorData as spec;
 
@@ -9,6 +10,7 @@ use crate::context::{Context, Subject};
 use crate::fault::CliFault;
 use crate::hints::advice;
 use crate::parts::Part;
+use plan_formats::value_line;
 use plan_psplib::{Words, number};
 use serde_json::{Map, Value, put};
 use std::alloc::{AllocError, Global};
@@ -179,15 +181,8 @@ fn put_members(
     put_texts(alloc, object, context, fault)
 }
 
-/// Returns an error of a command with these arguments as a JSON object: its `code`, its line as
-/// `text`, and the numbers of its parts under the names of their keys. `file` is the file that it
-/// is about, as on the command line, `argument` another argument that it is about. `hint` has the
-/// hint without the word `hint`.
-pub fn error_value(
-    alloc: Global,
-    context: Context<'_>,
-    fault: &CliFault,
-) -> Result<Value, AllocError>
+// Returns an error of a command with these arguments as an object.
+fn error_value(alloc: Global, context: Context<'_>, fault: &CliFault) -> Result<Value, AllocError>
     ensures { IfOk result (λ value. view value ≡ spec.error_data context.entry fault.now) }
 {
     let mut object = Map::new(alloc);
@@ -195,4 +190,22 @@ pub fn error_value(
     put(&mut object, alloc, "code", code)?;
     put_members(alloc, &mut object, context, fault)?;
     Ok(Value::Object(object))
+}
+
+/// Returns an error of a command with these arguments as a line of JSON: an object with its `code`,
+/// its line as `text`, and the numbers of its parts under the names of their keys. `file` is the
+/// file that it is about, as on the command line, `argument` another argument that it is about.
+/// `hint` has the hint without the word `hint`.
+pub fn error_json(
+    alloc: Global,
+    context: Context<'_>,
+    fault: &CliFault,
+) -> Result<Vec<u8>, AllocError>
+    ensures text { IfOk result (λ text.
+        text.items ≡ json_text_of (spec.error_data context.entry fault.now)) }
+    ensures reads { IfOk result (λ text.
+        IsLineOf text.items (spec.error_data context.entry fault.now)) }
+{
+    let value = error_value(alloc, context, fault)?;
+    value_line(alloc, &value)
 }

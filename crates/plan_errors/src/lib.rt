@@ -18,6 +18,6 @@ pub use context::{Contents, Context, Subject};
 pub use explanation::{explain_run, explained, explanation_text};
 pub use fault::CliFault;
 pub use hints::{code_hint, hint, masked};
-pub use json::error_value;
+pub use json::error_json;
 pub use parts::{Key, Part};
 pub use refusal::{Refusal, refuse, refuse_words};

@@ -1,8 +1,8 @@
 //! Errors and their hints on standard error.
 
 use crate::status::Status;
-use plan_errors::{CliFault, Context, hint};
 use plan_cli::{SystemInputs, read_named};
+use plan_errors::{CliFault, Context, hint};
 use plan_orders::FileOrder;
 use std::alloc::AllocError;
 use std::io::IsTerminal;
