@@ -72,12 +72,12 @@ fn usage_fault(rt: &HostRuntime, name: &str, rest: &str) -> LogFault {
     what.map_or(LogFault::NoMemory, LogFault::Usage)
 }
 
-// Returns the error of the output with this cause.
-fn named_fault(rt: &HostRuntime, cause: String) -> LogFault {
-    match Vec::from_array(rt.alloc(), [Part::Words("output:"), Part::Text(cause)]) {
-        Ok(parts) => LogFault::Named(refuse(Code::Output, Subject::Other, Ok(parts))),
-        Err(_) => LogFault::NoMemory,
-    }
+// Returns the error of the output with this cause, which is also its detail.
+fn named_fault(rt: &HostRuntime, cause: &str) -> Result<CliFault, AllocError> {
+    let detail = cause.to_string(rt.alloc())?;
+    let cause = Part::Text(cause.to_string(rt.alloc())?);
+    let parts = Vec::from_array(rt.alloc(), [Part::Words("output:"), cause])?;
+    Ok(refuse(Code::Output, Subject::Other, Ok(parts)).with_detail(Some(detail)))
 }
 
 // Returns the error of a log that can't be written, with the name of a file.
@@ -86,10 +86,8 @@ fn line_fault(rt: &HostRuntime, front: &str, name: &str, rest: &str) -> LogFault
         let name = name.as_str();
         format!(in rt.alloc(); "{front}{name}{rest}")
     });
-    match cause {
-        Ok(cause) => named_fault(rt, cause),
-        Err(_) => LogFault::NoMemory,
-    }
+    let fault = cause.and_then(|cause| named_fault(rt, cause.as_str()));
+    fault.map_or(LogFault::NoMemory, LogFault::Named)
 }
 
 // Returns the error of a file that can't be opened.
