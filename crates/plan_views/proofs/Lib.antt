@@ -1,0 +1,5 @@
+pub mod RowLemmas
+pub mod ShopRowLemmas
+pub mod TextLemmas
+pub mod DayLemmas
+pub mod ReportLemmas

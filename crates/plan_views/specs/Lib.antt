@@ -1,0 +1,16 @@
+pub mod Headings
+pub mod Rows
+pub mod Bounds
+pub mod ScheduleTables
+pub mod ShopTables
+pub mod DateTables
+pub use Rattle.plan_net.specs.Network
+pub use Rattle.plan_cpm.specs.Dates
+pub use Rattle.plan_formats.specs.Cells
+pub use Rattle.plan_formats.specs.Columns
+pub use Rattle.plan_formats.specs.TableLines
+pub use Rattle.plan_formats.specs.Tables
+pub use Rattle.plan_formats.specs.TableText
+pub mod LineLists
+pub mod DayTables
+pub mod SlackTables
