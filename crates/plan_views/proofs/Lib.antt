@@ -3,3 +3,5 @@ pub mod ShopRowLemmas
 pub mod TextLemmas
 pub mod DayLemmas
 pub mod ReportLemmas
+pub mod ChartLemmas
+pub mod ChartFitLemmas

@@ -14,3 +14,8 @@ pub use Rattle.plan_formats.specs.TableText
 pub mod LineLists
 pub mod DayTables
 pub mod SlackTables
+pub mod ComparisonTables
+pub mod ShopComparisonTables
+pub mod Bars
+pub mod Charts
+pub mod ChartData
