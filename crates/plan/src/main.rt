@@ -222,7 +222,7 @@ fn do_check(
     path: &str,
 ) -> Result<u8, CliFault> {
     let mut text = MemSink::new(Vec::new(rt.alloc()));
-    run_on_files(rt, task, rows, texts, path, &mut text)?;
+    run_on_files(rt, task, rows, &mut Unwatched, texts, path, &mut text)?;
     let text = text.into_bytes();
     let mut writer = StdSink::new(io::writer(rt));
     write_whole(&mut writer, &text).map_err(|_| CliFault::Output)?;
@@ -283,14 +283,21 @@ fn do_file_order(rt: &HostRuntime, order: FileOrder<'_>, rows: Rows) -> Result<u
             file,
             texts,
             is_status: false,
-        } => run_on_files(rt, task, rows, texts, file, &mut writer)?,
+            seconds,
+        } => {
+            let mut line = ProgressLine::within(rt, seconds);
+            run_on_files(rt, task, rows, &mut line, texts, file, &mut writer)?;
+        }
         FileOrder::Texts {
             task,
             file,
             texts,
             ..
         } => return Ok(do_check(rt, task, rows, texts, file)?),
-        FileOrder::Print(print) => print_on_files(rt, print, &mut writer)?,
+        FileOrder::Print(print, seconds) => {
+            let mut line = ProgressLine::within(rt, seconds);
+            print_on_files(rt, print, &mut line, &mut writer)?;
+        }
         FileOrder::New(template) => template_run(template, &mut writer)?,
         FileOrder::Explain(words) => {
             let line = words.join(rt.alloc(), " ")?;

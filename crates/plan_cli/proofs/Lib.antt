@@ -9,6 +9,6 @@ pub mod StartLemmas
 pub mod TurnLemmas
 pub mod CalendarLemmas
 pub mod DaysLemmas
-pub mod CheckLemmas
+pub mod DocumentLemmas
 pub mod InputLemmas
 pub mod ImportLemmas

@@ -17,23 +17,27 @@ use Rattle.plan_orlib.specs.Shop as docs
 use Rattle.plan_orlib.specs.Says.{Says as ShopSays}
 use Rattle.plan_orlib.specs.ShopText as reading
 use Rattle.plan_gantt.specs.FirstFaults.{TellsFirstFailing, TellsFirstShopFault}
-use Rattle.plan_gantt.specs.ScheduleText.{IsScheduleTextOf, TellsRefusal}
-use Rattle.plan_gantt.specs.ProjectBestText.{IsBestProjectTextOf, TellsBestProjectRefusal}
-use Rattle.plan_sgs.specs.Instances.{Planned}
+use Rattle.plan_sgs.specs.Problem.{NeedsFit}
+use Rattle.plan_sgs.specs.Instances.{Planned, problem_of}
 use Rattle.plan_shop.specs.Shop.{JobShop}
 use Rattle.plan_formats.specs.declared.format.Format.{Format}
 use Rattle.plan_cli.specs.Plans.{IsOfProject, RefusesFile, IsOfShop, RefusesShop}
-use Rattle.plan_cli.specs.Scheduled.{TellsNotMade, TellsShopNotMade}
-use Rattle.plan_cli.specs.ChartRun.{IsChartFrom, IsShopChartFrom}
-use Rattle.plan_cli.specs.DaysRun.{IsDaysFrom, IsShopDaysFrom, TellsNoDaysFrom, TellsNoShopDaysFrom}
+use Rattle.plan_cli.specs.Documents.{IsOfSubject, RefusesSubject}
+use Rattle.plan_cli.specs.Scheduled.{TellsNoRuleOf, TellsNotMade}
+use Rattle.plan_cli.specs.Tables.{IsTableBy}
+use Rattle.plan_cli.specs.ChartRun.{IsChartFrom}
+use Rattle.plan_cli.specs.DaysRun.{IsDaysFrom, TellsNoDaysFrom}
 use Rattle.plan_cli.specs.SlackRun.{IsSlackOf, TellsNoSlack}
-use Rattle.plan_cli.specs.CompareRun.{IsCompared, TellsNotCompared, IsShopCompared, TellsShopNotCompared}
+use Rattle.plan_cli.specs.CompareRun.{IsCompared, TellsNotCompared}
 use Rattle.plan_cli.specs.NamesRun.{AreNamesOf, TellsNotPlain}
-use Rattle.plan_cli.specs.CheckRun.{IsVerdictOf, TellsWhyNoVerdict, TellsShopVerdict, TellsNoShopStarts}
-use Rattle.plan_cli.specs.ShopRun.{IsShopTableOf, TellsWhyNoShop}
-use Rattle.plan_cli.specs.BestRun.{IsBestTableOf, TellsWhyNoBest}
+use Rattle.plan_cli.specs.CheckRun.{TellsVerdictOn, TellsBadStarts}
+use Rattle.plan_cli.specs.BestRun.{IsBestOf, TellsNoBestOf}
 use Rattle.plan_cli.specs.ProveRun.{IsProofTableOf, TellsWhyNoProof}
-use Rattle.plan_cli.specs.SolveRun.{IsSolvedBy, IsShopSolvedTableOf}
+use Rattle.plan_cli.specs.SolveRun.{IsSolvedBy, TellsNoSolution}
+use Rattle.plan_cli.specs.declared.documents.Plan.{Plan}
+use Rattle.plan_cli.specs.declared.documents.Plan.TheVariants as plan
+use Rattle.plan_cli.specs.declared.documents.Subject.{Subject}
+use Rattle.plan_cli.specs.declared.documents.Subject.TheVariants as subject
 use Rattle.plan_cli.specs.declared.capacities.Capacity.{Capacity}
 use Rattle.plan_table.specs.Entries.{filled_from}
 use Rattle.plan_table.specs.declared.fault.TableCode.TheVariants as table_code
@@ -290,23 +294,9 @@ says_shop_front instance file doc says = by_length (cases_lt longest_text (lengt
         let few = plain_short (take (longest_text + 1) file) says.readable in
         absurd (omega (arith, m, few, long))
 
-shop_front : (name instance : List ℕ) → HoldsByFront (IsShopTableOf name instance)
-shop_front name instance file text (doc, says, table) = (doc, says_shop_front instance file doc says, table)
-
 -- the first error of the front of a shop file is that of the file
 first_front : (instance : List ℕ) → HoldsByFront (TellsFirstShopFault instance)
 first_front instance file line (first, (failing, none), e) = (first, (sym (front_shop instance file) ∙ failing, none), e)
-
-no_shop_front : (name instance : List ℕ) → HoldsByFront (TellsWhyNoShop name instance)
-no_shop_front name instance file line (inl first) = inl (first_front instance file line first)
-no_shop_front name instance file line (inr (doc, says, tells)) = inr (doc, says_shop_front instance file doc says, tells)
-
-best_front : (budget instance : List ℕ) → HoldsByFront (IsBestTableOf budget instance)
-best_front budget instance file text (doc, says, table) = (doc, says_shop_front instance file doc says, table)
-
-no_best_front : (budget instance : List ℕ) → HoldsByFront (TellsWhyNoBest budget instance)
-no_best_front budget instance file line (inl first) = inl (first_front instance file line first)
-no_best_front budget instance file line (inr (doc, says, tells)) = inr (doc, says_shop_front instance file doc says, tells)
 
 proof_front : (nodes instance : List ℕ) → HoldsByFront (IsProofTableOf nodes instance)
 proof_front nodes instance file text (doc, says, table) = (doc, says_shop_front instance file doc says, table)
@@ -314,9 +304,6 @@ proof_front nodes instance file text (doc, says, table) = (doc, says_shop_front 
 no_proof_front : (nodes instance : List ℕ) → HoldsByFront (TellsWhyNoProof nodes instance)
 no_proof_front nodes instance file line (inl first) = inl (first_front instance file line first)
 no_proof_front nodes instance file line (inr (doc, says, tells)) = inr (doc, says_shop_front instance file doc says, tells)
-
-shop_solved_front : (instance : List ℕ) → HoldsByFront (IsShopSolvedTableOf instance)
-shop_solved_front instance file text (doc, says, table) = (doc, says_shop_front instance file doc says, table)
 
 -- the reported error is the first of the shop file
 pub told_no_shop : (instance file : List ℕ) (first : FileFault) (e : CliFault)
@@ -366,12 +353,17 @@ refuses_shop_front : (instance : List ℕ) (IsLine : JobShop → List ℕ → Ty
 refuses_shop_front instance IsLine file line (inl first) = inl (first_front instance file line first)
 refuses_shop_front instance IsLine file line (inr (doc, says, tells)) = inr (doc, says_shop_front instance file doc says, tells)
 
-verdict_front : (listed : List ℕ) → HoldsByFront (IsVerdictOf listed)
-verdict_front listed file text (p, says, told) = (p, project_front file p says, told)
+-- the text for the project or the job shop in the front of a file is that for the file
+of_subject_front : (subject : Subject) (IsText : Plan → List ℕ → Type 0) → HoldsByFront (IsOfSubject subject IsText)
+of_subject_front (subject.Project given) IsText =
+    of_project_front given.now (λ i text. NeedsFit (problem_of i) × IsText (plan.Project i) text)
+of_subject_front (subject.Shop instance) IsText = of_shop_front instance.now (λ s. IsText (plan.Shop s))
 
-no_verdict_front : (listed : List ℕ) → HoldsByFront (TellsWhyNoVerdict listed)
-no_verdict_front listed file line (inl first) = inl (line_front file line first)
-no_verdict_front listed file line (inr (p, says, tells)) = inr (p, project_front file p says, tells)
+-- the line that refuses the front of a file is that for the file
+refuses_subject_front : (subject : Subject) (IsLine : Plan → List ℕ → Type 0) → HoldsByFront (RefusesSubject subject IsLine)
+refuses_subject_front (subject.Project given) IsLine =
+    refuses_file_front given.now (λ i line. TellsNeed i line ⊎ (NeedsFit (problem_of i) × IsLine (plan.Project i) line))
+refuses_subject_front (subject.Shop instance) IsLine = refuses_shop_front instance.now (λ s. IsLine (plan.Shop s))
 
 -- the records of a text that is too long
 long_rows : (text : List ℕ) → longest_text < length text → rows_read text ≡ reads.fault table_code.TooLong 0 []
@@ -440,45 +432,31 @@ no_shop_import_front file line (inr (t, read, tells)) = inr (t, sym (front_order
 -- the text of a task for the front of a file is that for the file
 task_front : (task : Task) → HoldsByFront (IsTextOf task)
 task_front task.Dates = table_front
-task_front (task.Schedule rule given) = of_project_front given.now (IsScheduleTextOf rule.now)
-task_front (task.Chart from given) = of_project_front given.now (IsChartFrom from)
-task_front (task.ShopChart from instance) = of_shop_front instance.now (IsShopChartFrom from)
-task_front (task.Days from dates given) = of_project_front given.now (IsDaysFrom from dates)
-task_front (task.ShopDays from dates instance) = of_shop_front instance.now (IsShopDaysFrom from dates)
+task_front (task.Schedule rule subject) = of_subject_front subject (IsTableBy rule.now)
+task_front (task.Chart from subject) = of_subject_front subject (IsChartFrom from)
+task_front (task.Days from dates subject) = of_subject_front subject (IsDaysFrom from dates)
 task_front task.Names = names_front
-task_front (task.Check starts) = verdict_front starts.now
-task_front (task.ShopCheck starts instance) = of_shop_front instance.now (TellsShopVerdict starts.now)
+task_front (task.Check starts subject) = of_subject_front subject (TellsVerdictOn starts.now)
 task_front (task.Slack starts given) = of_project_front given.now (IsSlackOf starts.now)
-task_front (task.Compare starts given) = of_project_front given.now (IsCompared starts.a.now starts.b.now)
-task_front (task.ShopCompare starts instance) = of_shop_front instance.now (IsShopCompared starts.a.now starts.b.now)
-task_front (task.Shop rule instance) = shop_front rule.now instance.now
-task_front (task.Best budget instance) = best_front budget.now instance.now
+task_front (task.Compare starts subject) = of_subject_front subject (IsCompared starts.a.now starts.b.now)
+task_front (task.Best budget subject) = of_subject_front subject (IsBestOf budget.now)
 task_front (task.Prove nodes instance) = proof_front nodes.now instance.now
-task_front (task.BestProject budget given) = of_project_front given.now (IsBestProjectTextOf budget.now)
-task_front (task.Solve conflicts given) = of_project_front given.now IsSolvedBy
-task_front (task.SolveShop conflicts instance) = shop_solved_front instance.now
+task_front (task.Solve conflicts subject) = of_subject_front subject IsSolvedBy
 task_front (task.Import given) = import_front (map override_of given.now)
 task_front task.ImportShop = shop_import_front
 
 pub task_line_front : (task : Task) → HoldsByFront (IsLineOf task)
 task_line_front task.Dates = line_front
-task_line_front (task.Schedule rule given) = refuses_file_front given.now (TellsRefusal rule.now)
-task_line_front (task.Chart from given) = refuses_file_front given.now (TellsNotMade from)
-task_line_front (task.ShopChart from instance) = refuses_shop_front instance.now (TellsShopNotMade from)
-task_line_front (task.Days from dates given) = refuses_file_front given.now (TellsNoDaysFrom from dates)
-task_line_front (task.ShopDays from dates instance) = refuses_shop_front instance.now (TellsNoShopDaysFrom from dates)
+task_line_front (task.Schedule rule subject) = refuses_subject_front subject (TellsNoRuleOf rule.now)
+task_line_front (task.Chart from subject) = refuses_subject_front subject (TellsNotMade from)
+task_line_front (task.Days from dates subject) = refuses_subject_front subject (TellsNoDaysFrom from dates)
 task_line_front task.Names = not_plain_front
-task_line_front (task.Check starts) = no_verdict_front starts.now
-task_line_front (task.ShopCheck starts instance) = refuses_shop_front instance.now (TellsNoShopStarts starts.now)
+task_line_front (task.Check starts subject) = refuses_subject_front subject (TellsBadStarts starts.now)
 task_line_front (task.Slack starts given) = refuses_file_front given.now (TellsNoSlack starts.now)
-task_line_front (task.Compare starts given) = refuses_file_front given.now (TellsNotCompared starts.a.now starts.b.now)
-task_line_front (task.ShopCompare starts instance) = refuses_shop_front instance.now (TellsShopNotCompared starts.a.now starts.b.now)
-task_line_front (task.Shop rule instance) = no_shop_front rule.now instance.now
-task_line_front (task.Best budget instance) = no_best_front budget.now instance.now
+task_line_front (task.Compare starts subject) = refuses_subject_front subject (TellsNotCompared starts.a.now starts.b.now)
+task_line_front (task.Best budget subject) = refuses_subject_front subject (TellsNoBestOf budget.now)
 task_line_front (task.Prove nodes instance) = no_proof_front nodes.now instance.now
-task_line_front (task.BestProject budget given) = refuses_file_front given.now (TellsBestProjectRefusal budget.now)
-task_line_front (task.Solve conflicts given) = refuses_file_front given.now TellsNeed
-task_line_front (task.SolveShop conflicts instance) = first_front instance.now
+task_line_front (task.Solve conflicts subject) = refuses_subject_front subject TellsNoSolution
 task_line_front (task.Import given) = no_import_front (map override_of given.now)
 task_line_front task.ImportShop = no_shop_import_front
 
@@ -490,26 +468,24 @@ project_short file p (d, says, same, project) = says.short
 shop_short : (instance file : List ℕ) (doc : docs.Shop) → ShopSays instance file doc → length file ≤ longest_text
 shop_short instance file doc says = plain_short file says.readable
 
+-- a file for which a text of a project or a job shop is written isn't too long
+subject_short : (subject : Subject) (IsText : Plan → List ℕ → Type 0) (file text : List ℕ) → IsOfSubject subject IsText file text → length file ≤ longest_text
+subject_short (subject.Project given) IsText file text (p, says, rest) = project_short file p says
+subject_short (subject.Shop instance) IsText file text (doc, says, rest) = shop_short instance.now file doc says
+
 -- a file for which a task writes a text isn't too long
 file_short : (task : Task) (file text : List ℕ) → IsTextOf task file text → length file ≤ longest_text
 file_short task.Dates file text (p, says, rest) = project_short file p says
-file_short (task.Schedule rule given) file text (p, says, rest) = project_short file p says
-file_short (task.Chart from given) file text (p, says, rest) = project_short file p says
-file_short (task.ShopChart from instance) file text (doc, says, rest) = shop_short instance.now file doc says
-file_short (task.Days from dates given) file text (p, says, rest) = project_short file p says
-file_short (task.ShopDays from dates instance) file text (doc, says, rest) = shop_short instance.now file doc says
+file_short (task.Schedule rule subject) file text is = subject_short subject (IsTableBy rule.now) file text is
+file_short (task.Chart from subject) file text is = subject_short subject (IsChartFrom from) file text is
+file_short (task.Days from dates subject) file text is = subject_short subject (IsDaysFrom from dates) file text is
 file_short task.Names file text (readable, is) = plain_short file readable
-file_short (task.Check starts) file text (p, says, rest) = project_short file p says
-file_short (task.ShopCheck starts instance) file text (doc, says, rest) = shop_short instance.now file doc says
+file_short (task.Check starts subject) file text is = subject_short subject (TellsVerdictOn starts.now) file text is
 file_short (task.Slack starts given) file text (p, says, rest) = project_short file p says
-file_short (task.Compare starts given) file text (p, says, rest) = project_short file p says
-file_short (task.ShopCompare starts instance) file text (doc, says, rest) = shop_short instance.now file doc says
-file_short (task.Shop rule instance) file text (doc, says, rest) = shop_short instance.now file doc says
-file_short (task.Best budget instance) file text (doc, says, rest) = shop_short instance.now file doc says
+file_short (task.Compare starts subject) file text is = subject_short subject (IsCompared starts.a.now starts.b.now) file text is
+file_short (task.Best budget subject) file text is = subject_short subject (IsBestOf budget.now) file text is
 file_short (task.Prove nodes instance) file text (doc, says, rest) = shop_short instance.now file doc says
-file_short (task.BestProject budget given) file text (p, says, rest) = project_short file p says
-file_short (task.Solve conflicts capacities) file text (p, says, rest) = project_short file p says
-file_short (task.SolveShop conflicts instance) file text (doc, says, rest) = shop_short instance.now file doc says
+file_short (task.Solve conflicts subject) file text is = subject_short subject IsSolvedBy file text is
 file_short (task.Import given) file text (t, read, shown) =
     rows_short file (was_read (rows_read file) (λ found. table_in (map override_of given.now) (filled_from found)) t read)
 file_short task.ImportShop file text (t, read, shown) =

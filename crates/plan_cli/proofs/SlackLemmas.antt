@@ -2,6 +2,7 @@
 use Rattle.std.proofs.Common.{◌≡◌, inr, ℕ, List, Result, Ok, Err, subst}
 use Rattle.std.specs.Prelude.{IfErr}
 use Rattle.plan_net.specs.Network.{Net}
+use Rattle.plan_sgs.specs.Problem.{NeedsFit}
 use Rattle.plan_sgs.specs.Instances.{Planned, problem_of}
 use Rattle.plan_report.specs.Slack.{RefusesSlack}
 use Rattle.plan_report.specs.SlackText.{IsSlackText}
@@ -9,8 +10,17 @@ use Rattle.plan_report.specs.StartsText.{SaysStarts, activity_sheet}
 use Rattle.plan_report.specs.declared.slack.SlackFault.{SlackFault}
 use Rattle.plan_errors.specs.declared.fault.CliFault.{CliFault}
 use Rattle.plan_errors.specs.Output.{Refuses}
-use Rattle.plan_cli.specs.SlackRun.{IsSlackOf, TellsSlackFault, TellsBadSlack, TellsNoSlack}
+use Rattle.plan_cli.specs.SlackRun.{IsSlackOf, TellsBadStarts, TellsSlackFault, TellsBadSlack, TellsNoSlack}
+use Rattle.plan_cli.specs.Starts.{TellsNoStarts}
 use Rattle.plan_cli.proofs.RunLemmas.{refuses_as}
+
+-- the text of the starts is refused, for the network of an instance
+pub bad_starts : (listed : List ℕ) (i : Planned) (net : Net) (e : CliFault) → NeedsFit (problem_of i)
+    → net ≡ i.project.network
+    → Refuses (TellsNoStarts (activity_sheet net) listed) e → Refuses (TellsBadStarts listed i) e
+bad_starts listed i net e fit same t =
+    refuses_as (TellsNoStarts (activity_sheet net) listed) (TellsBadStarts listed i) e
+    (λ line tells. (fit, subst (λ (n : Net). TellsNoStarts (activity_sheet n) listed line) same tells)) t
 
 -- the starts of a network in a text are those of an instance with that network
 said_of : (listed starts : List ℕ) (i : Planned) (net : Net) → net ≡ i.project.network

@@ -9,7 +9,10 @@ use Rattle.plan_exact.specs.declared.fault.ExactFault.{ExactFault}
 use Rattle.plan_exact.specs.declared.fault.ExactFault.TheVariants as exact
 use Rattle.plan_gantt.specs.FirstFaults.{TellsFirstShopFault}
 use Rattle.plan_gantt.specs.ShopBestText.{IsBestTextOf, TellsBestRefusal}
+use Rattle.plan_gantt.specs.ProjectBestText.{IsBestProjectTextOf, TellsNoBestProject}
 use Rattle.plan_gantt.specs.ExactFaultText.{exact_fault_text_of}
+use Rattle.plan_cli.specs.declared.documents.Plan.{Plan}
+use Rattle.plan_cli.specs.declared.documents.Plan.TheVariants as plan
 
 -- a text shows the best schedule of an instance in a file
 abbrev pub IsBestTableOf : List ℕ → List ℕ → List ℕ → List ℕ → Type 0
@@ -30,3 +33,13 @@ TellsSolvingRefusal budget s line =
 -- a line gives the error of a search, which isn't that of memory
 abbrev pub TellsSolving : ExactFault → List ℕ → Type 0
 TellsSolving first line = (first ≡ exact.NoMemory → ⊥) × (line ≡ exact_fault_text_of first)
+
+-- a text shows the best schedule of a plan within the budget that an argument spells
+abbrev pub IsBestOf : List ℕ → Plan → List ℕ → Type 0
+IsBestOf argument (plan.Project i) = IsBestProjectTextOf argument i
+IsBestOf argument (plan.Shop s) = IsBestTextOf argument s
+
+-- a line reports the error of that search: the size of the plan, or else the argument
+abbrev pub TellsNoBestOf : List ℕ → Plan → List ℕ → Type 0
+TellsNoBestOf argument (plan.Project i) = TellsNoBestProject argument i
+TellsNoBestOf argument (plan.Shop s) = TellsBestRefusal argument s

@@ -1,17 +1,16 @@
 -- The output of `plan compare` for the bytes that it reads (docs/definitions.md, "Runs").
 use Rattle.std.specs.Prelude.{◌≡◌, ◌⊎◌, ◌++◌, ℕ, List, codes, string_bytes}
-use Rattle.plan_sgs.specs.Problem.{NeedsFit}
-use Rattle.plan_sgs.specs.Instances.{Planned, problem_of}
-use Rattle.plan_shop.specs.Shop.{JobShop}
 use Rattle.plan_report.specs.Comparison.{IsComparison}
 use Rattle.plan_report.specs.Sheet.{Sheet}
 use Rattle.plan_report.specs.ShopComparison.{IsShopComparison}
-use Rattle.plan_report.specs.StartsText.{SaysStarts, activity_sheet, step_sheet}
+use Rattle.plan_report.specs.StartsText.{SaysStarts}
 use Rattle.plan_errors.specs.Output.{Refuses}
 use Rattle.plan_errors.specs.declared.fault.CliFault.{CliFault}
 use Rattle.plan_errors.specs.declared.fault.CliFault.TheVariants as fault
-use Rattle.plan_cli.specs.ScheduleRun.{TellsNeed}
+use Rattle.plan_cli.specs.Documents.{sheet_of}
 use Rattle.plan_cli.specs.Starts.{TellsNoStarts}
+use Rattle.plan_cli.specs.declared.documents.Plan.{Plan}
+use Rattle.plan_cli.specs.declared.documents.Plan.TheVariants as plan
 
 -- the line of an error with the name of a schedule behind it
 abbrev pub named_line : List ℕ → List ℕ → List ℕ
@@ -41,26 +40,16 @@ abbrev pub SayPair : Sheet → List ℕ → List ℕ → (List ℕ → List ℕ 
 SayPair sheet first second Holds = (a : List ℕ) × SaysStarts sheet first a
     × ((b : List ℕ) × SaysStarts sheet second b × Holds a b)
 
--- a text compares the schedules with the starts in two texts, for an instance whose needs are
--- within its capacities
-abbrev pub IsCompared : List ℕ → List ℕ → Planned → List ℕ → Type 0
-IsCompared first second i text = NeedsFit (problem_of i)
-    × SayPair (activity_sheet i.project.network) first second (λ a b. IsComparison i a b text)
+-- a text compares two schedules of a plan by their starts
+abbrev pub Compares : Plan → List ℕ → List ℕ → List ℕ → Type 0
+Compares (plan.Project i) a b text = IsComparison i a b text
+Compares (plan.Shop s) a b text = IsShopComparison s a b text
 
--- a line gives the first check that one of these texts fails, for such an instance
-abbrev pub TellsBadPair : List ℕ → List ℕ → Planned → List ℕ → Type 0
-TellsBadPair first second i line =
-    NeedsFit (problem_of i) × TellsNoPair (activity_sheet i.project.network) first second line
+-- a text compares the schedules with the starts in two texts
+abbrev pub IsCompared : List ℕ → List ℕ → Plan → List ℕ → Type 0
+IsCompared first second p text =
+    SayPair (sheet_of p) first second (λ a b. Compares p a b text)
 
--- the same, behind a need that is above its capacity
-abbrev pub TellsNotCompared : List ℕ → List ℕ → Planned → List ℕ → Type 0
-TellsNotCompared first second i line = TellsNeed i line ⊎ TellsBadPair first second i line
-
--- a text compares the schedules of a job shop with the starts in two texts
-abbrev pub IsShopCompared : List ℕ → List ℕ → JobShop → List ℕ → Type 0
-IsShopCompared first second s text =
-    SayPair (step_sheet s) first second (λ a b. IsShopComparison s a b text)
-
--- a line gives the first check that one of these texts fails, for a job shop
-abbrev pub TellsShopNotCompared : List ℕ → List ℕ → JobShop → List ℕ → Type 0
-TellsShopNotCompared first second s line = TellsNoPair (step_sheet s) first second line
+-- a line gives the first check that one of these texts fails
+abbrev pub TellsNotCompared : List ℕ → List ℕ → Plan → List ℕ → Type 0
+TellsNotCompared first second p line = TellsNoPair (sheet_of p) first second line

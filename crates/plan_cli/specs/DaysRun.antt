@@ -1,7 +1,5 @@
 -- The output of `plan days` for the bytes that it reads (docs/definitions.md, "Runs").
 use Rattle.std.specs.Prelude.{◌≡◌, ◌⊎◌, ℕ, List}
-use Rattle.plan_sgs.specs.Instances.{Planned}
-use Rattle.plan_shop.specs.Shop.{JobShop}
 use Rattle.plan_calendar.specs.WorkingDay.{Workdays}
 use Rattle.plan_gantt.specs.CalendarTable.{IsCalendarTable, HasActivityBeyond}
 use Rattle.plan_gantt.specs.ShopCharts.{IsShopCalendarTable, HasStepBeyond}
@@ -11,8 +9,9 @@ use Rattle.plan_gantt.specs.declared.days.DaysFault.{DaysFault}
 use Rattle.plan_gantt.specs.declared.days.DaysFault.TheVariants as days
 use Rattle.plan_cli.specs.Calendars.{IsDated, TellsNoCalendar}
 use Rattle.plan_cli.specs.Scheduled.{IsScheduleFrom, TellsNotMade}
-use Rattle.plan_cli.specs.Scheduled.{IsShopScheduleFrom, TellsShopNotMade}
 use Rattle.plan_cli.specs.declared.calendars.Dates.{Dates}
+use Rattle.plan_cli.specs.declared.documents.Plan.{Plan}
+use Rattle.plan_cli.specs.declared.documents.Plan.TheVariants as plan
 use Rattle.plan_cli.specs.declared.origins.Origin.{Origin}
 
 -- a text shows days of the calendar of some texts
@@ -34,38 +33,29 @@ abbrev pub TellsDaysFault : DaysFault → List ℕ → Type 0
 TellsDaysFault first line =
     (first ≡ days.BeyondCalendar) × (line ≡ calendar_fault_text_of fault.BeyondCalendar)
 
--- a text is the table of working days of an instance's schedule
-pub record IsDaysFrom (from : Origin) (dates : Dates) (i : Planned) (text : List ℕ) : Type 0 where
+-- a text is the table of the working days of starts on a calendar
+abbrev pub IsDaysTable : Plan → List ℕ → Workdays → List ℕ → Type 0
+IsDaysTable (plan.Project i) starts c text = IsCalendarTable c i.project.network starts text
+IsDaysTable (plan.Shop s) starts c text = IsShopCalendarTable c s starts text
+
+-- a day of starts is beyond the calendar
+abbrev pub HasDayBeyond : Plan → List ℕ → Workdays → Type 0
+HasDayBeyond (plan.Project i) starts c = HasActivityBeyond c i.project.network starts
+HasDayBeyond (plan.Shop s) starts c = HasStepBeyond c s starts
+
+-- a text is the table of working days of a plan's schedule
+pub record IsDaysFrom (from : Origin) (dates : Dates) (p : Plan) (text : List ℕ) : Type 0 where
   pub starts : List ℕ
-  pub schedule : IsScheduleFrom from i starts
-  pub shown : ShowsDays dates (λ c. IsCalendarTable c i.project.network starts) text
+  pub schedule : IsScheduleFrom from p starts
+  pub shown : ShowsDays dates (IsDaysTable p starts) text
 
--- a line refuses the days of an instance's schedule, by its schedule
-pub record HidesDays (from : Origin) (dates : Dates) (i : Planned) (line : List ℕ) : Type 0 where
+-- a line refuses the days of a plan's schedule, by its schedule
+pub record HidesDays (from : Origin) (dates : Dates) (p : Plan) (line : List ℕ) : Type 0 where
   pub starts : List ℕ
-  pub schedule : IsScheduleFrom from i starts
-  pub hidden : TellsNoDays dates (λ c. HasActivityBeyond c i.project.network starts) line
+  pub schedule : IsScheduleFrom from p starts
+  pub hidden : TellsNoDays dates (HasDayBeyond p starts) line
 
--- a line refuses the schedule of an instance, or else its days
-abbrev pub TellsNoDaysFrom : Origin → Dates → Planned → List ℕ → Type 0
-TellsNoDaysFrom from dates i line =
-    TellsNotMade from i line ⊎ HidesDays from dates i line
-
--- a text is the table of working days of a shop's schedule
-pub record IsShopDaysFrom (from : Origin) (dates : Dates) (s : JobShop) (text : List ℕ)
-    : Type 0 where
-  pub starts : List ℕ
-  pub schedule : IsShopScheduleFrom from s starts
-  pub shown : ShowsDays dates (λ c. IsShopCalendarTable c s starts) text
-
--- a line refuses the days of a shop's schedule, by its schedule
-pub record HidesShopDays (from : Origin) (dates : Dates) (s : JobShop) (line : List ℕ)
-    : Type 0 where
-  pub starts : List ℕ
-  pub schedule : IsShopScheduleFrom from s starts
-  pub hidden : TellsNoDays dates (λ c. HasStepBeyond c s starts) line
-
--- a line refuses the schedule of a shop, or else its days
-abbrev pub TellsNoShopDaysFrom : Origin → Dates → JobShop → List ℕ → Type 0
-TellsNoShopDaysFrom from dates s line =
-    TellsShopNotMade from s line ⊎ HidesShopDays from dates s line
+-- a line refuses the schedule of a plan, or else its days
+abbrev pub TellsNoDaysFrom : Origin → Dates → Plan → List ℕ → Type 0
+TellsNoDaysFrom from dates p line =
+    TellsNotMade from p line ⊎ HidesDays from dates p line

@@ -13,23 +13,16 @@ use Rattle.plan_cli.specs.declared.tasks.Task.TheVariants as task
 -- the shape of the text of a task, if it is a table
 abbrev pub shape_of : Task → Option Shape
 shape_of task.Dates = Some shape.Dates
-shape_of (task.Schedule rule given) = Some shape.Schedule
-shape_of (task.Chart from given) = None
-shape_of (task.ShopChart from instance) = None
-shape_of (task.Days from dates given) = Some shape.Days
-shape_of (task.ShopDays from dates instance) = Some shape.Days
+shape_of (task.Schedule rule subject) = Some shape.Schedule
+shape_of (task.Chart from subject) = None
+shape_of (task.Days from dates subject) = Some shape.Days
 shape_of task.Names = Some shape.Names
-shape_of (task.Check starts) = Some shape.Verdict
-shape_of (task.ShopCheck starts instance) = Some shape.Verdict
+shape_of (task.Check starts subject) = Some shape.Verdict
 shape_of (task.Slack starts given) = None
-shape_of (task.Compare starts given) = Some shape.Comparison
-shape_of (task.ShopCompare starts instance) = Some shape.Comparison
-shape_of (task.Shop rule instance) = Some shape.Schedule
-shape_of (task.Best budget instance) = Some shape.Solution
+shape_of (task.Compare starts subject) = Some shape.Comparison
+shape_of (task.Best budget subject) = Some shape.Solution
 shape_of (task.Prove nodes instance) = Some shape.Solution
-shape_of (task.BestProject budget given) = Some shape.Solution
-shape_of (task.Solve conflicts given) = Some shape.Solution
-shape_of (task.SolveShop conflicts instance) = Some shape.Solution
+shape_of (task.Solve conflicts subject) = Some shape.Solution
 shape_of (task.Import given) = None
 shape_of task.ImportShop = None
 

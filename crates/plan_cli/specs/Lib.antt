@@ -1,6 +1,7 @@
 pub mod Capacities
 pub mod Run
 pub mod Plans
+pub mod Documents
 pub mod ScheduleRun
 pub mod ShopRun
 pub mod Tasks
@@ -33,6 +34,7 @@ pub mod ProofText
 pub mod ProveRun
 pub mod SolveRun
 pub mod Scheduled
+pub mod Tables
 pub mod ChartRun
 pub mod Calendars
 pub mod DaysRun
@@ -46,6 +48,7 @@ pub mod FormattedText
 pub mod ExplainedText
 pub mod TableFaultText
 pub mod ImportRun
+pub mod Commands
 pub mod RowNames
 pub mod TemplateRun
 pub use Rattle.plan_table.specs.Names

@@ -17,14 +17,10 @@ use Rattle.plan_cli.specs.declared.tasks.Task.TheVariants as task
 
 -- the task with other starts, if it has starts or a schedule
 abbrev pub with_starts : Task → Bor (List ℕ) → Task
-with_starts (task.Check starts) text = task.Check text
-with_starts (task.ShopCheck starts instance) text = task.ShopCheck text instance
+with_starts (task.Check starts subject) text = task.Check text subject
 with_starts (task.Slack starts given) text = task.Slack text given
-with_starts (task.Chart from given) text = task.Chart (origin.Starts text) given
-with_starts (task.ShopChart from instance) text = task.ShopChart (origin.Starts text) instance
-with_starts (task.Days from dates given) text = task.Days (origin.Starts text) dates given
-with_starts (task.ShopDays from dates instance) text =
-    task.ShopDays (origin.Starts text) dates instance
+with_starts (task.Chart from subject) text = task.Chart (origin.Starts text) subject
+with_starts (task.Days from dates subject) text = task.Days (origin.Starts text) dates subject
 with_starts t text = t
 
 -- the pair with other starts of A, and of B
@@ -36,16 +32,12 @@ pair_with_b pair text = record { a = pair.a; b = text }
 
 -- the comparison with other starts of A
 abbrev pub with_starts_a : Task → Bor (List ℕ) → Task
-with_starts_a (task.Compare pair given) text = task.Compare (pair_with_a pair text) given
-with_starts_a (task.ShopCompare pair instance) text =
-    task.ShopCompare (pair_with_a pair text) instance
+with_starts_a (task.Compare pair subject) text = task.Compare (pair_with_a pair text) subject
 with_starts_a t text = t
 
 -- the comparison with other starts of B
 abbrev pub with_starts_b : Task → Bor (List ℕ) → Task
-with_starts_b (task.Compare pair given) text = task.Compare (pair_with_b pair text) given
-with_starts_b (task.ShopCompare pair instance) text =
-    task.ShopCompare (pair_with_b pair text) instance
+with_starts_b (task.Compare pair subject) text = task.Compare (pair_with_b pair text) subject
 with_starts_b t text = t
 
 -- the dates with other holidays
@@ -54,9 +46,8 @@ dates_with dates text = record { start = dates.start; marks = dates.marks; holid
 
 -- the task with other holidays, if it has dates
 abbrev pub with_holidays : Task → Bor (List ℕ) → Task
-with_holidays (task.Days from dates given) text = task.Days from (dates_with dates text) given
-with_holidays (task.ShopDays from dates instance) text =
-    task.ShopDays from (dates_with dates text) instance
+with_holidays (task.Days from dates subject) text =
+    task.Days from (dates_with dates text) subject
 with_holidays t text = t
 
 -- the task with another text of this role

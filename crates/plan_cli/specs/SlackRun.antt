@@ -1,5 +1,6 @@
 -- The output of `plan slack` for the bytes that it reads (docs/definitions.md, "Runs").
 use Rattle.std.specs.Prelude.{◌≡◌, ◌⊎◌, ℕ, List, codes}
+use Rattle.plan_sgs.specs.Problem.{NeedsFit}
 use Rattle.plan_sgs.specs.Instances.{Planned, problem_of}
 use Rattle.plan_report.specs.Slack.{RefusesSlack}
 use Rattle.plan_report.specs.SlackText.{IsSlackText}
@@ -8,7 +9,7 @@ use Rattle.plan_report.specs.VerdictText.{sentence_of}
 use Rattle.plan_report.specs.declared.slack.SlackFault.{SlackFault}
 use Rattle.plan_report.specs.declared.slack.SlackFault.TheVariants as slack
 use Rattle.plan_cli.specs.ScheduleRun.{TellsNeed}
-use Rattle.plan_cli.specs.CheckRun.{TellsBadStarts}
+use Rattle.plan_cli.specs.Starts.{TellsNoStarts}
 use Rattle.plan_cli.specs.VerdictText.{infeasible_line}
 
 -- a text is the table of slacks of the schedule with the starts in a text
@@ -22,6 +23,12 @@ abbrev pub TellsSlackFault : SlackFault → List ℕ → Type 0
 TellsSlackFault slack.NoMemory line = ⊥
 TellsSlackFault (slack.NotFeasible verdict) line = line ≡ infeasible_line (sentence_of verdict)
 TellsSlackFault slack.Late line = line ≡ codes "S9 late"
+
+-- a line gives the first check that a text of starts fails, for an instance whose needs are within
+-- its capacities
+abbrev pub TellsBadStarts : List ℕ → Planned → List ℕ → Type 0
+TellsBadStarts listed i line =
+    NeedsFit (problem_of i) × TellsNoStarts (activity_sheet i.project.network) listed line
 
 -- a line refuses the slacks of the starts in a text: the text fails a check, or else the starts
 -- aren't feasible or end too late

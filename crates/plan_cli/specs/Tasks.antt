@@ -3,31 +3,28 @@
 use Rattle.std.specs.Prelude.{◌≡◌, ℕ, ◌+◌, List, [], Option, Result, IfSome}
 use Rattle.std.specs.Prelude.{take, map}
 use Rattle.std.specs.Prelude.{codes, bytes_eq, if◌then◌else◌}
-use Rattle.plan_gantt.specs.FirstFaults.{TellsFirstFailing, TellsFirstShopFault}
-use Rattle.plan_gantt.specs.ScheduleText.{IsScheduleTextOf, TellsRefusal}
+use Rattle.plan_gantt.specs.FirstFaults.{TellsFirstFailing}
 use Rattle.plan_cli.specs.Run.{IsDateTableOf, ReadsFront}
-use Rattle.plan_cli.specs.Plans.{IsOfProject, RefusesFile, IsOfShop, RefusesShop}
-use Rattle.plan_cli.specs.Scheduled.{TellsNotMade, TellsShopNotMade}
-use Rattle.plan_cli.specs.ChartRun.{IsChartFrom, IsShopChartFrom}
-use Rattle.plan_cli.specs.DaysRun.{IsDaysFrom, IsShopDaysFrom, TellsNoDaysFrom, TellsNoShopDaysFrom}
+use Rattle.plan_cli.specs.Documents.{IsOfSubject, RefusesSubject, names_of_rows, names_of_lines}
+use Rattle.plan_cli.specs.Plans.{IsOfProject, RefusesFile}
+use Rattle.plan_cli.specs.Scheduled.{TellsNoRuleOf, TellsNotMade}
+use Rattle.plan_cli.specs.Tables.{IsTableBy}
+use Rattle.plan_cli.specs.ChartRun.{IsChartFrom}
+use Rattle.plan_cli.specs.DaysRun.{IsDaysFrom, TellsNoDaysFrom}
 use Rattle.plan_cli.specs.SlackRun.{IsSlackOf, TellsNoSlack}
 use Rattle.plan_cli.specs.CompareRun.{IsCompared, TellsNotCompared}
-use Rattle.plan_cli.specs.CompareRun.{IsShopCompared, TellsShopNotCompared}
 use Rattle.plan_cli.specs.FormattedText.{formatted}
 use Rattle.plan_formats.specs.declared.format.Format.{Format}
 use Rattle.plan_cli.specs.NamesRun.{AreNamesOf, TellsNotPlain}
-use Rattle.plan_cli.specs.CheckRun.{IsVerdictOf, TellsWhyNoVerdict}
-use Rattle.plan_cli.specs.CheckRun.{IsShopVerdictOf, TellsWhyNoShopVerdict}
-use Rattle.plan_cli.specs.ShopRun.{IsShopTableOf, TellsWhyNoShop}
-use Rattle.plan_cli.specs.BestRun.{IsBestTableOf, TellsWhyNoBest}
+use Rattle.plan_cli.specs.CheckRun.{TellsVerdictOn, TellsBadStarts}
+use Rattle.plan_cli.specs.BestRun.{IsBestOf, TellsNoBestOf}
 use Rattle.plan_cli.specs.ProveRun.{IsProofTableOf, TellsWhyNoProof}
-use Rattle.plan_gantt.specs.ProjectBestText.{IsBestProjectTextOf, TellsBestProjectRefusal}
-use Rattle.plan_cli.specs.SolveRun.{IsSolvedTableOf, TellsWhyNotSolved, IsShopSolvedTableOf}
+use Rattle.plan_cli.specs.SolveRun.{IsSolvedBy, TellsNoSolution}
 use Rattle.plan_cli.specs.ImportRun.{IsImportOf, TellsNoImport, IsShopImportOf, TellsNoShopImport}
 use Rattle.plan_cli.specs.RowNames.{with_names}
 use Rattle.plan_table.specs.Names.{Name, names_behind, activity_key}
 use Rattle.plan_table.specs.Overrides.{override_of}
-use Rattle.plan_table.specs.ShopNames.{instance_names, machine_key, order_key}
+use Rattle.plan_table.specs.ShopNames.{instance_names, order_key}
 use Rattle.plan_cli.specs.declared.inputs.Inputs as inputs
 use Rattle.plan_cli.specs.declared.tasks.Rows.{Rows}
 use Rattle.plan_cli.specs.declared.tasks.Rows.TheVariants as rows
@@ -39,52 +36,34 @@ use Rattle.plan_errors.specs.declared.fault.CliFault.{CliFault}
 -- the texts that a task writes for a file
 abbrev pub IsTextOf : Task → List ℕ → List ℕ → Type 0
 IsTextOf task.Dates = IsDateTableOf
-IsTextOf (task.Schedule rule given) = IsOfProject given.now (IsScheduleTextOf rule.now)
-IsTextOf (task.Chart from given) = IsOfProject given.now (IsChartFrom from)
-IsTextOf (task.ShopChart from instance) = IsOfShop instance.now (IsShopChartFrom from)
-IsTextOf (task.Days from dates given) = IsOfProject given.now (IsDaysFrom from dates)
-IsTextOf (task.ShopDays from dates instance) = IsOfShop instance.now (IsShopDaysFrom from dates)
+IsTextOf (task.Schedule rule subject) = IsOfSubject subject (IsTableBy rule.now)
+IsTextOf (task.Chart from subject) = IsOfSubject subject (IsChartFrom from)
+IsTextOf (task.Days from dates subject) = IsOfSubject subject (IsDaysFrom from dates)
 IsTextOf task.Names = AreNamesOf
-IsTextOf (task.Check starts) = IsVerdictOf starts.now
-IsTextOf (task.ShopCheck starts instance) = IsShopVerdictOf starts.now instance.now
+IsTextOf (task.Check starts subject) = IsOfSubject subject (TellsVerdictOn starts.now)
 IsTextOf (task.Slack starts given) = IsOfProject given.now (IsSlackOf starts.now)
-IsTextOf (task.Compare starts given) =
-    IsOfProject given.now (IsCompared starts.a.now starts.b.now)
-IsTextOf (task.ShopCompare starts instance) =
-    IsOfShop instance.now (IsShopCompared starts.a.now starts.b.now)
-IsTextOf (task.Shop rule instance) = IsShopTableOf rule.now instance.now
-IsTextOf (task.Best budget instance) = IsBestTableOf budget.now instance.now
+IsTextOf (task.Compare starts subject) =
+    IsOfSubject subject (IsCompared starts.a.now starts.b.now)
+IsTextOf (task.Best budget subject) = IsOfSubject subject (IsBestOf budget.now)
 IsTextOf (task.Prove nodes instance) = IsProofTableOf nodes.now instance.now
-IsTextOf (task.BestProject budget given) = IsOfProject given.now (IsBestProjectTextOf budget.now)
-IsTextOf (task.Solve conflicts capacities) = IsSolvedTableOf capacities.now
-IsTextOf (task.SolveShop conflicts instance) = IsShopSolvedTableOf instance.now
+IsTextOf (task.Solve conflicts subject) = IsOfSubject subject IsSolvedBy
 IsTextOf (task.Import given) = IsImportOf (map override_of given.now)
 IsTextOf task.ImportShop = IsShopImportOf
 
 -- the lines with which a task refuses a file
 abbrev pub IsLineOf : Task → List ℕ → List ℕ → Type 0
 IsLineOf task.Dates = TellsFirstFailing
-IsLineOf (task.Schedule rule given) = RefusesFile given.now (TellsRefusal rule.now)
-IsLineOf (task.Chart from given) = RefusesFile given.now (TellsNotMade from)
-IsLineOf (task.ShopChart from instance) = RefusesShop instance.now (TellsShopNotMade from)
-IsLineOf (task.Days from dates given) = RefusesFile given.now (TellsNoDaysFrom from dates)
-IsLineOf (task.ShopDays from dates instance) =
-    RefusesShop instance.now (TellsNoShopDaysFrom from dates)
+IsLineOf (task.Schedule rule subject) = RefusesSubject subject (TellsNoRuleOf rule.now)
+IsLineOf (task.Chart from subject) = RefusesSubject subject (TellsNotMade from)
+IsLineOf (task.Days from dates subject) = RefusesSubject subject (TellsNoDaysFrom from dates)
 IsLineOf task.Names = TellsNotPlain
-IsLineOf (task.Check starts) = TellsWhyNoVerdict starts.now
-IsLineOf (task.ShopCheck starts instance) = TellsWhyNoShopVerdict starts.now instance.now
+IsLineOf (task.Check starts subject) = RefusesSubject subject (TellsBadStarts starts.now)
 IsLineOf (task.Slack starts given) = RefusesFile given.now (TellsNoSlack starts.now)
-IsLineOf (task.Compare starts given) =
-    RefusesFile given.now (TellsNotCompared starts.a.now starts.b.now)
-IsLineOf (task.ShopCompare starts instance) =
-    RefusesShop instance.now (TellsShopNotCompared starts.a.now starts.b.now)
-IsLineOf (task.Shop rule instance) = TellsWhyNoShop rule.now instance.now
-IsLineOf (task.Best budget instance) = TellsWhyNoBest budget.now instance.now
+IsLineOf (task.Compare starts subject) =
+    RefusesSubject subject (TellsNotCompared starts.a.now starts.b.now)
+IsLineOf (task.Best budget subject) = RefusesSubject subject (TellsNoBestOf budget.now)
 IsLineOf (task.Prove nodes instance) = TellsWhyNoProof nodes.now instance.now
-IsLineOf (task.BestProject budget given) =
-    RefusesFile given.now (TellsBestProjectRefusal budget.now)
-IsLineOf (task.Solve conflicts capacities) = TellsWhyNotSolved capacities.now
-IsLineOf (task.SolveShop conflicts instance) = TellsFirstShopFault instance.now
+IsLineOf (task.Solve conflicts subject) = RefusesSubject subject TellsNoSolution
 IsLineOf (task.Import given) = TellsNoImport (map override_of given.now)
 IsLineOf task.ImportShop = TellsNoShopImport
 
@@ -92,20 +71,14 @@ IsLineOf task.ImportShop = TellsNoShopImport
 -- project, of orders in a job shop, and of machines in its chart. Other rows have no names.
 abbrev pub names_for : Task → List ℕ → List Name
 names_for task.Dates file = names_behind activity_key file
-names_for (task.Schedule rule given) file = names_behind activity_key file
-names_for (task.Chart from given) file = names_behind activity_key file
-names_for (task.Days from dates given) file = names_behind activity_key file
+names_for (task.Schedule rule subject) file = names_of_rows subject file
+names_for (task.Chart from subject) file = names_of_lines subject file
+names_for (task.Days from dates subject) file = names_of_rows subject file
 names_for (task.Slack starts given) file = names_behind activity_key file
-names_for (task.Compare starts given) file = names_behind activity_key file
-names_for (task.BestProject budget given) file = names_behind activity_key file
-names_for (task.Solve conflicts capacities) file = names_behind activity_key file
-names_for (task.Shop rule instance) file = instance_names order_key instance.now file
-names_for (task.ShopChart from instance) file = instance_names machine_key instance.now file
-names_for (task.ShopCompare starts instance) file = instance_names order_key instance.now file
-names_for (task.ShopDays from dates instance) file = instance_names order_key instance.now file
-names_for (task.Best budget instance) file = instance_names order_key instance.now file
+names_for (task.Compare starts subject) file = names_of_rows subject file
+names_for (task.Best budget subject) file = names_of_rows subject file
 names_for (task.Prove nodes instance) file = instance_names order_key instance.now file
-names_for (task.SolveShop conflicts instance) file = instance_names order_key instance.now file
+names_for (task.Solve conflicts subject) file = names_of_rows subject file
 names_for _ file = []
 
 -- a text is the text of a task for a file, each row with its name

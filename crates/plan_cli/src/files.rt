@@ -12,7 +12,7 @@ use crate::inputs::{Inputs, SystemInputs};
 use crate::named_texts::{NamedText, with_text};
 use crate::runs::run_task;
 use crate::tasks::{Rows, Task};
-use crate::watchers::{Log, ProofWatcher, SolveWatcher, Unlogged, Unwatched};
+use crate::watchers::{Log, ProofWatcher, SolveWatcher, Unlogged};
 use plan_errors::{CliFault, read_file};
 use plan_io::Sink;
 use std::alloc::Global;
@@ -64,12 +64,14 @@ pub fn read_named<I: Inputs>(alloc: Global, inputs: &I, name: &str) -> Result<Ve
 
 /// Runs a task on a file and on the files of texts with a role in the task. One of all names may
 /// be `-` for standard input. The texts are read first, in their order. Each replaces the text with
-/// its role in the task. A file that can't be opened or read is [`CliFault::Input`].
-pub fn run_on_texts<I: Inputs, W: Sink>(
+/// its role in the task. The watcher is called during a search. A file that can't be opened or read
+/// is [`CliFault::Input`].
+pub fn run_on_texts<I: Inputs, W: Sink, V: ProofWatcher + SolveWatcher>(
     alloc: Global,
     inputs: &I,
     task: Task<'_>,
     rows: Rows,
+    watcher: &mut V,
     texts: &[NamedText<'_>],
     path: &str,
     writer: &mut W,
@@ -90,7 +92,7 @@ pub fn run_on_texts<I: Inputs, W: Sink>(
             inputs,
             task,
             rows,
-            &mut Unwatched,
+            watcher,
             &mut Unlogged,
             path,
             writer,
@@ -98,7 +100,7 @@ pub fn run_on_texts<I: Inputs, W: Sink>(
     };
     let text = read_named(alloc, inputs, first.name)?;
     let task = with_text(task, first.role, &text);
-    run_on_texts(alloc, inputs, task, rows, rest, path, writer)
+    run_on_texts(alloc, inputs, task, rows, watcher, rest, path, writer)
 }
 
 /// Calls [`run_on_named`] with the system's files and standard input.
@@ -132,10 +134,11 @@ pub fn run_on_file<R: Files + Input + AllocGlobal, W: Sink, V: ProofWatcher + So
 }
 
 /// Calls [`run_on_texts`] with the system's files and standard input.
-pub fn run_on_files<R: Files + Input + AllocGlobal, W: Sink>(
+pub fn run_on_files<R: Files + Input + AllocGlobal, W: Sink, V: ProofWatcher + SolveWatcher>(
     rt: &R,
     task: Task<'_>,
     rows: Rows,
+    watcher: &mut V,
     texts: &[NamedText<'_>],
     path: &str,
     writer: &mut W,
@@ -154,6 +157,7 @@ pub fn run_on_files<R: Files + Input + AllocGlobal, W: Sink>(
         &SystemInputs::new(rt),
         task,
         rows,
+        watcher,
         texts,
         path,
         writer,

@@ -15,16 +15,12 @@ fn shape_of(task: Task<'_>) -> Option<Shape>
 {
     match task {
         Task::Dates => Some(Shape::Dates),
-        Task::Schedule { .. } | Task::Shop { .. } => Some(Shape::Schedule),
-        Task::Best { .. }
-        | Task::BestProject { .. }
-        | Task::Prove { .. }
-        | Task::Solve { .. }
-        | Task::SolveShop { .. } => Some(Shape::Solution),
-        Task::Days { .. } | Task::ShopDays { .. } => Some(Shape::Days),
+        Task::Schedule { .. } => Some(Shape::Schedule),
+        Task::Best { .. } | Task::Prove { .. } | Task::Solve { .. } => Some(Shape::Solution),
+        Task::Days { .. } => Some(Shape::Days),
         Task::Names => Some(Shape::Names),
-        Task::Check { .. } | Task::ShopCheck { .. } => Some(Shape::Verdict),
-        Task::Compare { .. } | Task::ShopCompare { .. } => Some(Shape::Comparison),
+        Task::Check { .. } => Some(Shape::Verdict),
+        Task::Compare { .. } => Some(Shape::Comparison),
         _ => None,
     }
 }

@@ -34,34 +34,19 @@ fn with_starts<'a>(task: Task<'a>, text: &'a [u8]) -> Task<'a>
 {
     let origin = Origin::Starts(text);
     match task {
-        Task::Check { .. } => Task::Check { starts: text },
-        Task::ShopCheck { instance, .. } => Task::ShopCheck {
+        Task::Check { subject, .. } => Task::Check {
             starts: text,
-            instance,
+            subject,
         },
         Task::Slack { capacities, .. } => Task::Slack {
             starts: text,
             capacities,
         },
-        Task::Chart { capacities, .. } => Task::Chart { origin, capacities },
-        Task::ShopChart { instance, .. } => Task::ShopChart { origin, instance },
-        Task::Days {
-            dates,
-            capacities,
-            ..
-        } => Task::Days {
+        Task::Chart { subject, .. } => Task::Chart { origin, subject },
+        Task::Days { dates, subject, .. } => Task::Days {
             origin,
             dates,
-            capacities,
-        },
-        Task::ShopDays {
-            dates,
-            instance,
-            ..
-        } => Task::ShopDays {
-            origin,
-            dates,
-            instance,
+            subject,
         },
         _ => task,
     }
@@ -86,13 +71,9 @@ fn with_starts_a<'a>(task: Task<'a>, text: &'a [u8]) -> Task<'a>
     ensures { result ≡ spec.with_starts_a task.entry text.entry }
 {
     match task {
-        Task::Compare { starts, capacities } => Task::Compare {
+        Task::Compare { starts, subject } => Task::Compare {
             starts: pair_with_a(starts, text),
-            capacities,
-        },
-        Task::ShopCompare { starts, instance } => Task::ShopCompare {
-            starts: pair_with_a(starts, text),
-            instance,
+            subject,
         },
         _ => task,
     }
@@ -103,13 +84,9 @@ fn with_starts_b<'a>(task: Task<'a>, text: &'a [u8]) -> Task<'a>
     ensures { result ≡ spec.with_starts_b task.entry text.entry }
 {
     match task {
-        Task::Compare { starts, capacities } => Task::Compare {
+        Task::Compare { starts, subject } => Task::Compare {
             starts: pair_with_b(starts, text),
-            capacities,
-        },
-        Task::ShopCompare { starts, instance } => Task::ShopCompare {
-            starts: pair_with_b(starts, text),
-            instance,
+            subject,
         },
         _ => task,
     }
@@ -134,20 +111,11 @@ fn with_holidays<'a>(task: Task<'a>, holidays: &'a [u8]) -> Task<'a>
         Task::Days {
             origin,
             dates,
-            capacities,
+            subject,
         } => Task::Days {
             origin,
             dates: dates_with(dates, holidays),
-            capacities,
-        },
-        Task::ShopDays {
-            origin,
-            dates,
-            instance,
-        } => Task::ShopDays {
-            origin,
-            dates: dates_with(dates, holidays),
-            instance,
+            subject,
         },
         _ => task,
     }

@@ -7,4 +7,6 @@ pub enum Origin<'a> {
     Rule(&'a str),
     /// The feasible schedule whose starts a text lists, one for each activity in order.
     Starts(&'a [u8]),
+    /// The schedule that a search of at most this many conflicts finds, as for `Task::Solve`.
+    Solved { conflicts: u64 },
 }

@@ -1,22 +1,18 @@
 //! Projects that are read from files, and their schedules by a priority rule.
 
-ghost use Rattle.std.specs.Prelude.{◌≡◌, ◌⊎◌, IfOk, IfErr, length};
+ghost use Rattle.std.specs.Prelude.{◌≡◌, IfOk, IfErr, length};
 ghost use Rattle.plan_psplib.specs.Project.{SaysProject};
 ghost use Rattle.plan_sgs.specs.Instances.{planned};
 ghost use Rattle.plan_gantt.specs.FirstFaults.{TellsFirstFailing};
-ghost use Rattle.plan_gantt.specs.ScheduleText.{TellsRefusal};
+ghost use Rattle.plan_gantt.specs.ScheduleText.{IsSchedule};
 ghost use Rattle.plan_errors.specs.Output.{Refuses};
-ghost use Rattle.plan_cli.specs.ScheduleRun.{as_available, TellsNeed};
-ghost use Rattle.plan_cli.specs.Scheduled.{IsListed, IsMade, IsMadeBy, IsMadeFrom, IsShowable};
-ghost use Rattle.plan_cli.specs.Scheduled.{TellsNotListed, TellsNotMade};
+ghost use Rattle.plan_cli.specs.ScheduleRun.{TellsNeed};
+ghost use Rattle.plan_cli.specs.Scheduled.{IsScheduleBy, IsShowable, TellsNoRuleOf};
 
-use crate::origins::Origin;
+use crate::documents::Plan;
 use crate::refusals::{file_refusal, schedule_refusal};
-use crate::starts::read_starts;
-use crate::verdicts::check_feasible;
 use plan_errors::CliFault;
 use plan_psplib::{ProjectDoc, read_sm};
-use plan_report::makespan_of;
 use plan_sgs::{Instance, Rule, Schedule, serial};
 use std::alloc::Global;
 
@@ -41,85 +37,25 @@ pub fn instance_with<'a>(
     Instance::of_project(project, capacities).map_err(|fault| schedule_refusal(alloc, &fault))
 }
 
-/// Returns the instance of a project with the capacities of its file.
-pub(crate) fn instance_of(alloc: Global, project: &ProjectDoc) -> Result<Instance<'_>, CliFault>
-    ensures ok { IfOk result (λ instance. instance ≡ as_available project.now) }
-    ensures refused { IfErr result (Refuses (TellsNeed (as_available project.now))) }
-{
-    instance_with(alloc, project, project.avail())
-}
-
 // Returns the schedule of an instance by a rule.
 fn schedule_by_rule(alloc: Global, instance: &Instance, rule: Rule) -> Result<Schedule, CliFault>
-    ensures made { IfOk result (IsMadeBy rule instance.now) }
+    ensures made { IfOk result (λ made. IsSchedule instance.now rule made.starts.items) }
+    ensures showable { IfOk result (IsShowable (Plan.Project instance.now)) }
     ensures refused { IfErr result (λ e. e ≡ CliFault.Memory) }
 {
     serial(alloc, instance, rule).map_err(|_| CliFault::Memory)
 }
 
-/// Returns the schedule of a project by the rule with this name, with these capacities.
-pub(crate) fn schedule_by(
+/// Returns the schedule of an instance by the rule with this name.
+pub(crate) fn project_schedule_by(
     alloc: Global,
     name: &str,
-    project: &ProjectDoc,
-    capacities: &[u64],
+    instance: &Instance,
 ) -> Result<Schedule, CliFault>
-    requires { length capacities.now ≡ length project.now.available }
-    ensures made { IfOk result (IsMade name.now (planned project.now capacities.now)) }
-    ensures refused { IfErr result (Refuses
-        (TellsRefusal name.now (planned project.now capacities.now))) }
+    ensures starts { IfOk result (λ made. IsScheduleBy name.now instance.now made.starts.items) }
+    ensures showable { IfOk result (IsShowable (Plan.Project instance.now)) }
+    ensures refused { IfErr result (Refuses (TellsNoRuleOf name.now (Plan.Project instance.now))) }
 {
-    let instance = instance_with(alloc, project, capacities)?;
     let rule = Rule::parse(name).map_err(|fault| schedule_refusal(alloc, &fault))?;
-    schedule_by_rule(alloc, &instance, rule)
-}
-
-// Returns the schedule with the starts in a text.
-fn listed_schedule(alloc: Global, listed: &[u8], instance: &Instance) -> Result<Schedule, CliFault>
-    ensures listed { IfOk result (λ schedule.
-        IsListed listed.now instance.now schedule.starts.items) }
-    ensures showable { IfOk result (IsShowable instance.now) }
-    ensures refused { IfErr result (Refuses (TellsNotListed listed.now instance.now)) }
-{
-    let starts = read_starts(alloc, instance.network(), listed)?;
-    check_feasible(alloc, instance, &starts)?;
-    let makespan = makespan_of(instance, &starts);
-    Ok(Schedule { starts, makespan })
-}
-
-// Returns the schedule with the starts in a text, of a project with these capacities.
-fn schedule_listed(
-    alloc: Global,
-    listed: &[u8],
-    project: &ProjectDoc,
-    capacities: &[u64],
-) -> Result<Schedule, CliFault>
-    requires { length capacities.now ≡ length project.now.available }
-    ensures listed { IfOk result (λ schedule.
-        IsListed listed.now (planned project.now capacities.now) schedule.starts.items) }
-    ensures showable { IfOk result (IsShowable (planned project.now capacities.now)) }
-    ensures refused { IfErr result (Refuses (λ line.
-        TellsNeed (planned project.now capacities.now) line
-        ⊎ TellsNotListed listed.now (planned project.now capacities.now) line)) }
-{
-    let instance = instance_with(alloc, project, capacities)?;
-    listed_schedule(alloc, listed, &instance)
-}
-
-/// Returns the schedule of a project with these capacities.
-pub fn schedule_from(
-    alloc: Global,
-    origin: Origin<'_>,
-    project: &ProjectDoc,
-    capacities: &[u64],
-) -> Result<Schedule, CliFault>
-    requires { length capacities.now ≡ length project.now.available }
-    ensures made { IfOk result (IsMadeFrom origin.entry (planned project.now capacities.now)) }
-    ensures refused { IfErr result (Refuses
-        (TellsNotMade origin.entry (planned project.now capacities.now))) }
-{
-    match origin {
-        Origin::Rule(name) => schedule_by(alloc, name, project, capacities),
-        Origin::Starts(listed) => schedule_listed(alloc, listed, project, capacities),
-    }
+    schedule_by_rule(alloc, instance, rule)
 }

@@ -11,6 +11,8 @@ ghost use Rattle.plan_cli.specs.BestRun.{IsBestTableOf, TellsWhyNoBest};
 ghost use Rattle.plan_cli.specs.BestProjectRun.{IsBestProjectTableOf, TellsWhyNoBestProject};
 ghost use Rattle.plan_cli.specs.Tasks.{IsLineOf, ShowsTask};
 
+use crate::capacities::Capacity;
+use crate::documents::Subject;
 use crate::tasks::{Rows, Task, shown_text};
 use crate::watchers::{Log, ProofWatcher, SolveWatcher, Unlogged, Unwatched};
 use plan_errors::{CliFault, read_file, write_text};
@@ -90,7 +92,23 @@ pub fn cpm_run<R: Source, W: Sink>(
     )
 }
 
-/// Runs [`Task::Schedule`].
+// Returns the task of a project's schedule by a rule.
+fn schedule_task<'a>(rule: &'a str, capacities: &'a [Capacity<'a>]) -> Task<'a>
+    ensures { result ≡ Task.Schedule rule.entry (Subject.Project capacities.entry) }
+{
+    let subject = Subject::Project(capacities);
+    Task::Schedule { rule, subject }
+}
+
+// Returns the task of a project's best schedule within a budget.
+fn best_task<'a>(budget: &'a str, capacities: &'a [Capacity<'a>]) -> Task<'a>
+    ensures { result ≡ Task.Best budget.entry (Subject.Project capacities.entry) }
+{
+    let subject = Subject::Project(capacities);
+    Task::Best { budget, subject }
+}
+
+/// Runs [`Task::Schedule`] on a project, with the capacities of its file.
 pub fn schedule_run<R: Source, W: Sink>(
     alloc: Global,
     rule: &str,
@@ -102,10 +120,7 @@ pub fn schedule_run<R: Source, W: Sink>(
 {
     run_task(
         alloc,
-        Task::Schedule {
-            rule,
-            capacities: &[],
-        },
+        schedule_task(rule, &[]),
         Rows::Plain,
         &mut Unwatched,
         &mut Unlogged,
@@ -114,7 +129,7 @@ pub fn schedule_run<R: Source, W: Sink>(
     )
 }
 
-/// Runs [`Task::Shop`].
+/// Runs [`Task::Schedule`] on a job shop.
 pub fn shop_run<R: Source, W: Sink>(
     alloc: Global,
     rule: &str,
@@ -126,9 +141,10 @@ pub fn shop_run<R: Source, W: Sink>(
         (IsShopTableOf rule.now instance.now) (TellsWhyNoShop rule.now instance.now)
         reader.old reader.new writer.old writer.new result }
 {
+    let subject = Subject::Shop(instance);
     run_task(
         alloc,
-        Task::Shop { rule, instance },
+        Task::Schedule { rule, subject },
         Rows::Plain,
         &mut Unwatched,
         &mut Unlogged,
@@ -137,7 +153,7 @@ pub fn shop_run<R: Source, W: Sink>(
     )
 }
 
-/// Runs [`Task::Best`].
+/// Runs [`Task::Best`] on a job shop.
 pub fn best_run<R: Source, W: Sink>(
     alloc: Global,
     budget: &str,
@@ -149,9 +165,10 @@ pub fn best_run<R: Source, W: Sink>(
         (IsBestTableOf budget.now instance.now) (TellsWhyNoBest budget.now instance.now)
         reader.old reader.new writer.old writer.new result }
 {
+    let subject = Subject::Shop(instance);
     run_task(
         alloc,
-        Task::Best { budget, instance },
+        Task::Best { budget, subject },
         Rows::Plain,
         &mut Unwatched,
         &mut Unlogged,
@@ -160,7 +177,7 @@ pub fn best_run<R: Source, W: Sink>(
     )
 }
 
-/// Runs [`Task::BestProject`].
+/// Runs [`Task::Best`] on a project, with the capacities of its file.
 pub fn best_project_run<R: Source, W: Sink>(
     alloc: Global,
     budget: &str,
@@ -173,10 +190,7 @@ pub fn best_project_run<R: Source, W: Sink>(
 {
     run_task(
         alloc,
-        Task::BestProject {
-            budget,
-            capacities: &[],
-        },
+        best_task(budget, &[]),
         Rows::Plain,
         &mut Unwatched,
         &mut Unlogged,

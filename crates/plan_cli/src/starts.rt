@@ -6,8 +6,10 @@ ghost use Rattle.plan_profile.specs.Usage.{IsInTime};
 ghost use Rattle.plan_shop.specs.Shop.{count_steps};
 ghost use Rattle.plan_report.specs.StartsText.{SaysStarts, activity_sheet, step_sheet};
 ghost use Rattle.plan_errors.specs.Output.{Refuses};
+ghost use Rattle.plan_cli.specs.Documents.{count_of as plan_count, sheet_of};
 ghost use Rattle.plan_cli.specs.Starts as spec;
 
+use crate::documents::Plan;
 use plan_errors::{CliFault, refusal_by};
 use plan_gantt::file_fault_text;
 use plan_net::Network;
@@ -58,12 +60,8 @@ pub(crate) fn read_starts(
     read_starts_text(alloc, network, text).map_err(|error| read_refusal(alloc, error))
 }
 
-/// Reads the starts of a job shop's steps, in flat order.
-pub(crate) fn read_shop_starts(
-    alloc: Global,
-    shop: &Shop,
-    text: &[u8],
-) -> Result<Vec<u64>, CliFault>
+// Reads the starts of a job shop's steps, in flat order.
+fn read_shop_starts(alloc: Global, shop: &Shop, text: &[u8]) -> Result<Vec<u64>, CliFault>
     ensures said { IfOk result (λ starts.
         SaysStarts (step_sheet shop.now) text.now starts.items) }
     ensures whole { IfOk result (λ starts. length starts.items ≡ count_steps shop.now) }
@@ -71,4 +69,18 @@ pub(crate) fn read_shop_starts(
     ensures refused { IfErr result (Refuses (spec.TellsNoStarts (step_sheet shop.now) text.now)) }
 {
     read_shop_starts_text(alloc, shop, text).map_err(|error| read_refusal(alloc, error))
+}
+
+/// Reads the starts of a plan's activities or steps.
+pub(crate) fn starts_of(alloc: Global, plan: &Plan<'_>, text: &[u8]) -> Result<Vec<u64>, CliFault>
+    ensures said { IfOk result (λ starts.
+        SaysStarts (sheet_of plan.now) text.now starts.items) }
+    ensures whole { IfOk result (λ starts. length starts.items ≡ plan_count plan.now) }
+    ensures in_time { IfOk result (λ starts. All IsInTime starts.items) }
+    ensures refused { IfErr result (Refuses (spec.TellsNoStarts (sheet_of plan.now) text.now)) }
+{
+    match plan {
+        Plan::Project(instance) => read_starts(alloc, instance.network(), text),
+        Plan::Shop(shop) => read_shop_starts(alloc, shop, text),
+    }
 }

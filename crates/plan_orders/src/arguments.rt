@@ -74,8 +74,14 @@ enum Form {
     ListCapacity,
     /// An option with the name of a file to write. It is for projects only.
     Output,
-    /// A name that isn't given if the option `starts` is.
+    /// A name that isn't given if the option `starts` or `solve` is.
     NameUnlessStarts,
+    /// An option that shows the schedule of a search. The command then has no rule.
+    Solve,
+    /// The same for a report.
+    ReportSolve,
+    /// An option with the time limit of that search in seconds.
+    SolveSeconds,
     /// An option with the name of a file of starts.
     Starts,
     /// An option with the name of a file of holidays.
@@ -228,6 +234,24 @@ const STARTS: Argument = Argument {
     form: Form::Starts,
     help: "show the schedule with the start times in this file, or - for standard input; \
         leave out RULE",
+};
+
+const SOLVE: Argument = Argument {
+    name: "solve",
+    form: Form::Solve,
+    help: "show the schedule that plan solve finds; leave out RULE",
+};
+
+const REPORT_SOLVE: Argument = Argument {
+    name: "solve",
+    form: Form::ReportSolve,
+    help: "show the schedule that plan solve finds, and its lower bound",
+};
+
+const SOLVE_SECONDS: Argument = Argument {
+    name: "seconds",
+    form: Form::SolveSeconds,
+    help: "with --solve: time limit in seconds, 1 to 86400 [default: 10]",
 };
 
 const HOLIDAYS: Argument = Argument {
@@ -474,12 +498,15 @@ const SCHEDULE_COMMANDS: [Entry; 4] = [
             plan chart lft examples/house.sm\n  \
             plan chart mwkr examples/shops.txt ft06\n  \
             plan chart --starts examples/starts.txt examples/six.sm\n  \
+            plan chart --solve --seconds 60 examples/house.sm\n  \
             plan chart --svg lft examples/house.sm",
         arguments: &[
             RULE,
             FILE_UNLESS_STARTS,
             INSTANCE_IF_SHOP,
             STARTS,
+            SOLVE,
+            SOLVE_SECONDS,
             CAPACITY_IF_PROJECT,
             NAMES,
             SVG,
@@ -510,6 +537,8 @@ const SCHEDULE_COMMANDS: [Entry; 4] = [
             FILE_UNLESS_STARTS,
             INSTANCE_IF_SHOP,
             STARTS,
+            SOLVE,
+            SOLVE_SECONDS,
             HOLIDAYS,
             CAPACITY_IF_PROJECT,
             NAMES,
@@ -523,6 +552,7 @@ const SCHEDULE_COMMANDS: [Entry; 4] = [
             plan report examples/house.sm\n  \
             plan report --rule slk --start 2024-03-01 --days mon-fri examples/house.sm\n  \
             plan report --starts examples/starts.txt examples/six.sm\n  \
+            plan report --solve examples/house.sm\n  \
             plan report --by job --title Printing examples/shops.txt printing",
         arguments: &[
             FILE,
@@ -538,6 +568,8 @@ const SCHEDULE_COMMANDS: [Entry; 4] = [
                 help: "show the schedule with the start times in this file, \
                     or - for standard input",
             },
+            REPORT_SOLVE,
+            SOLVE_SECONDS,
             Argument {
                 name: "start",
                 form: Form::ReportStart,
@@ -789,11 +821,24 @@ fn arg_of<'a>(alloc: Global, argument: &Argument) -> Result<Arg<'a>, AllocError>
             .value_name("NAME=N")
             .action(ArgAction::Append)
             .conflicts_with("shop")?,
-        Form::NameUnlessStarts => arg.required_unless_present("starts")?,
+        Form::NameUnlessStarts => arg.required_unless_present_any(&["starts", "solve"])?,
         Form::Starts => arg
             .long(argument.name)
             .value_name("STARTS")
             .conflicts_with("INSTANCE")?,
+        Form::Solve => arg
+            .long(argument.name)
+            .action(ArgAction::SetTrue)
+            .conflicts_with_all(&["starts", "INSTANCE"])?,
+        Form::ReportSolve => arg
+            .long(argument.name)
+            .action(ArgAction::SetTrue)
+            .conflicts_with_all(&["starts", "rule"])?,
+        Form::SolveSeconds => arg
+            .long(argument.name)
+            .value_name("S")
+            .value_parser(value_parser!(u32).range(1..=86400))
+            .requires_arg("solve")?,
         Form::Holidays => arg.long(argument.name).value_name("HOLIDAYS"),
         Form::Folder => arg.long(argument.name).value_name("FOLDER"),
         Form::Keep => arg

@@ -29,7 +29,7 @@ fn with_origin<'a>(context: Context<'a>, origin: Origin<'a>) -> Context<'a> {
             rule: Some(rule),
             ..context
         },
-        Origin::Starts(_) => context,
+        Origin::Starts(_) | Origin::Solved { .. } => context,
     }
 }
 
@@ -46,11 +46,11 @@ fn with_dates<'a>(context: Context<'a>, dates: Dates<'a>) -> Context<'a> {
 fn task_context<'a>(task: Task<'a>, file: &'a str) -> Context<'a> {
     let context = file_context(file);
     match task {
-        Task::Schedule { rule, .. } | Task::Shop { rule, .. } => Context {
+        Task::Schedule { rule, .. } => Context {
             rule: Some(rule),
             ..context
         },
-        Task::Best { budget, .. } | Task::BestProject { budget, .. } => Context {
+        Task::Best { budget, .. } => Context {
             limit: Some(budget),
             ..context
         },
@@ -58,10 +58,8 @@ fn task_context<'a>(task: Task<'a>, file: &'a str) -> Context<'a> {
             limit: Some(nodes),
             ..context
         },
-        Task::Chart { origin, .. } | Task::ShopChart { origin, .. } => with_origin(context, origin),
-        Task::Days { origin, dates, .. } | Task::ShopDays { origin, dates, .. } => {
-            with_dates(with_origin(context, origin), dates)
-        }
+        Task::Chart { origin, .. } => with_origin(context, origin),
+        Task::Days { origin, dates, .. } => { with_dates(with_origin(context, origin), dates) }
         _ => context,
     }
 }
@@ -109,6 +107,7 @@ fn print_context<'a>(print: Print<'a>) -> Context<'a> {
             context.starts = Some(shown_name(name));
             context.unread = None;
         }
+        NamedOrigin::Solved { .. } => {}
     }
     if let Some(name) = print.holidays {
         context.holidays = Some(shown_name(name));
@@ -165,7 +164,7 @@ impl<'a> FileOrder<'a> {
                 texts,
                 ..
             } => texts_context(task, file, texts),
-            FileOrder::Print(print) => print_context(print),
+            FileOrder::Print(print, _) => print_context(print),
             FileOrder::New(_) | FileOrder::Explain(_) => Context::NONE,
         }
     }
@@ -178,7 +177,7 @@ impl<'a> FileOrder<'a> {
             | FileOrder::Watched(_, file)
             | FileOrder::Solve { file, .. }
             | FileOrder::Texts { file, .. } => file,
-            FileOrder::Print(print) => print.file,
+            FileOrder::Print(print, _) => print.file,
             FileOrder::New(_) | FileOrder::Explain(_) => return None,
         };
         if file == "-" { None } else { Some(file) }
@@ -189,7 +188,7 @@ impl<'a> FileOrder<'a> {
         let mut names = Vec::new(alloc);
         match *self {
             FileOrder::Texts { texts, .. } => push_texts(&mut names, texts)?,
-            FileOrder::Print(print) => push_print_files(&mut names, print)?,
+            FileOrder::Print(print, _) => push_print_files(&mut names, print)?,
             _ => {}
         }
         Ok(names)

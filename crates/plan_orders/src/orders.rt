@@ -1,9 +1,9 @@
 //! The orders that the arguments of the command line spell.
 
 use clap::ArgMatches;
-use plan_cli::{Capacity, Dates, NamedText, Origin, Pair, Role, Rows, Task, Template};
+use plan_cli::{Capacity, Dates, NamedText, Origin, Pair, Role, Rows, Subject, Task, Template};
 use plan_formats::Format;
-use plan_print::{NamedOrigin, Print, Sheet, Subject};
+use plan_print::{NamedOrigin, Print, Sheet};
 use plan_solve::MOST_CONFLICTS;
 use plan_table::Override;
 use std::alloc::{AllocError, Global};
@@ -39,9 +39,11 @@ pub enum FileOrder<'a> {
         file: &'a str,
         texts: &'a [NamedText<'a>],
         is_status: bool,
+        /// The time limit of a search in seconds, if there is one.
+        seconds: Option<u32>,
     },
-    /// A sheet to print.
-    Print(Print<'a>),
+    /// A sheet to print, with the time limit of a search in seconds, if there is one.
+    Print(Print<'a>, Option<u32>),
     /// A table to start from.
     New(Template),
     /// The meaning of an error line, which is given as one argument or as several.
@@ -70,7 +72,7 @@ fn is_standard(texts: &[NamedText<'_>], role: Role) -> bool {
 fn print_input(print: &Print<'_>) -> Option<(&'static str, &'static str)> {
     let starts = match print.origin {
         NamedOrigin::Starts(name) => name,
-        NamedOrigin::Rule(_) => "",
+        NamedOrigin::Rule(_) | NamedOrigin::Solved { .. } => "",
     };
     match (print.file, starts, print.holidays) {
         ("-", "-", _) => Some(("FILE", "STARTS")),
@@ -83,7 +85,7 @@ fn print_input(print: &Print<'_>) -> Option<(&'static str, &'static str)> {
 impl<'a> FileOrder<'a> {
     /// Returns the names of two arguments that are standard input, if there are two.
     pub fn shared_input(&self) -> Option<(&'static str, &'static str)> {
-        if let FileOrder::Print(print) = *self {
+        if let FileOrder::Print(print, _) = *self {
             return print_input(&print);
         }
         let FileOrder::Texts { file, texts, .. } = *self else {
@@ -156,39 +158,6 @@ pub enum Order<'a> {
     Office(OfficeOrder<'a>),
 }
 
-// Returns the task of `chart`: that of a job shop if an instance is given, else of a project.
-fn chart_task<'a>(
-    origin: Origin<'a>,
-    instance: Option<&'a str>,
-    capacities: &'a [Capacity<'a>],
-) -> Task<'a> {
-    match instance {
-        Some(instance) => Task::ShopChart { origin, instance },
-        None => Task::Chart { origin, capacities },
-    }
-}
-
-// Returns the task of `days`: that of a job shop if an instance is given, else of a project.
-fn days_task<'a>(
-    origin: Origin<'a>,
-    dates: Dates<'a>,
-    instance: Option<&'a str>,
-    capacities: &'a [Capacity<'a>],
-) -> Task<'a> {
-    match instance {
-        Some(instance) => Task::ShopDays {
-            origin,
-            dates,
-            instance,
-        },
-        None => Task::Days {
-            origin,
-            dates,
-            capacities,
-        },
-    }
-}
-
 // Returns the task of the command with this name.
 fn task_of<'a>(
     name: &str,
@@ -200,19 +169,19 @@ fn task_of<'a>(
         "names" => Some(Task::Names),
         "schedule" => Some(Task::Schedule {
             rule: arguments.get_str("RULE")?,
-            capacities,
+            subject: Subject::Project(capacities),
         }),
-        "shop" => Some(Task::Shop {
+        "shop" => Some(Task::Schedule {
             rule: arguments.get_str("RULE")?,
-            instance: arguments.get_str("INSTANCE")?,
+            subject: Subject::Shop(arguments.get_str("INSTANCE")?),
         }),
         "best" => Some(Task::Best {
             budget: arguments.get_str("BUDGET")?,
-            instance: arguments.get_str("INSTANCE")?,
+            subject: Subject::Shop(arguments.get_str("INSTANCE")?),
         }),
-        "best-project" => Some(Task::BestProject {
+        "best-project" => Some(Task::Best {
             budget: arguments.get_str("BUDGET")?,
-            capacities,
+            subject: Subject::Project(capacities),
         }),
         _ => None,
     }
@@ -332,16 +301,8 @@ fn solve_task<'a>(
     conflicts: u64,
     capacities: &'a [Capacity<'a>],
 ) -> Task<'a> {
-    match arguments.get_str("INSTANCE") {
-        Some(instance) => Task::SolveShop {
-            conflicts,
-            instance,
-        },
-        None => Task::Solve {
-            conflicts,
-            capacities,
-        },
-    }
+    let subject = subject_of(arguments.get_str("INSTANCE"), capacities);
+    Task::Solve { conflicts, subject }
 }
 
 // Returns the order of `solve`. A conflict limit replaces the default time limit.
@@ -519,10 +480,63 @@ fn texts_order<'a>(task: Task<'a>, file: &'a str, texts: &'a [NamedText<'a>]) ->
         file,
         texts,
         is_status: false,
+        seconds: None,
     }
 }
 
-// Returns the order of `chart`. With starts, FILE is the first argument and INSTANCE the second.
+// Returns the order of such a task, with the time limit of a search if the schedule is that of one.
+fn schedule_order<'a>(
+    task: Task<'a>,
+    file: &'a str,
+    texts: &'a [NamedText<'a>],
+    seconds: Option<u32>,
+) -> FileOrder<'a> {
+    FileOrder::Texts {
+        task,
+        file,
+        texts,
+        is_status: false,
+        seconds,
+    }
+}
+
+// Returns the time limit of the search of `--solve`.
+fn seconds_of(arguments: &ArgMatches<'_>) -> Option<u32> {
+    if arguments.get_flag("solve") {
+        Some(arguments.get_one("seconds").unwrap_or(DEFAULT_SECONDS))
+    } else {
+        None
+    }
+}
+
+// Returns the origin of a schedule that has no rule: a list of starts, or a search. The arguments
+// are then one place further on.
+fn origin_without_rule<'a>(arguments: &'a ArgMatches<'_>) -> Option<Origin<'a>> {
+    if arguments.get_str("starts").is_some() {
+        return Some(Origin::Starts(&[]));
+    }
+    if arguments.get_flag("solve") {
+        return Some(Origin::Solved {
+            conflicts: MOST_CONFLICTS,
+        });
+    }
+    None
+}
+
+// Returns the same for a sheet, with the name of the file of starts.
+fn named_origin<'a>(arguments: &'a ArgMatches<'_>) -> Option<NamedOrigin<'a>> {
+    if let Some(starts) = arguments.get_str("starts") {
+        return Some(NamedOrigin::Starts(starts));
+    }
+    if arguments.get_flag("solve") {
+        return Some(NamedOrigin::Solved {
+            conflicts: MOST_CONFLICTS,
+        });
+    }
+    None
+}
+
+// Returns the order of `chart`. Without a rule, FILE is the first argument and INSTANCE the second.
 fn chart_order<'a>(arguments: &'a ArgMatches<'_>, lists: Lists<'a>) -> Option<FileOrder<'a>> {
     let Lists {
         capacities,
@@ -530,13 +544,14 @@ fn chart_order<'a>(arguments: &'a ArgMatches<'_>, lists: Lists<'a>) -> Option<Fi
         ..
     } = lists;
     let rule = arguments.get_str("RULE")?;
-    if arguments.get_str("starts").is_some() {
-        let instance = arguments.get_str("FILE");
-        let task = chart_task(Origin::Starts(&[]), instance, capacities);
-        return Some(texts_order(task, rule, texts));
+    if let Some(origin) = origin_without_rule(arguments) {
+        let subject = subject_of(arguments.get_str("FILE"), capacities);
+        let task = Task::Chart { origin, subject };
+        return Some(schedule_order(task, rule, texts, seconds_of(arguments)));
     }
-    let instance = arguments.get_str("INSTANCE");
-    let task = chart_task(Origin::Rule(rule), instance, capacities);
+    let subject = subject_of(arguments.get_str("INSTANCE"), capacities);
+    let origin = Origin::Rule(rule);
+    let task = Task::Chart { origin, subject };
     Some(texts_order(task, arguments.get_str("FILE")?, texts))
 }
 
@@ -549,7 +564,7 @@ fn dates_of<'a>(start: &'a str, marks: &'a str) -> Dates<'a> {
     }
 }
 
-// Returns the order of `days`. With starts, START is the first argument, and so on.
+// Returns the order of `days`. Without a rule, START is the first argument, and so on.
 fn days_order<'a>(arguments: &'a ArgMatches<'_>, lists: Lists<'a>) -> Option<FileOrder<'a>> {
     let Lists {
         capacities,
@@ -559,15 +574,19 @@ fn days_order<'a>(arguments: &'a ArgMatches<'_>, lists: Lists<'a>) -> Option<Fil
     let rule = arguments.get_str("RULE")?;
     let start = arguments.get_str("START")?;
     let marks = arguments.get_str("MARKS")?;
-    if arguments.get_str("starts").is_some() {
-        let instance = arguments.get_str("FILE");
-        let dates = dates_of(rule, start);
-        let task = days_task(Origin::Starts(&[]), dates, instance, capacities);
-        return Some(texts_order(task, marks, texts));
+    if let Some(origin) = origin_without_rule(arguments) {
+        let task = Task::Days {
+            origin,
+            dates: dates_of(rule, start),
+            subject: subject_of(arguments.get_str("FILE"), capacities),
+        };
+        return Some(schedule_order(task, marks, texts, seconds_of(arguments)));
     }
-    let instance = arguments.get_str("INSTANCE");
-    let dates = dates_of(start, marks);
-    let task = days_task(Origin::Rule(rule), dates, instance, capacities);
+    let task = Task::Days {
+        origin: Origin::Rule(rule),
+        dates: dates_of(start, marks),
+        subject: subject_of(arguments.get_str("INSTANCE"), capacities),
+    };
     Some(texts_order(task, arguments.get_str("FILE")?, texts))
 }
 
@@ -576,15 +595,15 @@ fn check_order<'a>(
     arguments: &'a ArgMatches<'_>,
     texts: &'a [NamedText<'a>],
 ) -> Option<FileOrder<'a>> {
-    let starts = &[];
     Some(FileOrder::Texts {
-        task: match arguments.get_str("INSTANCE") {
-            Some(instance) => Task::ShopCheck { starts, instance },
-            None => Task::Check { starts },
+        task: Task::Check {
+            starts: &[],
+            subject: subject_of(arguments.get_str("INSTANCE"), &[]),
         },
         file: arguments.get_str("FILE")?,
         texts,
         is_status: arguments.get_flag("status"),
+        seconds: None,
     })
 }
 
@@ -599,13 +618,9 @@ fn slack_order<'a>(arguments: &'a ArgMatches<'_>, lists: Lists<'a>) -> Option<Fi
 
 // Returns the order of `compare`.
 fn compare_order<'a>(arguments: &'a ArgMatches<'_>, lists: Lists<'a>) -> Option<FileOrder<'a>> {
-    let starts = Pair { a: &[], b: &[] };
-    let task = match arguments.get_str("INSTANCE") {
-        Some(instance) => Task::ShopCompare { starts, instance },
-        None => Task::Compare {
-            starts,
-            capacities: lists.capacities,
-        },
+    let task = Task::Compare {
+        starts: Pair { a: &[], b: &[] },
+        subject: subject_of(arguments.get_str("INSTANCE"), lists.capacities),
     };
     Some(texts_order(task, arguments.get_str("FILE")?, lists.texts))
 }
@@ -618,18 +633,18 @@ fn subject_of<'a>(instance: Option<&'a str>, capacities: &'a [Capacity<'a>]) -> 
     }
 }
 
-// Returns the order of `days` for a calendar file with a list of starts: START is the first
-// argument, and so on.
+// Returns the order of `days` for a calendar file without a rule: START is the first argument, and
+// so on.
 fn listed_events<'a>(
     arguments: &'a ArgMatches<'_>,
-    starts: &'a str,
+    origin: NamedOrigin<'a>,
     capacities: &'a [Capacity<'a>],
 ) -> Option<Print<'a>> {
     let (start, marks) = (arguments.get_str("RULE")?, arguments.get_str("START")?);
     Some(Print {
         sheet: Sheet::Events(dates_of(start, marks)),
         subject: subject_of(arguments.get_str("FILE"), capacities),
-        origin: NamedOrigin::Starts(starts),
+        origin,
         holidays: arguments.get_str("holidays"),
         file: arguments.get_str("MARKS")?,
     })
@@ -640,8 +655,8 @@ fn events_order<'a>(
     arguments: &'a ArgMatches<'_>,
     capacities: &'a [Capacity<'a>],
 ) -> Option<Print<'a>> {
-    if let Some(starts) = arguments.get_str("starts") {
-        return listed_events(arguments, starts, capacities);
+    if let Some(origin) = named_origin(arguments) {
+        return listed_events(arguments, origin, capacities);
     }
     let (start, marks) = (arguments.get_str("START")?, arguments.get_str("MARKS")?);
     Some(Print {
@@ -665,18 +680,18 @@ fn title_of<'a>(instance: Option<&'a str>, file: &'a str) -> &'a str {
     }
 }
 
-// Returns the order of `chart` for an SVG image with a list of starts: FILE is the first argument,
+// Returns the order of `chart` for an SVG image without a rule: FILE is the first argument,
 // INSTANCE the second.
 fn listed_image<'a>(
     arguments: &'a ArgMatches<'_>,
-    starts: &'a str,
+    origin: NamedOrigin<'a>,
     capacities: &'a [Capacity<'a>],
 ) -> Option<Print<'a>> {
     let (file, instance) = (arguments.get_str("RULE")?, arguments.get_str("FILE"));
     Some(Print {
         sheet: Sheet::Chart(title_of(instance, file)),
         subject: subject_of(instance, capacities),
-        origin: NamedOrigin::Starts(starts),
+        origin,
         holidays: None,
         file,
     })
@@ -687,8 +702,8 @@ fn image_order<'a>(
     arguments: &'a ArgMatches<'_>,
     capacities: &'a [Capacity<'a>],
 ) -> Option<Print<'a>> {
-    if let Some(starts) = arguments.get_str("starts") {
-        return listed_image(arguments, starts, capacities);
+    if let Some(origin) = named_origin(arguments) {
+        return listed_image(arguments, origin, capacities);
     }
     let (file, instance) = (arguments.get_str("FILE")?, arguments.get_str("INSTANCE"));
     Some(Print {
@@ -702,8 +717,8 @@ fn image_order<'a>(
 
 // Returns the origin of the schedule of `report`. The default rule is `lft`, for a job shop `mwkr`.
 fn report_origin<'a>(arguments: &'a ArgMatches<'_>, is_shop: bool) -> NamedOrigin<'a> {
-    if let Some(starts) = arguments.get_str("starts") {
-        return NamedOrigin::Starts(starts);
+    if let Some(origin) = named_origin(arguments) {
+        return origin;
     }
     match arguments.get_str("rule") {
         Some(rule) => NamedOrigin::Rule(rule),
@@ -771,7 +786,7 @@ fn file_order<'a>(
     lists: Lists<'a>,
 ) -> Option<FileOrder<'a>> {
     if let Some(print) = print_order(name, arguments, lists.capacities) {
-        return Some(FileOrder::Print(print));
+        return Some(FileOrder::Print(print, seconds_of(arguments)));
     }
     match name {
         "import" => import_order(arguments, lists.overrides),

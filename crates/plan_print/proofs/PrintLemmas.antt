@@ -6,6 +6,7 @@ use Rattle.plan_errors.specs.declared.fault.CliFault.{CliFault}
 use Rattle.plan_errors.specs.declared.fault.CliFault.TheVariants as cli
 use Rattle.plan_cli.specs.Tasks.{AreRead, bytes_named}
 use Rattle.plan_cli.specs.NamedTexts.{DoesWith}
+use Rattle.plan_cli.specs.declared.documents.Subject.{Subject}
 use Rattle.plan_cli.specs.declared.origins.Origin.{Origin}
 use Rattle.plan_cli.specs.declared.origins.Origin.TheVariants as origin
 use Rattle.plan_print.specs.Prints.{PrintsFrom, PrintsNamed, PrintsWith, Prints, sheet_with}
@@ -13,7 +14,6 @@ use Rattle.plan_print.specs.declared.prints.NamedOrigin.{NamedOrigin}
 use Rattle.plan_print.specs.declared.prints.NamedOrigin.TheVariants as named
 use Rattle.plan_print.specs.declared.prints.Print.{Print}
 use Rattle.plan_print.specs.declared.sheets.Sheet.{Sheet}
-use Rattle.plan_print.specs.declared.sheets.Subject.{Subject}
 
 -- what holds of the bytes that were read, if the known bytes are others and the fact implies another
 does_as : (known other : Option (List ℕ)) (r : Result (Unit {0}) CliFault) (Does Other : Bor (List ℕ) → Type 0)
@@ -43,6 +43,7 @@ named_same f g same s of (named.Starts name) file taken after r p =
     does_as (f name.now) (g name.now) r (λ starts. PrintsFrom (f file) s of (origin.Starts starts) taken after r)
     (λ starts. PrintsFrom (g file) s of (origin.Starts starts) taken after r) (same name.now)
     (λ starts q. from_same (f file) (g file) s of (origin.Starts starts) taken after r (same file) q) p
+named_same f g same s of (named.Solved conflicts) file taken after r p = from_same (f file) (g file) s of (origin.Solved conflicts) taken after r (same file) p
 
 with_same : (f g : List ℕ → Option (List ℕ)) → AreSame f g
     → (print : Print) (holidays : Option (Bor (List ℕ))) (taken after : Option (List ℕ)) (r : Result (Unit {0}) CliFault)

@@ -1,7 +1,6 @@
 pub mod Digests
 pub mod Margins
-pub mod ProjectSheets
-pub mod ShopSheets
+pub mod Sheets
 pub mod Prints
 pub use Rattle.plan_cli.specs.Tasks
 pub use Rattle.plan_errors.specs.Output

@@ -4,31 +4,26 @@ use Rattle.std.specs.Prelude.{ℕ, List, Option, Some, None, Result}
 use denote.Ref.{Bor}
 use Rattle.plan_errors.specs.Output.{Writes}
 use Rattle.plan_errors.specs.declared.fault.CliFault.{CliFault}
-use Rattle.plan_cli.specs.Plans.{IsOfProject, RefusesFile, IsOfShop, RefusesShop}
+use Rattle.plan_cli.specs.Documents.{IsOfSubject, RefusesSubject}
 use Rattle.plan_cli.specs.NamedTexts.{DoesWith, dates_with}
 use Rattle.plan_cli.specs.declared.calendars.Dates.{Dates}
+use Rattle.plan_cli.specs.declared.documents.Subject.{Subject}
 use Rattle.plan_cli.specs.declared.origins.Origin.{Origin}
 use Rattle.plan_cli.specs.declared.origins.Origin.TheVariants as origin
-use Rattle.plan_print.specs.ProjectSheets.{IsSheetFrom, TellsNoSheetFrom}
-use Rattle.plan_print.specs.ShopSheets.{IsShopSheetFrom, TellsNoShopSheetFrom}
+use Rattle.plan_print.specs.Sheets.{IsSheetFrom, TellsNoSheetFrom}
 use Rattle.plan_print.specs.declared.sheets.Sheet.{Sheet}
 use Rattle.plan_print.specs.declared.sheets.Sheet.TheVariants as sheet
-use Rattle.plan_print.specs.declared.sheets.Subject.{Subject}
-use Rattle.plan_print.specs.declared.sheets.Subject.TheVariants as subject
 use Rattle.plan_print.specs.declared.prints.NamedOrigin.{NamedOrigin}
 use Rattle.plan_print.specs.declared.prints.NamedOrigin.TheVariants as named
 use Rattle.plan_print.specs.declared.prints.Print.{Print}
 
--- a text is a sheet of the project in a file, or of an instance in a job shop file
+-- a text is a sheet of the project or the job shop in a file
 abbrev pub IsSheet : Sheet → Subject → Origin → List ℕ → List ℕ → Type 0
-IsSheet s (subject.Project given) from file = IsOfProject given.now (IsSheetFrom from s file) file
-IsSheet s (subject.Shop instance) from file =
-    IsOfShop instance.now (IsShopSheetFrom from s instance.now file) file
+IsSheet s of from file = IsOfSubject of (IsSheetFrom from s of file) file
 
 -- a line gives the first check that a file fails, or else refuses its sheet
 abbrev pub RefusesSheet : Sheet → Subject → Origin → List ℕ → List ℕ → Type 0
-RefusesSheet s (subject.Project given) from = RefusesFile given.now (TellsNoSheetFrom from s)
-RefusesSheet s (subject.Shop instance) from = RefusesShop instance.now (TellsNoShopSheetFrom from s)
+RefusesSheet s of from = RefusesSubject of (TellsNoSheetFrom from s)
 
 -- dates with the holidays in a text, if there are dates
 abbrev pub some_with : Option Dates → Bor (List ℕ) → Option Dates
@@ -48,7 +43,7 @@ abbrev pub PrintsFrom : Option (List ℕ) → Sheet → Subject → Origin → O
 PrintsFrom bytes s of from taken after result = DoesWith bytes result (λ file.
     Writes (IsSheet s of from file.now) (RefusesSheet s of from file.now) taken after result)
 
--- the same by the rule with a name, or for the starts in the file with a name
+-- the same by the rule with a name, for the starts in the file with a name, or by a search
 abbrev pub PrintsNamed : (List ℕ → Option (List ℕ)) → Sheet → Subject → NamedOrigin → List ℕ
     → Option (List ℕ) → Option (List ℕ) → Result (Unit {0}) CliFault → Type 0
 PrintsNamed bytes_of s of (named.Rule name) file taken after result =
@@ -56,6 +51,8 @@ PrintsNamed bytes_of s of (named.Rule name) file taken after result =
 PrintsNamed bytes_of s of (named.Starts name) file taken after result =
     DoesWith (bytes_of name.now) result (λ starts.
     PrintsFrom (bytes_of file) s of (origin.Starts starts) taken after result)
+PrintsNamed bytes_of s of (named.Solved conflicts) file taken after result =
+    PrintsFrom (bytes_of file) s of (origin.Solved conflicts) taken after result
 
 -- the same with the holidays in the file with a name, if there is one
 abbrev pub PrintsWith : (List ℕ → Option (List ℕ)) → Print → Option (Bor (List ℕ))

@@ -7,11 +7,8 @@ mod digests;
 mod events;
 mod margins;
 mod prints;
-mod projects;
 mod reports;
 mod sheets;
-mod shop_reports;
-mod shops;
 
 pub use prints::{NamedOrigin, Print, print_on_files, print_on_named};
-pub use sheets::{Sheet, Subject};
+pub use sheets::Sheet;

@@ -7,8 +7,10 @@ ghost use Rattle.plan_cli.specs.NamedTexts.{dates_with};
 ghost use Rattle.plan_cli.specs.Tasks.{bytes_behind};
 ghost use Rattle.plan_print.specs.Prints as spec;
 
-use crate::sheets::{Sheet, Subject, sheet_text};
-use plan_cli::{CliFault, Dates, Inputs, Origin, SystemInputs, read_named};
+use crate::sheets::{Sheet, sheet_text};
+use plan_cli::{
+    CliFault, Dates, Inputs, Origin, ProofWatcher, SolveWatcher, Subject, SystemInputs, read_named,
+};
 use plan_errors::write_text;
 use plan_io::Sink;
 use std::alloc::Global;
@@ -21,6 +23,8 @@ pub enum NamedOrigin<'a> {
     Rule(&'a str),
     /// The feasible schedule whose starts the file with this name lists.
     Starts(&'a str),
+    /// The schedule that a search of at most this many conflicts finds.
+    Solved { conflicts: u64 },
 }
 
 /// A sheet to print, and the names of the files that it is made from. One of them may be `-` for
@@ -77,13 +81,14 @@ fn sheet_with<'a>(sheet: Sheet<'a>, holidays: &'a [u8]) -> Sheet<'a>
 }
 
 // Prints a sheet of the file with this name.
-fn print_from<I: Inputs, W: Sink>(
+fn print_from<I: Inputs, W: Sink, V: ProofWatcher + SolveWatcher>(
     alloc: Global,
     inputs: &I,
     sheet: Sheet<'_>,
     subject: Subject<'_>,
     origin: Origin<'_>,
     file: &str,
+    watcher: &mut V,
     writer: &mut W,
 ) -> Result<(), CliFault>
     ensures does { spec.PrintsFrom (bytes_behind I.Inputs inputs.now file.now)
@@ -94,19 +99,20 @@ fn print_from<I: Inputs, W: Sink>(
     ensures output { IsErrOf result CliFault.Output → HasSinkFailed W.Sink writer.old writer.new }
 {
     let bytes = read_named(alloc, inputs, file)?;
-    let text = sheet_text(alloc, sheet, subject, origin, &bytes)?;
+    let text = sheet_text(alloc, sheet, subject, origin, &bytes, watcher)?;
     write_text(writer, text.as_bytes())
 }
 
 // Prints a sheet of the file with this name. If the schedule has its starts in a file, that one is
 // read first.
-fn print_by<I: Inputs, W: Sink>(
+fn print_by<I: Inputs, W: Sink, V: ProofWatcher + SolveWatcher>(
     alloc: Global,
     inputs: &I,
     sheet: Sheet<'_>,
     subject: Subject<'_>,
     origin: NamedOrigin<'_>,
     file: &str,
+    watcher: &mut V,
     writer: &mut W,
 ) -> Result<(), CliFault>
     ensures does { spec.PrintsNamed (bytes_behind I.Inputs inputs.now) sheet.entry subject.entry
@@ -125,27 +131,42 @@ fn print_by<I: Inputs, W: Sink>(
                 subject,
                 Origin::Rule(name),
                 file,
+                watcher,
+                writer,
+            )
+        }
+        NamedOrigin::Solved { conflicts } => {
+            print_from(
+                alloc,
+                inputs,
+                sheet,
+                subject,
+                Origin::Solved { conflicts },
+                file,
+                watcher,
                 writer,
             )
         }
         NamedOrigin::Starts(name) => {
             let starts = read_named(alloc, inputs, name)?;
             let origin = Origin::Starts(&starts);
-            print_from(alloc, inputs, sheet, subject, origin, file, writer)
+            print_from(alloc, inputs, sheet, subject, origin, file, watcher, writer)
         }
     }
 }
 
 /// Prints a sheet. The file of the holidays is read first, then that of the starts, then that of
-/// the project or the job shop. A file that can't be opened or read is [`CliFault::Input`].
+/// the project or the job shop. The watcher is called during a search, and can stop it. A file that
+/// can't be opened or read is [`CliFault::Input`].
 ///
 /// Nothing is written unless the whole sheet was made. If several errors apply, that of the file
 /// comes first, then those of the capacities, of the schedule, of the calendar, and of a day after
 /// 9999-12-31.
-pub fn print_on_named<I: Inputs, W: Sink>(
+pub fn print_on_named<I: Inputs, W: Sink, V: ProofWatcher + SolveWatcher>(
     alloc: Global,
     inputs: &I,
     print: Print<'_>,
+    watcher: &mut V,
     writer: &mut W,
 ) -> Result<(), CliFault>
     // The sheet is written for the bytes of these files.
@@ -165,7 +186,7 @@ pub fn print_on_named<I: Inputs, W: Sink>(
         file,
     } = print;
     let Some(name) = holidays else {
-        return print_by(alloc, inputs, sheet, subject, origin, file, writer);
+        return print_by(alloc, inputs, sheet, subject, origin, file, watcher, writer);
     };
     let days = read_named(alloc, inputs, name)?;
     print_by(
@@ -175,14 +196,16 @@ pub fn print_on_named<I: Inputs, W: Sink>(
         subject,
         origin,
         file,
+        watcher,
         writer,
     )
 }
 
 /// Calls [`print_on_named`] with the system's files and standard input.
-pub fn print_on_files<R: Files + Input + AllocGlobal, W: Sink>(
+pub fn print_on_files<R: Files + Input + AllocGlobal, W: Sink, V: ProofWatcher + SolveWatcher>(
     rt: &R,
     print: Print<'_>,
+    watcher: &mut V,
     writer: &mut W,
 ) -> Result<(), CliFault>
     // The sheet is written for the bytes that were read.
@@ -194,5 +217,5 @@ pub fn print_on_files<R: Files + Input + AllocGlobal, W: Sink>(
     ensures fine { OnOk result (W.faults writer.new ≡ W.faults writer.old) }
     ensures output { IsErrOf result CliFault.Output → HasSinkFailed W.Sink writer.old writer.new }
 {
-    print_on_named(rt.alloc(), &SystemInputs::new(rt), print, writer)
+    print_on_named(rt.alloc(), &SystemInputs::new(rt), print, watcher, writer)
 }

@@ -1,13 +1,21 @@
 //! The sheets of schedules.
 
-ghost use Rattle.plan_errors.specs.Output.{Refuses};
 ghost use Rattle.std.specs.Prelude.{IfErr};
+ghost use Rattle.plan_errors.specs.Output.{Refuses};
+ghost use Rattle.plan_cli.specs.Documents.{count_of};
 ghost use Rattle.plan_cli.specs.Run.{IfText};
-ghost use Rattle.plan_print.specs.Prints as spec;
+ghost use Rattle.plan_cli.specs.Scheduled.{CanBeShown};
+ghost use Rattle.plan_print.specs.Prints.{IsSheet, RefusesSheet};
+ghost use Rattle.plan_print.specs.Sheets as spec;
 
-use crate::projects::project_sheet;
-use crate::shops::shop_sheet;
-use plan_cli::{Capacity, CliFault, Dates, Origin};
+use crate::charts::chart_text;
+use crate::events::events_text;
+use crate::reports::report_text;
+use plan_cli::{
+    CliFault, Dates, Origin, Plan, ProofWatcher, Scheduled, SolveWatcher, Subject, Unlogged,
+    plan_of, read_document, schedule_from,
+};
+use plan_sheet::Heading;
 use std::alloc::Global;
 
 /// A sheet of a schedule.
@@ -32,30 +40,72 @@ pub enum Sheet<'a> {
     },
 }
 
-/// What has the schedule.
-#[derive(Clone, Copy, Debug, Drop)]
-pub enum Subject<'a> {
-    /// The project in a file, with these capacities in place of those of the file.
-    Project(&'a [Capacity<'a>]),
-    /// The instance with this name in a job shop file, or the only one if the name is `-`.
-    Shop(&'a str),
+// Returns a sheet of a plan's schedule, for the file of the plan.
+fn schedule_sheet(
+    alloc: Global,
+    sheet: Sheet<'_>,
+    subject: Subject<'_>,
+    file: &[u8],
+    plan: &Plan<'_>,
+    made: &Scheduled,
+) -> Result<String, CliFault>
+    requires { CanBeShown (count_of plan.now) made.now.schedule }
+    ensures made { IfText result (spec.IsSheetOf sheet.entry subject.entry file.now
+        plan.now made.now.schedule.starts.items made.now.lower) }
+    ensures refused { IfErr result (Refuses
+        (spec.HidesSheet sheet.entry plan.now made.now.schedule.starts.items)) }
+{
+    let schedule = &made.schedule;
+    match sheet {
+        Sheet::Events(dates) => events_text(alloc, dates, subject, file, plan, schedule),
+        Sheet::Chart(title) => chart_text(alloc, title, subject, file, plan, schedule),
+        Sheet::Report {
+            title,
+            dates,
+            by_job,
+        } => {
+            let lower = made.lower;
+            let heading = Heading { title, lower };
+            report_text(alloc, heading, dates, by_job, subject, file, plan, schedule)
+        }
+    }
 }
 
-/// Returns a sheet of the project or the job shop in a file.
-pub(crate) fn sheet_text(
+// Returns a sheet of a plan, for its file.
+fn plan_sheet<V: ProofWatcher + SolveWatcher>(
     alloc: Global,
     sheet: Sheet<'_>,
     subject: Subject<'_>,
     origin: Origin<'_>,
     file: &[u8],
+    plan: &Plan<'_>,
+    watcher: &mut V,
 ) -> Result<String, CliFault>
     ensures made { IfText result
-        (spec.IsSheet sheet.entry subject.entry origin.entry file.now) }
+        (spec.IsSheetFrom origin.entry sheet.entry subject.entry file.now plan.now) }
     ensures refused { IfErr result (Refuses
-        (spec.RefusesSheet sheet.entry subject.entry origin.entry file.now)) }
+        (spec.TellsNoSheetFrom origin.entry sheet.entry plan.now)) }
 {
-    match subject {
-        Subject::Project(given) => project_sheet(alloc, sheet, origin, given, file),
-        Subject::Shop(instance) => shop_sheet(alloc, sheet, origin, instance, file),
-    }
+    let made = schedule_from(alloc, origin, plan, watcher, &mut Unlogged)?;
+    schedule_sheet(alloc, sheet, subject, file, plan, &made)
+}
+
+/// Returns a sheet of the project or the job shop in a file. The watcher is called during a search,
+/// and can stop it.
+pub(crate) fn sheet_text<V: ProofWatcher + SolveWatcher>(
+    alloc: Global,
+    sheet: Sheet<'_>,
+    subject: Subject<'_>,
+    origin: Origin<'_>,
+    file: &[u8],
+    watcher: &mut V,
+) -> Result<String, CliFault>
+    ensures made { IfText result
+        (IsSheet sheet.entry subject.entry origin.entry file.now) }
+    ensures refused { IfErr result (Refuses
+        (RefusesSheet sheet.entry subject.entry origin.entry file.now)) }
+{
+    let document = read_document(alloc, subject, file)?;
+    let plan = plan_of(alloc, &document)?;
+    plan_sheet(alloc, sheet, subject, origin, file, &plan, watcher)
 }

@@ -1,5 +1,5 @@
 -- The markup of a report doesn't depend on names.
-use Rattle.std.proofs.Common.{◌≡◌, ℕ, ◌+◌, ◌-◌, ◌*◌, Bool, true, false, if◌then◌else◌, nat_lt, List, [], ◌++◌, codes, min, refl}
+use Rattle.std.proofs.Common.{◌≡◌, ℕ, ◌+◌, ◌-◌, ◌*◌, Bool, true, false, if◌then◌else◌, nat_lt, List, [], ◌++◌, Option, codes, min, refl}
 use Rattle.std.specs.List.{range_with_len}
 use Rattle.std.specs.Int.{div_ceil}
 use Rattle.std.specs.Prelude.{slice_index}
@@ -168,12 +168,12 @@ same_back table rows names machines =
     (before TABLE_TITLE.now one two (same_table table rows names machines))
 
 -- a page has the same markup whatever its title and the names in its table are
-same_page : (a b : List ℕ) (makespan : ℕ) (table : Table) (rows names machines : List Name) (first count : ℕ) (section other : List ℕ) →
+same_page : (a b : List ℕ) (lower : Option ℕ) (makespan : ℕ) (table : Table) (rows names machines : List Name) (first count : ℕ) (section other : List ℕ) →
     markup_of section ≡ markup_of other →
-    markup_of (page a makespan table first count section) ≡ markup_of (page b makespan (retitled table rows names machines) first count other)
+    markup_of (page a lower makespan table first count section) ≡ markup_of (page b lower makespan (retitled table rows names machines) first count other)
 unfolding page
-same_page a b makespan table rows names machines first count section other same =
-    let note = note_of table.chart.days makespan in
+same_page a b lower makespan table rows names machines first count section other same =
+    let note = note_of lower table.chart.days makespan in
     let one = figures table.chart first count in
     let two = figures (renamed table.chart rows names) first count in
     same_append (front (escaped a) note ++ one ++ section) (back table) (front (escaped b) note ++ two ++ other)
@@ -183,24 +183,24 @@ same_page a b makespan table rows names machines first count section other same 
     (same_figures table.chart rows names first count)) same) (same_back table rows names machines)
 
 -- the report of a project has the same markup whatever its title and its names are
-pub same_project : (title : List ℕ) (names resources : List Name) (i : Planned) (starts : List ℕ) (dated : Bool) (days : List Date) (floats slacks : List ℕ) →
-    markup_of (project_page title names resources i starts dated days floats slacks)
-    ≡ markup_of (project_page [] [] [] i starts dated days floats slacks)
+pub same_project : (title : List ℕ) (lower : Option ℕ) (names resources : List Name) (i : Planned) (starts : List ℕ) (dated : Bool) (days : List Date) (floats slacks : List ℕ) →
+    markup_of (project_page title lower names resources i starts dated days floats slacks)
+    ≡ markup_of (project_page [] lower [] [] i starts dated days floats slacks)
 unfolding project_page
-same_project title names resources i starts dated days floats slacks =
+same_project title lower names resources i starts dated days floats slacks =
     let makespan = greatest_end (activity_bars i.project.network starts) in
     let chart = project_chart names i starts days in
-    same_page title [] makespan (project_table names i starts dated days floats slacks) [] [] [] 1 (count_of i.project.network)
+    same_page title [] lower makespan (project_table names i starts dated days floats slacks) [] [] [] 1 (count_of i.project.network)
     (use_section chart resources i starts makespan) (use_section (renamed chart [] []) [] i starts makespan)
     (same_use_section chart [] [] resources [] i starts makespan)
 
 -- the report of a job shop has the same markup whatever its title and its names are
-pub same_shop : (title : List ℕ) (machines orders : List Name) (s : JobShop) (starts : List ℕ) (by_job dated : Bool) (days : List Date) →
-    markup_of (shop_page title machines orders s starts by_job dated days) ≡ markup_of (shop_page [] [] [] s starts by_job dated days)
+pub same_shop : (title : List ℕ) (lower : Option ℕ) (machines orders : List Name) (s : JobShop) (starts : List ℕ) (by_job dated : Bool) (days : List Date) →
+    markup_of (shop_page title lower machines orders s starts by_job dated days) ≡ markup_of (shop_page [] lower [] [] s starts by_job dated days)
 unfolding shop_page
-same_shop title machines orders s starts true dated days =
-    same_page title [] (greatest_end (step_bars s starts true)) (shop_table machines orders s starts true dated days) [] [] []
+same_shop title lower machines orders s starts true dated days =
+    same_page title [] lower (greatest_end (step_bars s starts true)) (shop_table machines orders s starts true dated days) [] [] []
     (shop_lines s true).0 (shop_lines s true).1 [] [] refl
-same_shop title machines orders s starts false dated days =
-    same_page title [] (greatest_end (step_bars s starts false)) (shop_table machines orders s starts false dated days) [] [] []
+same_shop title lower machines orders s starts false dated days =
+    same_page title [] lower (greatest_end (step_bars s starts false)) (shop_table machines orders s starts false dated days) [] [] []
     (shop_lines s false).0 (shop_lines s false).1 [] [] refl

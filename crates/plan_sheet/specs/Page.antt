@@ -1,5 +1,5 @@
 -- The page of a report (docs/definitions.md, "Sheets"): its parts one after another.
-use Rattle.std.specs.Prelude.{ℕ, ◌+◌, ◌-◌, ◌*◌, if◌then◌else◌, nat_lt, List, [], ◌++◌, length, min, codes}
+use Rattle.std.specs.Prelude.{ℕ, ◌+◌, ◌-◌, ◌*◌, if◌then◌else◌, nat_lt, List, [], ◌++◌, Option, Some, None, length, min, codes}
 use Rattle.std.specs.List.{flat_map, range_with_len}
 use Rattle.std.specs.Int.{div_ceil}
 use Rattle.std.specs.Fmt.{decimal}
@@ -16,9 +16,19 @@ dates_part days makespan =
     if nat_lt (length days) 1 then []
     else codes ", " ++ day_text days 0 ++ codes " to " ++ day_text days (makespan - 1)
 
--- the note below the title: the makespan, and the first and the last day
-unfoldable pub note_of : List Date → ℕ → List ℕ
-note_of days makespan = codes "Makespan " ++ decimal makespan ++ dates_part days makespan
+-- what a search has found out about the makespan: it is the least, or else a lower bound of the
+-- least one; nothing without a search
+unfoldable pub bound_part : Option ℕ → ℕ → List ℕ
+bound_part None makespan = []
+bound_part (Some lower) makespan =
+    if nat_lt lower makespan then codes ", between " ++ decimal lower ++ codes " " ++ decimal makespan
+    else codes ", optimal " ++ decimal makespan
+
+-- the note below the title: the makespan, the first and the last day, and what a search has found
+-- out
+unfoldable pub note_of : Option ℕ → List Date → ℕ → List ℕ
+note_of lower days makespan =
+    codes "Makespan " ++ decimal makespan ++ dates_part days makespan ++ bound_part lower makespan
 
 -- the styles of a page
 unfoldable pub styles : List ℕ
@@ -45,8 +55,8 @@ figures chart first count = flat_map (figure chart first count) (range_with_len 
 unfoldable pub back : Table → List ℕ
 back table = TABLE_TITLE.now ++ table_text table ++ PAGE_TO.now
 
--- a page: its title, the chart of a table with `count` lines from `first` on, a section on
+-- a page: its title, perhaps a lower bound of the least makespan, the chart of a table with `count` lines from `first` on, a section on
 -- resources, and the table
-unfoldable pub page : List ℕ → ℕ → Table → ℕ → ℕ → List ℕ → List ℕ
-page title makespan table first count section =
-    front (escaped title) (note_of table.chart.days makespan) ++ figures table.chart first count ++ section ++ back table
+unfoldable pub page : List ℕ → Option ℕ → ℕ → Table → ℕ → ℕ → List ℕ → List ℕ
+page title lower makespan table first count section =
+    front (escaped title) (note_of lower table.chart.days makespan) ++ figures table.chart first count ++ section ++ back table

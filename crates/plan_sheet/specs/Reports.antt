@@ -1,5 +1,5 @@
 -- The reports of projects and job shops (docs/definitions.md, "Sheets").
-use Rattle.std.specs.Prelude.{◌≡◌, ℕ, Bool, true, false, if◌then◌else◌, List, []}
+use Rattle.std.specs.Prelude.{◌≡◌, ℕ, Bool, true, false, if◌then◌else◌, List, [], Option}
 use Rattle.jiff_core.specs.declared.civil.date.Date.{Date}
 use Rattle.plan_calendar.specs.WorkingDay.{Workdays}
 use Rattle.plan_net.specs.Network.{count_of}
@@ -39,11 +39,12 @@ project_table names i starts dated days floats slacks =
       slacks = slacks;
     }
 
--- the report of a project with these days, floats and slacks
-unfoldable pub project_page : List ℕ → List Name → List Name → Planned → List ℕ → Bool → List Date
+-- the report of a project with these days, floats and slacks, and perhaps a lower bound of the
+-- least makespan
+unfoldable pub project_page : List ℕ → Option ℕ → List Name → List Name → Planned → List ℕ → Bool → List Date
     → List ℕ → List ℕ → List ℕ
-project_page title names resources i starts dated days floats slacks =
-    page title (greatest_end (activity_bars i.project.network starts))
+project_page title lower names resources i starts dated days floats slacks =
+    page title lower (greatest_end (activity_bars i.project.network starts))
     (project_table names i starts dated days floats slacks) 1
     (count_of i.project.network)
     (use_section (project_chart names i starts days) resources i starts (greatest_end (activity_bars i.project.network starts)))
@@ -71,11 +72,11 @@ shop_table machines orders s starts by_job dated days =
       slacks = [];
     }
 
--- the report of a job shop with these days
-unfoldable pub shop_page : List ℕ → List Name → List Name → JobShop → List ℕ → Bool → Bool
+-- the report of a job shop with these days, and perhaps a lower bound of the least makespan
+unfoldable pub shop_page : List ℕ → Option ℕ → List Name → List Name → JobShop → List ℕ → Bool → Bool
     → List Date → List ℕ
-shop_page title machines orders s starts by_job dated days =
-    page title (greatest_end (step_bars s starts by_job))
+shop_page title lower machines orders s starts by_job dated days =
+    page title lower (greatest_end (step_bars s starts by_job))
     (shop_table machines orders s starts by_job dated days)
     (shop_lines s by_job).0 (shop_lines s by_job).1 []
 
@@ -88,11 +89,11 @@ abbrev pub AreReportDays : Planned → List ℕ → Workdays → List Date → T
 AreReportDays i starts calendar days = AreDays calendar (greatest_end (activity_bars i.project.network starts)) days
 
 -- a text is the report of a project by a calendar
-pub record IsDatedReport (title : List ℕ) (names resources : List Name) (i : Planned) (starts floats slacks : List ℕ) (calendar : Workdays)
+pub record IsDatedReport (title : List ℕ) (lower : Option ℕ) (names resources : List Name) (i : Planned) (starts floats slacks : List ℕ) (calendar : Workdays)
     (text : List ℕ) : Type 0 where
   pub days : List Date
   pub are : AreReportDays i starts calendar days
-  pub shown : text ≡ project_page title names resources i starts true days floats slacks
+  pub shown : text ≡ project_page title lower names resources i starts true days floats slacks
 
 -- a day that it shows would be after the last date
 abbrev pub IsReportBeyond : Planned → List ℕ → Workdays → Type 0
@@ -103,11 +104,11 @@ abbrev pub AreShopDays : JobShop → List ℕ → Bool → Workdays → List Dat
 AreShopDays s starts by_job calendar days = AreDays calendar (greatest_end (step_bars s starts by_job)) days
 
 -- a text is the report of a job shop by a calendar
-pub record IsDatedShopReport (title : List ℕ) (machines orders : List Name) (s : JobShop) (starts : List ℕ) (by_job : Bool) (calendar : Workdays)
+pub record IsDatedShopReport (title : List ℕ) (lower : Option ℕ) (machines orders : List Name) (s : JobShop) (starts : List ℕ) (by_job : Bool) (calendar : Workdays)
     (text : List ℕ) : Type 0 where
   pub days : List Date
   pub are : AreShopDays s starts by_job calendar days
-  pub shown : text ≡ shop_page title machines orders s starts by_job true days
+  pub shown : text ≡ shop_page title lower machines orders s starts by_job true days
 
 -- a day that it shows would be after the last date
 abbrev pub IsShopReportBeyond : JobShop → List ℕ → Bool → Workdays → Type 0

@@ -23,6 +23,7 @@ mod usage;
 mod uses;
 
 pub use escape::escaped;
+pub use page::Heading;
 pub use plans::{project_ics, project_svg, shop_ics, shop_svg};
 pub use reports::{
     Margins, ProjectNames, dated_project_report, dated_shop_report, project_report, shop_report,

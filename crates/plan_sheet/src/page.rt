@@ -15,6 +15,16 @@ use crate::styles::{
 use crate::table::{Table, push_table};
 use jiff::civil::Date;
 use std::alloc::{AllocError, Global};
+use std::fmt::Write;
+
+/// The heading of a report.
+#[derive(Clone, Copy, Debug, Drop)]
+pub struct Heading<'a> {
+    pub title: &'a str,
+    /// A lower bound of the makespans of all feasible schedules, if a search has found one. The note
+    /// below the title gives it, or says that the makespan is the least.
+    pub lower: Option<u64>,
+}
 
 // Appends the first and the last day of a plan, or nothing without a calendar.
 #[tactic(auto, unfolding(crate::specs::Page::dates_part))]
@@ -38,13 +48,37 @@ fn push_dates(
     text.push_str(&last)
 }
 
-// Returns the note below the title: the makespan, and the first and the last day.
+// Appends what a search has found out about the makespan, or nothing without a search.
+#[tactic(auto, unfolding(crate::specs::Page::bound_part))]
+fn push_bound(text: &mut String, lower: Option<u64>, makespan: u32) -> Result<(), AllocError>
+    ensures { OnOk result
+        (string_bytes text.new ≡ string_bytes text.old ++ spec.bound_part lower makespan) }
+{
+    let Some(lower) = lower else {
+        return Ok(());
+    };
+    if lower < u64::from(makespan) {
+        write!(text, ", between {lower} {makespan}")
+    } else {
+        write!(text, ", optimal {makespan}")
+    }
+}
+
+// Returns the note below the title: the makespan, the first and the last day, and what a search has
+// found out.
 #[tactic(auto, unfolding(crate::specs::Page::note_of))]
-fn note_of(alloc: Global, days: &[Date], makespan: u32) -> Result<String, AllocError>
-    ensures { IfOk result (λ text. string_bytes text ≡ spec.note_of days.now makespan) }
+fn note_of(
+    alloc: Global,
+    lower: Option<u64>,
+    days: &[Date],
+    makespan: u32,
+) -> Result<String, AllocError>
+    ensures { IfOk result (λ text.
+        string_bytes text ≡ spec.note_of lower days.now makespan) }
 {
     let mut text = format!(in alloc; "Makespan {makespan}")?;
     push_dates(alloc, &mut text, days, makespan)?;
+    push_bound(&mut text, lower, makespan)?;
     Ok(text)
 }
 
@@ -141,7 +175,7 @@ fn push_back(alloc: Global, text: &mut String, table: &Table<'_>) -> Result<(), 
 #[tactic(auto, unfolding(crate::specs::Page::page))]
 pub(crate) fn page(
     alloc: Global,
-    title: &str,
+    heading: Heading<'_>,
     makespan: u32,
     table: &Table<'_>,
     first: u32,
@@ -151,10 +185,11 @@ pub(crate) fn page(
     requires first { first ≤ 1 }
     requires count { count ≤ 800000 }
     ensures text { IfOk result (λ text. string_bytes text
-        ≡ spec.page title.now makespan (table_of table.now) first count section.now) }
+        ≡ spec.page heading.entry.title.now heading.entry.lower makespan (table_of table.now)
+        first count section.now) }
 {
-    let title = escaped(alloc, title)?;
-    let note = note_of(alloc, table.chart.days, makespan)?;
+    let title = escaped(alloc, heading.title)?;
+    let note = note_of(alloc, heading.lower, table.chart.days, makespan)?;
     let mut text = String::new(alloc);
     push_front(&mut text, &title, &note)?;
     push_figures(alloc, &mut text, table.chart, first, count)?;

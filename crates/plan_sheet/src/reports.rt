@@ -13,7 +13,7 @@ use crate::axis::axis_to;
 use crate::bars::{activity_bars, last_end, step_bars};
 use crate::chart::Chart;
 use crate::days::working_days;
-use crate::page::page;
+use crate::page::{Heading, page};
 use crate::plans::shop_lines;
 use crate::table::Table;
 use crate::usage::use_section;
@@ -44,7 +44,7 @@ pub struct Margins<'a> {
 #[tactic(auto, unfolding(crate::specs::Reports::project_page))]
 fn project_page(
     alloc: Global,
-    title: &str,
+    heading: Heading<'_>,
     names: &ProjectNames<'_>,
     instance: &Instance<'_>,
     starts: &[u64],
@@ -54,7 +54,7 @@ fn project_page(
 ) -> Result<String, AllocError>
     requires starts { length starts.now ≡ count_of instance.now.project.network }
     requires limit { EachIndex starts.now (λ k. slice_index starts.now k ≤ latest_start) }
-    ensures text { IfOk result (λ text. string_bytes text ≡ spec.project_page title.now
+    ensures text { IfOk result (λ text. string_bytes text ≡ spec.project_page heading.entry.title.now heading.entry.lower
         (map name_of names.now.activities.now) (map name_of names.now.resources.now)
         instance.now starts.now dated days.now margins.now.floats.now
         margins.now.slacks.now) }
@@ -78,7 +78,7 @@ fn project_page(
         slacks: margins.slacks,
     };
     let count = instance.network().len() as u32;
-    page(alloc, title, makespan, &table, 1, count, &section)
+    page(alloc, heading, makespan, &table, 1, count, &section)
 }
 
 /// Returns the report of a project's schedule without a calendar, as one HTML page with a title:
@@ -86,7 +86,7 @@ fn project_page(
 /// is activity `k + 1`; times are whole time units. The only error is out of memory.
 pub fn project_report(
     alloc: Global,
-    title: &str,
+    heading: Heading<'_>,
     names: &ProjectNames<'_>,
     instance: &Instance<'_>,
     starts: &[u64],
@@ -94,16 +94,16 @@ pub fn project_report(
 ) -> Result<String, AllocError>
     requires starts { length starts.now ≡ count_of instance.now.project.network }
     requires limit { EachIndex starts.now (λ k. slice_index starts.now k ≤ latest_start) }
-    ensures text { IfOk result (λ text. string_bytes text ≡ spec.project_page title.now
+    ensures text { IfOk result (λ text. string_bytes text ≡ spec.project_page heading.entry.title.now heading.entry.lower
         (map name_of names.now.activities.now) (map name_of names.now.resources.now)
         instance.now starts.now false [] margins.now.floats.now
         margins.now.slacks.now) }
     // Its markup is the same whatever the title and the names are.
     ensures safe { IfOk result (λ text. markup_of (string_bytes text)
-        ≡ markup_of (spec.project_page [] [] [] instance.now starts.now false []
+        ≡ markup_of (spec.project_page [] heading.entry.lower [] [] instance.now starts.now false []
         margins.now.floats.now margins.now.slacks.now)) }
 {
-    let text = project_page(alloc, title, names, instance, starts, margins, false, &[])?;
+    let text = project_page(alloc, heading, names, instance, starts, margins, false, &[])?;
     Ok(text)
 }
 
@@ -133,7 +133,7 @@ fn project_days(
 /// be after 9999-12-31.
 pub fn dated_project_report(
     alloc: Global,
-    title: &str,
+    heading: Heading<'_>,
     names: &ProjectNames<'_>,
     instance: &Instance<'_>,
     starts: &[u64],
@@ -142,19 +142,21 @@ pub fn dated_project_report(
 ) -> Result<String, DaysFault>
     requires starts { length starts.now ≡ count_of instance.now.project.network }
     requires limit { EachIndex starts.now (λ k. slice_index starts.now k ≤ latest_start) }
-    ensures text { IfOk result (λ text. spec.IsDatedReport title.now
+    ensures text { IfOk result (λ text. spec.IsDatedReport heading.entry.title.now heading.entry.lower
         (map name_of names.now.activities.now) (map name_of names.now.resources.now)
         instance.now starts.now margins.now.floats.now margins.now.slacks.now
         calendar.now (string_bytes text)) }
     // Its markup is that of such a report without a title and without names.
     ensures safe { IfOk result (λ text. spec.HasMarkupOf (string_bytes text)
-        (spec.IsDatedReport [] [] [] instance.now starts.now margins.now.floats.now
+        (spec.IsDatedReport [] heading.entry.lower [] [] instance.now starts.now margins.now.floats.now
         margins.now.slacks.now calendar.now)) }
     ensures beyond { IsErrOf result DaysFault.BeyondCalendar →
         spec.IsReportBeyond instance.now starts.now calendar.now }
 {
     let days = project_days(alloc, instance, starts, calendar)?;
-    let text = project_page(alloc, title, names, instance, starts, margins, true, &days)?;
+    let text = project_page(
+        alloc, heading, names, instance, starts, margins, true, &days,
+    )?;
     Ok(text)
 }
 
@@ -162,7 +164,7 @@ pub fn dated_project_report(
 #[tactic(auto, unfolding(crate::specs::Reports::shop_page))]
 fn shop_page<'a>(
     alloc: Global,
-    title: &str,
+    heading: Heading<'_>,
     machines: &'a [NameLine<'a>],
     orders: &'a [NameLine<'a>],
     shop: &Shop,
@@ -173,7 +175,7 @@ fn shop_page<'a>(
 ) -> Result<String, AllocError>
     requires starts { length starts.now ≡ count_steps shop.now }
     requires limit { EachIndex starts.now (λ k. slice_index starts.now k ≤ latest_start) }
-    ensures text { IfOk result (λ text. string_bytes text ≡ spec.shop_page title.now
+    ensures text { IfOk result (λ text. string_bytes text ≡ spec.shop_page heading.entry.title.now heading.entry.lower
         (map name_of machines.now) (map name_of orders.now) shop.now starts.now by_job dated
         days.now) }
 {
@@ -195,7 +197,7 @@ fn shop_page<'a>(
         slacks: &[],
     };
     let (first, count) = shop_lines(shop, by_job);
-    page(alloc, title, makespan, &table, first, count, "")
+    page(alloc, heading, makespan, &table, first, count, "")
 }
 
 /// Returns the report of a job shop's schedule without a calendar, as one HTML page with a title:
@@ -204,7 +206,7 @@ fn shop_page<'a>(
 /// from 0, and of orders, by the numbers of their jobs from 1. The only error is out of memory.
 pub fn shop_report<'a>(
     alloc: Global,
-    title: &str,
+    heading: Heading<'_>,
     machines: &'a [NameLine<'a>],
     orders: &'a [NameLine<'a>],
     shop: &Shop,
@@ -213,15 +215,15 @@ pub fn shop_report<'a>(
 ) -> Result<String, AllocError>
     requires starts { length starts.now ≡ count_steps shop.now }
     requires limit { EachIndex starts.now (λ k. slice_index starts.now k ≤ latest_start) }
-    ensures text { IfOk result (λ text. string_bytes text ≡ spec.shop_page title.now
+    ensures text { IfOk result (λ text. string_bytes text ≡ spec.shop_page heading.entry.title.now heading.entry.lower
         (map name_of machines.now) (map name_of orders.now) shop.now starts.now by_job false []) }
     // Its markup is the same whatever the title and the names are.
     ensures safe { IfOk result (λ text. markup_of (string_bytes text)
-        ≡ markup_of (spec.shop_page [] [] [] shop.now starts.now by_job false [])) }
+        ≡ markup_of (spec.shop_page [] heading.entry.lower [] [] shop.now starts.now by_job false [])) }
 {
     let text = shop_page(
         alloc,
-        title,
+        heading,
         machines,
         orders,
         shop,
@@ -260,7 +262,7 @@ fn shop_days(
 /// be after 9999-12-31.
 pub fn dated_shop_report<'a>(
     alloc: Global,
-    title: &str,
+    heading: Heading<'_>,
     machines: &'a [NameLine<'a>],
     orders: &'a [NameLine<'a>],
     shop: &Shop,
@@ -270,18 +272,18 @@ pub fn dated_shop_report<'a>(
 ) -> Result<String, DaysFault>
     requires starts { length starts.now ≡ count_steps shop.now }
     requires limit { EachIndex starts.now (λ k. slice_index starts.now k ≤ latest_start) }
-    ensures text { IfOk result (λ text. spec.IsDatedShopReport title.now
+    ensures text { IfOk result (λ text. spec.IsDatedShopReport heading.entry.title.now heading.entry.lower
         (map name_of machines.now) (map name_of orders.now) shop.now starts.now by_job
         calendar.now (string_bytes text)) }
     // Its markup is that of such a report without a title and without names.
     ensures safe { IfOk result (λ text. spec.HasMarkupOf (string_bytes text)
-        (spec.IsDatedShopReport [] [] [] shop.now starts.now by_job calendar.now)) }
+        (spec.IsDatedShopReport [] heading.entry.lower [] [] shop.now starts.now by_job calendar.now)) }
     ensures beyond { IsErrOf result DaysFault.BeyondCalendar →
         spec.IsShopReportBeyond shop.now starts.now by_job calendar.now }
 {
     let days = shop_days(alloc, shop, starts, by_job, calendar)?;
     let text = shop_page(
-        alloc, title, machines, orders, shop, starts, by_job, true, &days,
+        alloc, heading, machines, orders, shop, starts, by_job, true, &days,
     )?;
     Ok(text)
 }

@@ -6,11 +6,9 @@ use Rattle.plan_report.specs.Slack.{RefusesSlack}
 use Rattle.plan_report.specs.SlackText.{IsSlackText}
 use Rattle.plan_orlib.proofs.NameLemmas.{mapped}
 use Rattle.plan_errors.specs.Output.{Refuses}
-use Rattle.plan_cli.specs.CheckRun.{TellsBadStarts}
-use Rattle.plan_cli.specs.SlackRun.{IsSlackOf, TellsBadSlack, TellsSlackFault}
-use Rattle.plan_cli.proofs.CheckLemmas.{bad_starts}
+use Rattle.plan_cli.specs.SlackRun.{IsSlackOf, TellsBadStarts, TellsBadSlack, TellsSlackFault}
 use Rattle.plan_cli.proofs.RunLemmas.{refuses_as}
-use Rattle.plan_cli.proofs.SlackLemmas.{slack_shown, slack_refused}
+use Rattle.plan_cli.proofs.SlackLemmas.{bad_starts, slack_shown, slack_refused}
 use Rattle.plan_cli.proofs.slacks.instance_text.Goals as goal
 
 pub returns-clause-made : goal.returns-clause-made

@@ -1,10 +1,9 @@
 use Rattle.std.specs.Prelude.{string_bytes}
 use Rattle.std.proofs.lemmas.Result.{IfOk-weaker}
 use Rattle.plan_errors.specs.Output.{Refuses}
-use Rattle.plan_sheet.specs.Plans.{IsProjectBeyond}
 use Rattle.plan_cli.specs.DaysRun.{ShowsDays, TellsBeyond, TellsNoDays}
 use Rattle.plan_cli.proofs.RunLemmas.{if_err_weaker}
-use Rattle.plan_print.specs.ProjectSheets.{AreEvents}
+use Rattle.plan_print.specs.Sheets.{AreEvents, IsIcsBeyond}
 use Rattle.plan_print.proofs.SheetLemmas.{beyond}
 use Rattle.plan_print.proofs.events.events_text.Goals as goal
 
@@ -12,7 +11,7 @@ pub returns-clause-made : goal.returns-clause-made
 returns-clause-made c =
     let a = c.args in
     let calendar = c.in_ok-calendar.calendar in
-    let Shows = AreEvents a.file.now a.network.now a.schedule.now.starts.items in
+    let Shows = AreEvents a.subject a.file.now a.plan.now a.schedule.now.starts.items in
     IfOk-weaker c.events_on.result (λ text. Shows calendar (string_bytes text)) (λ text. ShowsDays a.dates Shows (string_bytes text))
     (λ text shown. (calendar, c.in_ok-calendar.ensures.made, shown)) c.events_on.ensures.made
 
@@ -20,6 +19,6 @@ pub returns-clause-refused : goal.returns-clause-refused
 returns-clause-refused c =
     let a = c.args in
     let calendar = c.in_ok-calendar.calendar in
-    let Beyond = IsProjectBeyond a.network.now a.schedule.now.starts.items in
+    let Beyond = IsIcsBeyond a.plan.now a.schedule.now.starts.items in
     if_err_weaker c.events_on.result (Refuses (TellsBeyond (Beyond calendar))) (Refuses (TellsNoDays a.dates Beyond))
     (λ e refused. beyond a.dates calendar Beyond e c.in_ok-calendar.ensures.made refused) c.events_on.ensures.refused

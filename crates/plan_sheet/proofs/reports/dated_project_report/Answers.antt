@@ -11,7 +11,7 @@ returns-clause-text c =
       days = c.in_ok-days.days.items;
       are = c.in_ok-days.ensures.days;
       shown = c.in_ok-text.ensures.text
-          ∙ ap (λ ds. project_page c.args.title.now (map name_of c.args.names.now.activities.now) (map name_of c.args.names.now.resources.now)
+          ∙ ap (λ ds. project_page c.args.heading.title.now c.args.heading.lower (map name_of c.args.names.now.activities.now) (map name_of c.args.names.now.resources.now)
           c.args.instance.now c.args.starts.now true ds c.args.margins.now.floats.now c.args.margins.now.slacks.now) c.deref.ensures.value;
     }
 
@@ -20,8 +20,8 @@ returns-clause-safe c = (
   _,
   record { days = c.in_ok-days.days.items; are = c.in_ok-days.ensures.days; shown = refl },
   ap markup_of (c.in_ok-text.ensures.text
-      ∙ ap (λ ds. project_page c.args.title.now (map name_of c.args.names.now.activities.now) (map name_of c.args.names.now.resources.now)
+      ∙ ap (λ ds. project_page c.args.heading.title.now c.args.heading.lower (map name_of c.args.names.now.activities.now) (map name_of c.args.names.now.resources.now)
       c.args.instance.now c.args.starts.now true ds c.args.margins.now.floats.now c.args.margins.now.slacks.now) c.deref.ensures.value)
-      ∙ same_project c.args.title.now (map name_of c.args.names.now.activities.now) (map name_of c.args.names.now.resources.now)
+      ∙ same_project c.args.heading.title.now c.args.heading.lower (map name_of c.args.names.now.activities.now) (map name_of c.args.names.now.resources.now)
       c.args.instance.now c.args.starts.now true c.in_ok-days.days.items c.args.margins.now.floats.now c.args.margins.now.slacks.now,
 )

@@ -11,7 +11,7 @@ returns-clause-text c =
       days = c.in_ok-days.days.items;
       are = c.in_ok-days.ensures.days;
       shown = c.in_ok-text.ensures.text
-          ∙ ap (λ ds. shop_page c.args.title.now (map name_of c.args.machines.now) (map name_of c.args.orders.now) c.args.shop.now
+          ∙ ap (λ ds. shop_page c.args.heading.title.now c.args.heading.lower (map name_of c.args.machines.now) (map name_of c.args.orders.now) c.args.shop.now
           c.args.starts.now c.args.by_job true ds) c.deref.ensures.value;
     }
 
@@ -20,8 +20,8 @@ returns-clause-safe c = (
   _,
   record { days = c.in_ok-days.days.items; are = c.in_ok-days.ensures.days; shown = refl },
   ap markup_of (c.in_ok-text.ensures.text
-      ∙ ap (λ ds. shop_page c.args.title.now (map name_of c.args.machines.now) (map name_of c.args.orders.now) c.args.shop.now
+      ∙ ap (λ ds. shop_page c.args.heading.title.now c.args.heading.lower (map name_of c.args.machines.now) (map name_of c.args.orders.now) c.args.shop.now
       c.args.starts.now c.args.by_job true ds) c.deref.ensures.value)
-      ∙ same_shop c.args.title.now (map name_of c.args.machines.now) (map name_of c.args.orders.now) c.args.shop.now c.args.starts.now
+      ∙ same_shop c.args.heading.title.now c.args.heading.lower (map name_of c.args.machines.now) (map name_of c.args.orders.now) c.args.shop.now c.args.starts.now
       c.args.by_job true c.in_ok-days.days.items,
 )
