@@ -10,15 +10,15 @@ use Rattle.plan_cli.specs.declared.documents.Document.TheVariants as document
 use Rattle.plan_cli.specs.declared.documents.Plan.{Plan}
 use Rattle.plan_cli.proofs.RunLemmas.{refuses_as}
 
-of_document : (s : Subject) (file : List ℕ) (d : Document) (IsText : Plan → List ℕ → Type 0) (text : List ℕ)
+of_document : {X : Type 0} (s : Subject) (file : List ℕ) (d : Document) (IsText : Plan → X → Type 0) (text : X)
     → IsDocumentOf s file d → HasFit (plan_in d) → IsText (plan_in d) text → IsOfSubject s IsText file text
 of_document (subject.Project given) file (document.Project p capacities) IsText text is fit made = (p, is.0, (capacities.items, is.1, (fit, made)))
 of_document (subject.Project given) file (document.Shop doc) IsText text is fit made = absurd is
 of_document (subject.Shop instance) file (document.Project p capacities) IsText text is fit made = absurd is
 of_document (subject.Shop instance) file (document.Shop doc) IsText text is fit made = (doc, is, made)
 
--- a text for the plan of a document is one for the file of the document
-pub of_subject : (s : Subject) (file : List ℕ) (d : Document) (p : Plan) (IsText : Plan → List ℕ → Type 0) (text : List ℕ)
+-- a text or a value for the plan of a document is one for the file of the document
+pub of_subject : {X : Type 0} (s : Subject) (file : List ℕ) (d : Document) (p : Plan) (IsText : Plan → X → Type 0) (text : X)
     → IsDocumentOf s file d → p ≡ plan_in d → HasFit p → IsText p text → IsOfSubject s IsText file text
 of_subject s file d p IsText text is same fit made =
     of_document s file d IsText text is (subst HasFit same fit) (subst (λ (q : Plan). IsText q text) same made)

@@ -12,3 +12,4 @@ pub mod DaysLemmas
 pub mod DocumentLemmas
 pub mod InputLemmas
 pub mod ImportLemmas
+pub mod ViewTextLemmas

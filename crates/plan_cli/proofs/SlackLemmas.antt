@@ -5,12 +5,11 @@ use Rattle.plan_net.specs.Network.{Net}
 use Rattle.plan_sgs.specs.Problem.{NeedsFit}
 use Rattle.plan_sgs.specs.Instances.{Planned, problem_of}
 use Rattle.plan_report.specs.Slack.{RefusesSlack}
-use Rattle.plan_report.specs.SlackText.{IsSlackText}
 use Rattle.plan_report.specs.StartsText.{SaysStarts, activity_sheet}
 use Rattle.plan_report.specs.declared.slack.SlackFault.{SlackFault}
 use Rattle.plan_errors.specs.declared.fault.CliFault.{CliFault}
 use Rattle.plan_errors.specs.Output.{Refuses}
-use Rattle.plan_cli.specs.SlackRun.{IsSlackOf, TellsBadStarts, TellsSlackFault, TellsBadSlack, TellsNoSlack}
+use Rattle.plan_cli.specs.SlackRun.{TellsBadStarts, TellsSlackFault, TellsBadSlack, TellsNoSlack}
 use Rattle.plan_cli.specs.Starts.{TellsNoStarts}
 use Rattle.plan_cli.proofs.RunLemmas.{refuses_as}
 
@@ -23,13 +22,9 @@ bad_starts listed i net e fit same t =
     (λ line tells. (fit, subst (λ (n : Net). TellsNoStarts (activity_sheet n) listed line) same tells)) t
 
 -- the starts of a network in a text are those of an instance with that network
-said_of : (listed starts : List ℕ) (i : Planned) (net : Net) → net ≡ i.project.network
+pub said_of : (listed starts : List ℕ) (i : Planned) (net : Net) → net ≡ i.project.network
     → SaysStarts (activity_sheet net) listed starts → SaysStarts (activity_sheet i.project.network) listed starts
 said_of listed starts i net same said = subst (λ (n : Net). SaysStarts (activity_sheet n) listed starts) same said
-
-pub slack_shown : (listed : List ℕ) (i : Planned) (net : Net) (starts text : List ℕ) → net ≡ i.project.network
-    → SaysStarts (activity_sheet net) listed starts → IsSlackText i starts text → IsSlackOf listed i text
-slack_shown listed i net starts text same said shown = (starts, said_of listed starts i net same said, shown)
 
 pub slack_refused : (listed : List ℕ) (i : Planned) (net : Net) (starts : List ℕ) (first : SlackFault) (e : CliFault)
     → net ≡ i.project.network → SaysStarts (activity_sheet net) listed starts → RefusesSlack (problem_of i) starts first

@@ -75,9 +75,9 @@ abbrev pub TellsNoPlan : Document → List ℕ → Type 0
 TellsNoPlan (document.Project p capacities) line = TellsNeed (planned p capacities.items) line
 TellsNoPlan (document.Shop doc) line = ⊥
 
--- a text is one for the project or the job shop in a file; no need of a project is above its
--- capacity
-abbrev pub IsOfSubject : Subject → (Plan → List ℕ → Type 0) → List ℕ → List ℕ → Type 0
+-- a text or a value is one for the project or the job shop in a file; no need of a project is above
+-- its capacity
+abbrev pub IsOfSubject : {X : Type 0} → Subject → (Plan → X → Type 0) → List ℕ → X → Type 0
 IsOfSubject (subject.Project given) IsText = IsOfProject given.now
     (λ i text. NeedsFit (projects.problem_of i) × IsText (plan.Project i) text)
 IsOfSubject (subject.Shop instance) IsText =

@@ -44,11 +44,11 @@ pub mod VerdictText
 pub mod CheckRun
 pub mod SlackRun
 pub mod CompareRun
-pub mod FormattedText
+pub mod Views
+pub mod TaskViews
 pub mod ExplainedText
 pub mod TableFaultText
 pub mod ImportRun
 pub mod Commands
-pub mod RowNames
 pub mod TemplateRun
 pub use Rattle.plan_table.specs.Names

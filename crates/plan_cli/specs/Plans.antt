@@ -22,8 +22,8 @@ abbrev pub RefusesWith : List Capacity → Project → (Planned → List ℕ →
 RefusesWith given p IsLine line =
     TellsUnknown given p.available line ⊎ PlannedWith given p (λ i. IsLine i line)
 
--- a text is one for the project in a file, with given capacities
-abbrev pub IsOfProject : List Capacity → (Planned → List ℕ → Type 0) → List ℕ → List ℕ → Type 0
+-- a text or a value is one for the project in a file, with given capacities
+abbrev pub IsOfProject : {X : Type 0} → List Capacity → (Planned → X → Type 0) → List ℕ → X → Type 0
 IsOfProject given IsText file text =
     (p : Project) × SaysProject file p × PlannedWith given p (λ i. IsText i text)
 
@@ -32,8 +32,8 @@ abbrev pub RefusesFile : List Capacity → (Planned → List ℕ → Type 0) →
 RefusesFile given IsLine file line = TellsFirstFailing file line
     ⊎ ((p : Project) × SaysProject file p × RefusesWith given p IsLine line)
 
--- a text is one for the shop of an instance in a file
-abbrev pub IsOfShop : List ℕ → (JobShop → List ℕ → Type 0) → List ℕ → List ℕ → Type 0
+-- a text or a value is one for the shop of an instance in a file
+abbrev pub IsOfShop : {X : Type 0} → List ℕ → (JobShop → X → Type 0) → List ℕ → X → Type 0
 IsOfShop instance IsText file text =
     (doc : docs.Shop) × Says instance file doc × IsText (shop_of doc) text
 

@@ -4,14 +4,18 @@ ghost use Rattle.std.specs.Prelude.{◌≡◌, All, IfOk, IfErr, length, string_
 ghost use Rattle.plan_profile.specs.Usage.{IsInTime};
 ghost use Rattle.plan_report.specs.StartsText.{SaysStarts};
 ghost use Rattle.plan_errors.specs.Output.{Refuses};
-ghost use Rattle.plan_cli.specs.Run.{IfText};
+ghost use Rattle.plan_formats.specs.Tables.{table_of};
+ghost use Rattle.plan_cli.specs.TaskViews as views;
+ghost use Rattle.plan_cli.specs.Views.{IfView};
 ghost use Rattle.plan_cli.specs.Documents.{count_of, sheet_of};
 ghost use Rattle.plan_cli.specs.CompareRun as spec;
 
 use crate::documents::Plan;
 use crate::starts::starts_of;
+use crate::views::View;
 use plan_errors::{CliFault, refusal_by};
-use plan_report::{compare_text, shop_compare_text};
+use plan_formats::Table;
+use plan_views::{comparison_view, shop_comparison_view};
 use std::alloc::{AllocError, Global};
 
 /// The texts of the starts of two schedules, A and B.
@@ -61,31 +65,36 @@ fn named_starts(
 }
 
 // Returns the comparison of two schedules of a plan.
-fn compared(alloc: Global, plan: &Plan<'_>, a: &[u64], b: &[u64]) -> Result<String, AllocError>
+fn compared(
+    alloc: Global,
+    plan: &Plan<'_>,
+    a: &[u64],
+    b: &[u64],
+) -> Result<Table<'static>, AllocError>
     requires whole_a { length a.now ≡ count_of plan.now }
     requires limit_a { All IsInTime a.now }
     requires whole_b { length b.now ≡ count_of plan.now }
     requires limit_b { All IsInTime b.now }
-    ensures { IfOk result (λ text. spec.Compares plan.now a.now b.now (string_bytes text)) }
+    ensures { IfOk result (λ table. views.ComparesIn plan.now a.now b.now (table_of table)) }
 {
     match plan {
-        Plan::Project(instance) => compare_text(alloc, instance, a, b),
-        Plan::Shop(shop) => shop_compare_text(alloc, shop, a, b),
+        Plan::Project(instance) => comparison_view(alloc, instance, a, b),
+        Plan::Shop(shop) => shop_comparison_view(alloc, shop, a, b),
     }
 }
 
 /// Returns the comparison of the schedules with the starts in two texts.
-pub(crate) fn comparison_text(
+pub(crate) fn comparison_of(
     alloc: Global,
     pair: Pair<'_>,
     plan: &Plan<'_>,
-) -> Result<String, CliFault>
-    ensures made { IfText result
-        (spec.IsCompared pair.entry.a.now pair.entry.b.now plan.now) }
+) -> Result<View, CliFault>
+    ensures made { IfView result
+        (views.IsComparedView pair.entry.a.now pair.entry.b.now plan.now) }
     ensures refused { IfErr result (Refuses
         (spec.TellsNotCompared pair.entry.a.now pair.entry.b.now plan.now)) }
 {
     let a = named_starts(alloc, plan, pair.a, "A")?;
     let b = named_starts(alloc, plan, pair.b, "B")?;
-    Ok(compared(alloc, plan, &a, &b)?)
+    Ok(View::Table(compared(alloc, plan, &a, &b)?))
 }

@@ -6,9 +6,8 @@ ghost use Rattle.plan_errors.specs.ExplainRun.{TellsNoCode};
 ghost use Rattle.plan_errors.specs.Output.{HasSinkFailed, Refuses, Writes};
 ghost use Rattle.plan_cli.specs.ExplainedText.{ExplainsIn};
 
-use crate::formatted::shaped;
 use plan_errors::{CliFault, explanation_text, write_text};
-use plan_formats::{Format, Shape};
+use plan_formats::{Format, Shape, shown_in};
 use plan_io::Sink;
 use std::alloc::Global;
 
@@ -18,7 +17,7 @@ fn text_in(alloc: Global, line: &str, format: Format) -> Result<Vec<u8>, CliFaul
     ensures refused { IfErr result (Refuses (TellsNoCode line.now)) }
 {
     let text = explanation_text(alloc, line)?;
-    Ok(shaped(alloc, Shape::Explanation, format, &[], text.as_bytes())?)
+    Ok(shown_in(alloc, format, Shape::Explanation, &[], text.as_bytes())?)
 }
 
 /// Writes the explanation of an error line as JSON or CSV: a row for each entry with `code`, the

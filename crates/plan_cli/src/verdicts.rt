@@ -1,12 +1,13 @@
 //! `plan check`: the first fault in a list of starts, or that they are active.
 
-ghost use Rattle.std.specs.Prelude.{◌≡◌, ◌++◌, All, IfOk, IfErr, OnOk, codes, length};
+ghost use Rattle.std.specs.Prelude.{◌≡◌, ◌++◌, All, IfOk, IfErr, OnOk, length};
 ghost use Rattle.std.specs.Prelude.{string_bytes};
 ghost use Rattle.plan_profile.specs.Usage.{IsInTime};
 ghost use Rattle.plan_sgs.specs.Problem.{IsFeasible};
 ghost use Rattle.plan_sgs.specs.Verdicts.{IsFirstVerdict};
 ghost use Rattle.plan_errors.specs.Output.{Refuses};
-ghost use Rattle.plan_cli.specs.Run.{IfText};
+ghost use Rattle.plan_cli.specs.TaskViews.{IsVerdictView};
+ghost use Rattle.plan_cli.specs.Views.{IfView};
 ghost use Rattle.plan_cli.specs.Documents.{count_of, problem_of};
 ghost use Rattle.plan_report.specs.VerdictText.{sentence_of, shop_sentence_of};
 ghost use Rattle.plan_cli.specs.VerdictText.{infeasible_line};
@@ -14,6 +15,7 @@ ghost use Rattle.plan_cli.specs.CheckRun as spec;
 
 use crate::documents::Plan;
 use crate::starts::starts_of;
+use crate::views::View;
 use plan_errors::{CliFault, refusal_by};
 use plan_report::{push_sentence, push_shop_sentence};
 use plan_sgs::{Verdict, check};
@@ -65,14 +67,12 @@ fn push_verdict(text: &mut String, plan: &Plan<'_>, verdict: Verdict) -> Result<
     }
 }
 
-// Returns the sentence of a verdict, with its end of line.
-fn verdict_text(alloc: Global, plan: &Plan<'_>, verdict: Verdict) -> Result<String, AllocError>
-    ensures { IfOk result (λ text.
-        string_bytes text ≡ spec.sentence_of plan.now verdict ++ codes "\n") }
+// Returns the sentence of a verdict.
+fn sentence(alloc: Global, plan: &Plan<'_>, verdict: Verdict) -> Result<String, AllocError>
+    ensures { IfOk result (λ text. string_bytes text ≡ spec.sentence_of plan.now verdict) }
 {
     let mut text = String::new(alloc);
     push_verdict(&mut text, plan, verdict)?;
-    text.push_str("\n")?;
     Ok(text)
 }
 
@@ -106,11 +106,11 @@ pub(crate) fn check_feasible(alloc: Global, plan: &Plan<'_>, starts: &[u64]) -> 
 }
 
 /// Returns the verdict on the starts in a text.
-pub(crate) fn check_text(alloc: Global, listed: &[u8], plan: &Plan<'_>) -> Result<String, CliFault>
-    ensures made { IfText result (spec.TellsVerdictOn listed.now plan.now) }
+pub(crate) fn verdict_on(alloc: Global, listed: &[u8], plan: &Plan<'_>) -> Result<View, CliFault>
+    ensures made { IfView result (IsVerdictView listed.now plan.now) }
     ensures refused { IfErr result (Refuses (spec.TellsBadStarts listed.now plan.now)) }
 {
     let starts = starts_of(alloc, plan, listed)?;
     let verdict = first_verdict(alloc, plan, &starts)?;
-    Ok(verdict_text(alloc, plan, verdict)?)
+    Ok(View::Verdict(sentence(alloc, plan, verdict)?))
 }

@@ -397,7 +397,7 @@ const PROJECT_COMMANDS: [Entry; 6] = [
         examples: "Examples:\n  \
             plan slack examples/six.sm examples/starts.txt\n  \
             plan schedule lft examples/house.sm | plan slack --names examples/house.sm -",
-        arguments: &[FILE, GIVEN_STARTS, CAPACITY, NAMES],
+        arguments: &[FILE, GIVEN_STARTS, CAPACITY, NAMES, FORMAT],
     },
     Entry {
         name: "compare",
@@ -509,6 +509,7 @@ const SCHEDULE_COMMANDS: [Entry; 4] = [
             SOLVE_SECONDS,
             CAPACITY_IF_PROJECT,
             NAMES,
+            FORMAT,
             SVG,
         ],
     },

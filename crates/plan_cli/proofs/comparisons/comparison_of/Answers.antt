@@ -1,7 +1,7 @@
 use Rattle.std.proofs.lemmas.Result.{err_from_is_err_and}
 use Rattle.plan_cli.specs.Documents.{sheet_of}
 use Rattle.plan_cli.proofs.CompareLemmas.{no_first, no_second}
-use Rattle.plan_cli.proofs.comparisons.comparison_text.Goals as goal
+use Rattle.plan_cli.proofs.comparisons.comparison_of.Goals as goal
 
 pub returns-in_err-a-clause-refused : goal.returns-in_err-a-clause-refused
 returns-in_err-a-clause-refused c =

@@ -7,7 +7,7 @@ use Rattle.plan_cli.specs.Run.{Tells}
 use Rattle.plan_cli.specs.NamesRun.{TellsNotPlain}
 use Rattle.plan_orlib.proofs.NameLemmas.{mapped}
 use Rattle.plan_cli.proofs.RunLemmas.{told_not_plain}
-use Rattle.plan_cli.proofs.names.names_text.Goals as goal
+use Rattle.plan_cli.proofs.names.names_in.Goals as goal
 
 pub returns-in_err-names-clause-refused : goal.returns-in_err-names-clause-refused
 returns-in_err-names-clause-refused c =
