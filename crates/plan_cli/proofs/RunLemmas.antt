@@ -237,14 +237,30 @@ front_as IsText IsOther IsLine IsOtherLine known rest taken after (Err cli.Input
 front_as IsText IsOther IsLine IsOtherLine known rest taken after (Err cli.Output) texts lines (front, short, e, used, does) =
     (front, short, e, used, writes_as (IsText front) (IsOther front) (IsLine front) (IsOtherLine front) taken after (Err cli.Output) (texts front) (lines front) does)
 
+-- a file that says a project isn't too long
+project_short : (file : List ℕ) (p : Project) → SaysProject file p → length file ≤ longest_text
+project_short file p (d, says, same, project) = says.short
+
+-- a front that isn't too long is the whole file
+whole_front : (file : List ℕ) → length (take (longest_text + 1) file) ≤ longest_text → take (longest_text + 1) file ≡ file
+whole_front file few = by_length (cases_lt longest_text (length file))
+  where
+    by_length : (longest_text < length file) ⊎ (length file ≤ longest_text) → take (longest_text + 1) file ≡ file
+    by_length (inr short) = take_all (longest_text + 1) file (omega (arith, short))
+    by_length (inl long) =
+        let m = length-take (longest_text + 1) file in
+        absurd (omega (arith, m, few, long))
+
 -- the text for the project in the front of a file is that for the file
 of_project_front : (given : List Capacity) (IsText : Planned → List ℕ → Type 0) → HoldsByFront (IsOfProject given IsText)
-of_project_front given IsText file text (p, says, shown) = (p, project_front file p says, shown)
+of_project_front given IsText file text (p, says, shown) =
+    subst (λ (bytes : List ℕ). IsOfProject given IsText bytes text) (whole_front file (project_short (take (longest_text + 1) file) p says)) (p, says, shown)
 
 -- the line that refuses the front of a file is that for the file
 refuses_file_front : (given : List Capacity) (IsLine : Planned → List ℕ → Type 0) → HoldsByFront (RefusesFile given IsLine)
 refuses_file_front given IsLine file line (inl first) = inl (line_front file line first)
-refuses_file_front given IsLine file line (inr (p, says, tells)) = inr (p, project_front file p says, tells)
+refuses_file_front given IsLine file line (inr (p, says, tells)) =
+    subst (λ (bytes : List ℕ). RefusesFile given IsLine bytes line) (whole_front file (project_short (take (longest_text + 1) file) p says)) (inr (p, says, tells))
 
 -- a shop file that is too long fails its first check
 long_shop : (instance file : List ℕ) → longest_text < length file
@@ -459,10 +475,6 @@ task_line_front (task.Prove nodes instance) = no_proof_front nodes.now instance.
 task_line_front (task.Solve conflicts subject) = refuses_subject_front subject TellsNoSolution
 task_line_front (task.Import given) = no_import_front (map override_of given.now)
 task_line_front task.ImportShop = no_shop_import_front
-
--- a file that says a project isn't too long
-project_short : (file : List ℕ) (p : Project) → SaysProject file p → length file ≤ longest_text
-project_short file p (d, says, same, project) = says.short
 
 -- a file that says a job shop isn't too long
 shop_short : (instance file : List ℕ) (doc : docs.Shop) → ShopSays instance file doc → length file ≤ longest_text

@@ -13,7 +13,7 @@ use plan_orlib::ShopDoc;
 use plan_psplib::ProjectDoc;
 use plan_sgs::Instance;
 use plan_shop::Shop;
-use plan_table::{NameLine, activity_names, machine_names, order_names};
+use plan_table::{NameLine, activity_names, machine_names, order_names, resource_names};
 use std::alloc::{AllocError, Global};
 
 /// What has the schedule.
@@ -52,7 +52,8 @@ fn project_document(
         (spec.TellsNoDocument (Subject.Project given.entry) file.now)) }
 {
     let project = read_project(alloc, file)?;
-    let capacities = replaced(alloc, given, project.avail())?;
+    let names = resource_names(alloc, file)?;
+    let capacities = replaced(alloc, &names, given, project.avail())?;
     Ok(Document::Project(project, capacities))
 }
 

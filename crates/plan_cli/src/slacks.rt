@@ -1,6 +1,7 @@
 //! `plan slack`: the slack of each activity in a given schedule.
 
-ghost use Rattle.std.specs.Prelude.{◌≡◌, IfErr, length};
+ghost use Rattle.std.specs.Prelude.{◌≡◌, map, IfErr, length};
+ghost use Rattle.plan_table.specs.Names.{name_of};
 ghost use Rattle.plan_sgs.specs.Instances.{planned};
 ghost use Rattle.plan_errors.specs.Output.{Refuses};
 ghost use Rattle.plan_cli.specs.Run.{IfText};
@@ -15,6 +16,7 @@ use plan_errors::{CliFault, refusal_by};
 use plan_psplib::ProjectDoc;
 use plan_report::{SlackFault, slack_text};
 use plan_sgs::Instance;
+use plan_table::{NameLine, resource_names};
 use std::alloc::Global;
 
 // Returns the error of starts that have no slack.
@@ -58,15 +60,16 @@ fn planned_text(
 fn project_text(
     alloc: Global,
     listed: &[u8],
+    names: &[NameLine<'_>],
     given: &[Capacity<'_>],
     project: &ProjectDoc,
 ) -> Result<String, CliFault>
     ensures made { IfText result (λ text.
-        PlannedWith given.now project.now (λ i. spec.IsSlackOf listed.now i text)) }
+        PlannedWith (map name_of names.now) given.now project.now (λ i. spec.IsSlackOf listed.now i text)) }
     ensures refused { IfErr result (Refuses
-        (RefusesWith given.now project.now (spec.TellsNoSlack listed.now))) }
+        (RefusesWith (map name_of names.now) given.now project.now (spec.TellsNoSlack listed.now))) }
 {
-    let capacities = replaced(alloc, given, project.avail())?;
+    let capacities = replaced(alloc, names, given, project.avail())?;
     planned_text(alloc, listed, project, &capacities)
 }
 
@@ -83,5 +86,6 @@ pub(crate) fn slacks_text(
         (RefusesFile given.now (spec.TellsNoSlack listed.now) file.now)) }
 {
     let project = read_project(alloc, file)?;
-    project_text(alloc, listed, given, &project)
+    let names = resource_names(alloc, file)?;
+    project_text(alloc, listed, &names, given, &project)
 }

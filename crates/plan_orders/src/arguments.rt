@@ -187,7 +187,8 @@ const RULE: Argument = Argument {
 };
 
 const CAPACITY_HELP: &str =
-    "capacity of a resource, for example R2=4, in place of that of the file; may be repeated";
+    "capacity of a resource, for example R2=4 or crew=4, in place of that of the file; a name in \
+    the file comes before a number; may be repeated";
 
 const CAPACITY: Argument = Argument {
     name: "capacity",
