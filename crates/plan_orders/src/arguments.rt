@@ -74,10 +74,16 @@ enum Form {
     ListCapacity,
     /// An option with the name of a file to write. It is for projects only.
     Output,
-    /// A name that isn't given if the option `starts` is.
+    /// A name that isn't given if the option `starts` or `solve` is.
     NameUnlessStarts,
     /// An option with the name of a file of starts.
     Starts,
+    /// An option without a value that asks for a search, in place of a rule.
+    Solve,
+    /// The same for a report, whose rule is an option.
+    ReportSolve,
+    /// An option with the time limit of such a search in seconds.
+    SolveSeconds,
     /// An option with the name of a file of holidays.
     Holidays,
     /// An option with the name of a folder.
@@ -100,6 +106,8 @@ enum Form {
     Title,
     /// An option with the format of the output.
     Format,
+    /// The same for a chart, which can also be an image.
+    ChartFormat,
     /// The same for working days, which can be a calendar file.
     DayFormat,
     /// An option without a value.
@@ -230,6 +238,24 @@ const STARTS: Argument = Argument {
         leave out RULE",
 };
 
+const SOLVE: Argument = Argument {
+    name: "solve",
+    form: Form::Solve,
+    help: "show the schedule that plan solve finds; leave out RULE",
+};
+
+const REPORT_SOLVE: Argument = Argument {
+    name: "solve",
+    form: Form::ReportSolve,
+    help: "show the schedule that plan solve finds",
+};
+
+const SOLVE_SECONDS: Argument = Argument {
+    name: "seconds",
+    form: Form::SolveSeconds,
+    help: "time limit of --solve in seconds, 1 to 86400 [default: 10]",
+};
+
 const HOLIDAYS: Argument = Argument {
     name: "holidays",
     form: Form::Holidays,
@@ -272,6 +298,13 @@ const NAMES: Argument = Argument {
 const FORMAT: Argument = Argument {
     name: "format",
     form: Form::Format,
+    help: "print text, JSON or CSV",
+};
+
+// The option of the command that draws charts.
+const CHART_FORMAT: Argument = Argument {
+    name: "format",
+    form: Form::ChartFormat,
     help: "print text, JSON or CSV",
 };
 
@@ -372,8 +405,9 @@ const PROJECT_COMMANDS: [Entry; 6] = [
         about: "Prints by how much each activity of a schedule can start later",
         examples: "Examples:\n  \
             plan slack examples/six.sm examples/starts.txt\n  \
-            plan schedule lft examples/house.sm | plan slack --names examples/house.sm -",
-        arguments: &[FILE, GIVEN_STARTS, CAPACITY, NAMES],
+            plan schedule lft examples/house.sm | plan slack --names examples/house.sm -\n  \
+            plan slack --format json examples/six.sm examples/starts.txt",
+        arguments: &[FILE, GIVEN_STARTS, CAPACITY, NAMES, FORMAT],
     },
     Entry {
         name: "compare",
@@ -469,28 +503,34 @@ const SCHEDULE_COMMANDS: [Entry; 4] = [
     },
     Entry {
         name: "chart",
-        about: "Draws the schedule by a priority rule, or a given one",
+        about: "Draws the schedule by a priority rule, the best one found, or a given one",
         examples: "Examples:\n  \
             plan chart lft examples/house.sm\n  \
             plan chart mwkr examples/shops.txt ft06\n  \
+            plan chart --solve examples/house.sm\n  \
             plan chart --starts examples/starts.txt examples/six.sm\n  \
+            plan chart --format csv lft examples/house.sm\n  \
             plan chart --svg lft examples/house.sm",
         arguments: &[
             RULE,
             FILE_UNLESS_STARTS,
             INSTANCE_IF_SHOP,
             STARTS,
+            SOLVE,
+            SOLVE_SECONDS,
             CAPACITY_IF_PROJECT,
             NAMES,
+            CHART_FORMAT,
             SVG,
         ],
     },
     Entry {
         name: "days",
-        about: "Prints the calendar days of the schedule by a priority rule, or of a given one",
+        about: "Prints the calendar days of a schedule: by a rule, the best one found, or a given one",
         examples: "Examples:\n  \
             plan days lft 2024-03-01 1111100 examples/house.sm\n  \
             plan days mwkr 2024-03-01 1111100 examples/shops.txt ft06\n  \
+            plan days --solve 2024-03-01 mon-fri examples/house.sm\n  \
             plan days --starts examples/starts.txt 2024-03-01 1111100 examples/six.sm\n  \
             plan days --holidays examples/holidays.txt lft 2024-03-01 mon-fri examples/house.sm\n  \
             plan days --format ics lft 2024-03-01 mon-fri examples/house.sm",
@@ -510,6 +550,8 @@ const SCHEDULE_COMMANDS: [Entry; 4] = [
             FILE_UNLESS_STARTS,
             INSTANCE_IF_SHOP,
             STARTS,
+            SOLVE,
+            SOLVE_SECONDS,
             HOLIDAYS,
             CAPACITY_IF_PROJECT,
             NAMES,
@@ -522,6 +564,7 @@ const SCHEDULE_COMMANDS: [Entry; 4] = [
         examples: "Examples:\n  \
             plan report examples/house.sm\n  \
             plan report --rule slk --start 2024-03-01 --days mon-fri examples/house.sm\n  \
+            plan report --solve --seconds 60 examples/house.sm\n  \
             plan report --starts examples/starts.txt examples/six.sm\n  \
             plan report --by job --title Printing examples/shops.txt printing",
         arguments: &[
@@ -538,6 +581,8 @@ const SCHEDULE_COMMANDS: [Entry; 4] = [
                 help: "show the schedule with the start times in this file, \
                     or - for standard input",
             },
+            REPORT_SOLVE,
+            SOLVE_SECONDS,
             Argument {
                 name: "start",
                 form: Form::ReportStart,
@@ -789,11 +834,24 @@ fn arg_of<'a>(alloc: Global, argument: &Argument) -> Result<Arg<'a>, AllocError>
             .value_name("NAME=N")
             .action(ArgAction::Append)
             .conflicts_with("shop")?,
-        Form::NameUnlessStarts => arg.required_unless_present("starts")?,
+        Form::NameUnlessStarts => arg.required_unless_present_any(&["starts", "solve"])?,
         Form::Starts => arg
             .long(argument.name)
             .value_name("STARTS")
             .conflicts_with("INSTANCE")?,
+        Form::Solve => arg
+            .long(argument.name)
+            .action(ArgAction::SetTrue)
+            .conflicts_with_all(&["starts", "INSTANCE"])?,
+        Form::ReportSolve => arg
+            .long(argument.name)
+            .action(ArgAction::SetTrue)
+            .conflicts_with_all(&["starts", "rule"])?,
+        Form::SolveSeconds => arg
+            .long(argument.name)
+            .value_name("S")
+            .value_parser(value_parser!(u32).range(1..=86400))
+            .requires_arg("solve")?,
         Form::Holidays => arg.long(argument.name).value_name("HOLIDAYS"),
         Form::Folder => arg.long(argument.name).value_name("FOLDER"),
         Form::Keep => arg
@@ -828,6 +886,12 @@ fn arg_of<'a>(alloc: Global, argument: &Argument) -> Result<Arg<'a>, AllocError>
             .value_name("FORMAT")
             .value_parser(FORMATS)
             .default_value("text"),
+        Form::ChartFormat => arg
+            .long(argument.name)
+            .value_name("FORMAT")
+            .value_parser(FORMATS)
+            .default_value("text")
+            .conflicts_with("svg")?,
         Form::DayFormat => arg
             .long(argument.name)
             .value_name("FORMAT")
