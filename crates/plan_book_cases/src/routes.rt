@@ -1,13 +1,12 @@
-//! A request for each route, over a book in memory and over SQL in memory, while one allocation may
-//! fail (`tests/refusals/run` lets each fail in turn). The request is answered, or refused for lack
-//! of memory; then nothing has changed, and the same request is answered as with ample memory.
+//! A request to each route, while one allocation may fail (`tests/refusals/run` lets each fail in
+//! turn). The request is answered, or refused for lack of memory; then nothing has changed, and the
+//! same request is answered as with ample memory.
 
-use crate::office::{NORTH_KEY, OFFICE_KEY, body_of, office, read, sent, sql_office};
+use crate::exchange::{NORTH_KEY, OFFICE_KEY, body_of, expect, read, sent};
+use crate::wrong::Wrong;
 use plan_desk::{Book, Office, Request};
 use plan_http::Routes;
 use std::alloc::{AllocError, Global};
-use std::process::Abort;
-use std::test::Fail;
 
 // Six activities of durations 0, 3, 2, 4, 3 and 0, and one resource of capacity 2.
 const SIX: &str = "projects: 1
@@ -231,19 +230,17 @@ const EXCHANGES: [Exchange; 18] = [
 
 // Expects the answer to a request, at its second try if memory runs out at the first.
 fn settle<B: Book>(
-    rt: &impl Abort,
+    alloc: Global,
     office: &mut Office<B>,
     request: &Request,
-    status: u16,
-    answer: &str,
-) {
+    exchange: &Exchange,
+) -> Result<(), Wrong> {
+    let (line, _, _, status, answer) = *exchange;
     let mut reply = office.handle(request);
-    if reply.status == 503 {
-        assert_eq!(rt; body_of(&reply), "E90 memory\n");
+    if reply.status == 503 && body_of(&reply) == "E90 memory\n" {
         reply = office.handle(request);
     }
-    assert_eq!(rt; body_of(&reply), answer);
-    assert_eq!(rt; reply.status, status);
+    expect(alloc, line, reply, status, answer)
 }
 
 // Returns the bytes of a request, at the second try if memory runs out at the first.
@@ -256,27 +253,23 @@ fn conn_of(alloc: Global, exchange: &Exchange) -> Result<String, AllocError> {
 }
 
 // Returns the request of a connection, at the second try if memory runs out at the first.
-fn request_of(rt: &impl Abort, alloc: Global, routes: &Routes, conn: &str) -> Option<Request> {
-    match read(rt, alloc, routes, conn) {
-        Some(request) => Some(request),
-        None => read(rt, alloc, routes, conn),
+fn request_of(alloc: Global, routes: &Routes, conn: &str) -> Result<Request, Wrong> {
+    match read(alloc, routes, conn) {
+        Err(Wrong::NoMemory) => read(alloc, routes, conn),
+        read => read,
     }
 }
 
 // Expects a request to be read and answered, with a second try for each step.
 fn expect_exchange<B: Book>(
-    rt: &impl Abort,
     alloc: Global,
     routes: &Routes,
     office: &mut Office<B>,
     exchange: &Exchange,
-) -> Result<(), AllocError> {
+) -> Result<(), Wrong> {
     let conn = conn_of(alloc, exchange)?;
-    match request_of(rt, alloc, routes, conn.as_str()) {
-        Some(request) => settle(rt, office, &request, exchange.3, exchange.4),
-        None => return Err(AllocError),
-    }
-    Ok(())
+    let request = request_of(alloc, routes, conn.as_str())?;
+    settle(alloc, office, &request, exchange)
 }
 
 fn routes_of(alloc: Global) -> Result<Routes, AllocError> {
@@ -286,36 +279,17 @@ fn routes_of(alloc: Global) -> Result<Routes, AllocError> {
     }
 }
 
-fn expect_all<B: Book>(rt: &impl Abort, alloc: Global, office: &mut Office<B>) -> Result<(), Fail> {
-    let routes = routes_of(alloc)?;
-    for exchange in &EXCHANGES {
-        expect_exchange(rt, alloc, &routes, office, exchange)?;
-    }
-    Ok(())
-}
-
-// Expects all answers of an office, if there was memory for it.
-fn expect_office<B: Book + Drop>(
-    rt: &impl Abort,
+/// Expects all answers of an office, if there was memory for it.
+pub fn expect_each_route<B: Book + Drop>(
     alloc: Global,
     office: Option<Office<B>>,
-) -> Result<(), Fail> {
-    match office {
-        Some(mut office) => expect_all(rt, alloc, &mut office),
-        None => panic!(rt; "no memory"),
+) -> Result<(), Wrong> {
+    let Some(mut office) = office else {
+        return Err(Wrong::NoMemory);
+    };
+    let routes = routes_of(alloc)?;
+    for exchange in &EXCHANGES {
+        expect_exchange(alloc, &routes, &mut office, exchange)?;
     }
-}
-
-#[test]
-fn each_route(rt: HostRuntime) -> Result<(), Fail> {
-    let alloc = rt.alloc();
-    let made = office(alloc).or_else(|| office(alloc));
-    expect_office(&rt, alloc, made)
-}
-
-#[test]
-fn each_route_over_sql(rt: HostRuntime) -> Result<(), Fail> {
-    let alloc = rt.alloc();
-    let made = sql_office(alloc).or_else(|| sql_office(alloc));
-    expect_office(&rt, alloc, made)
+    Ok(())
 }

@@ -1,6 +1,8 @@
 //! Two runs that a desk can't tell apart, over two kinds of books.
 
-use crate::office::{NORTH_KEY, OFFICE_KEY, office, sent, sql_office};
+use crate::office::office;
+use plan_book_cases::{NORTH_KEY, OFFICE_KEY, office_digest, office_over, sent};
+use plan_desk::MemBook;
 use plan_http::{Run, serve_two_worlds};
 use std::alloc::{AllocError, Global};
 use std::process::Abort;
@@ -45,7 +47,8 @@ fn expect_last(rt: &impl Abort, run: &Run, count: usize) {
 #[test]
 fn a_desk_receives_the_same_responses_beside_another_desk(rt: HostRuntime) -> Result<(), Fail> {
     let alloc = rt.alloc();
-    let (Some(mut first), Some(mut second)) = (office(alloc), sql_office(alloc)) else {
+    let first = office_over(alloc, Some(MemBook::new(alloc, office_digest())));
+    let (Some(mut first), Some(mut second)) = (first, office(alloc)) else {
         panic!(rt; "no memory");
     };
     let north = opening(alloc, "north", NORTH_KEY)?;

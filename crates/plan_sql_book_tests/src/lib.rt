@@ -1,4 +1,4 @@
-//! Tests of offices over each kind of book: in memory, in SQL in memory, and in SQL in a file.
+//! Tests of offices over a book in SQL in memory.
 #![tactic(auto)]
 
 #[cfg(test)]
