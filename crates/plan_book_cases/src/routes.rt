@@ -256,7 +256,7 @@ fn conn_of(alloc: Global, exchange: &Exchange) -> Result<String, AllocError> {
 fn request_of(alloc: Global, routes: &Routes, conn: &str) -> Result<Request, Wrong> {
     match read(alloc, routes, conn) {
         Err(Wrong::NoMemory) => read(alloc, routes, conn),
-        read => read,
+        asked => asked,
     }
 }
 

@@ -15,11 +15,6 @@ pub enum Wrong {
 }
 
 impl From<AllocError> for Wrong {
-    ghost use Rattle.std.specs.Prelude.{◌≡◌};
-    ghost use Rattle.plan_book_cases.specs.declared.wrong.Wrong.TheVariants.{NoMemory};
-
-    ghost from_gives = { λ _ wrong. wrong ≡ NoMemory };
-
     fn from(_error: AllocError) -> Self {
         Wrong::NoMemory
     }

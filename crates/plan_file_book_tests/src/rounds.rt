@@ -18,14 +18,18 @@ fn make_office(rt: &HostRuntime, path: &str) -> Option<Office<FileBook>> {
     let Ok(conn) = Connection::open_from(rt, path, false, Unknown) else {
         return None;
     };
-    let book = SqlBook::create_in(rt.alloc(), conn, &office_digest());
-    office_over(rt.alloc(), book.ok())
+    let Ok(book) = SqlBook::create_in(rt.alloc(), conn, &office_digest()) else {
+        return None;
+    };
+    office_over(rt.alloc(), Some(book))
 }
 
 // Returns an office over the tables in a file.
 fn open_office(rt: &HostRuntime, path: &str) -> Option<Office<FileBook>> {
-    let book = SqlBook::open_from(rt, path, Unknown);
-    office_over(rt.alloc(), book.ok())
+    let Ok(book) = SqlBook::open_from(rt, path, Unknown) else {
+        return None;
+    };
+    office_over(rt.alloc(), Some(book))
 }
 
 // Returns the name of a new file in the folder of temporary files.

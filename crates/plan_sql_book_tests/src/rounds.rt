@@ -12,9 +12,11 @@ fn in_sql_in_memory(rt: HostRuntime) -> Result<(), Fail> {
         panic!(rt; "no memory");
     };
     expect_first(alloc, &mut office)?;
-    let adopted = SqlBook::adopt(alloc, office.into_book().into_connection());
-    let Some(mut office) = office_over(alloc, adopted.ok()) else {
+    let Ok(book) = SqlBook::adopt(alloc, office.into_book().into_connection()) else {
         panic!(rt; "the tables aren't opened again");
+    };
+    let Some(mut office) = office_over(alloc, Some(book)) else {
+        panic!(rt; "no memory");
     };
     expect_rest(alloc, &mut office)?;
     // No office is made over its tables.
