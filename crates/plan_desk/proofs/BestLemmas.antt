@@ -53,7 +53,7 @@ shop_best word budget s solved text spelled solution shortest active is shown = 
 
 -- the answer for a project's plan
 pub project_answered : {T E : Type 0} (text_of : T → Text) (line_of : E → Text) (r : Result T E) (bound : BoundPlan) (word : Text) (p : Project) (caps : List ℕ)
-    → bound.plan.kind ≡ kinds.Project → IsProjectIn bound.plan p → caps ≡ capacities_in bound.places.items 1 p.available
+    → bound.plan.now.kind ≡ kinds.Project → IsProjectIn bound.plan.now p → caps ≡ capacities_in bound.places.items 1 p.available
     → MatchResult r (λ x. IsBestProjectTextOf word (planned p caps) (text_of x)) (λ x. TellsBestProjectRefusal word (planned p caps) (line_of x))
     → MatchResult r (λ x. IsBestOf bound word (text_of x)) (λ x. TellsNoBest bound word (line_of x))
 project_answered text_of line_of (Ok x) bound word p caps kind project are best =
@@ -63,7 +63,7 @@ project_answered text_of line_of (Err x) bound word p caps kind project are told
 
 -- the answer for a shop's plan
 pub shop_answered : {T E : Type 0} (text_of : T → Text) (line_of : E → Text) (r : Result T E) (bound : BoundPlan) (word : Text) (doc : docs.Shop) (usable : List Bool)
-    → bound.plan.kind ≡ kinds.Shop → Says (string_bytes bound.plan.name) bound.plan.body.items doc → usable ≡ open_in bound (shop_of doc)
+    → bound.plan.now.kind ≡ kinds.Shop → Says (string_bytes bound.plan.now.name) bound.plan.now.body.items doc → usable ≡ open_in bound (shop_of doc)
     → MatchResult r (λ x. IsOpenBest word (shop_of doc) usable (text_of x)) (λ x. TellsNoShopBest word (shop_of doc) usable (line_of x))
     → MatchResult r (λ x. IsBestOf bound word (text_of x)) (λ x. TellsNoBest bound word (line_of x))
 shop_answered text_of line_of (Ok x) bound word doc usable kind says are best =

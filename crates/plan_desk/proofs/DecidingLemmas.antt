@@ -7,9 +7,8 @@ use Rattle.std.proofs.lemmas.List.{map-append}
 use Rattle.std.proofs.Math.Seq.{take-suc}
 use Rattle.plan_desk.specs.declared.bound.BoundPlace.{BoundPlace}
 use Rattle.plan_rows.specs.declared.rows.BindEntry.{BindEntry}
-use Rattle.std.proofs.Common.{Vec}
-use Rattle.std.specs.Global.{Global}
-use Rattle.plan_desk.specs.Pages.{bound_in, IsBound}
+use Rattle.plan_desk.specs.Pages.{bound_in, IsFound, IsBound}
+use Rattle.plan_desk.specs.declared.bound.BoundPlan.{BoundPlan}
 use Rattle.plan_rows.specs.declared.fault.BookFault.{BookFault}
 use Rattle.plan_rows.specs.declared.fault.BookFault.TheVariants.{NoMemory, Store}
 use Rattle.plan_desk.specs.declared.lookup.FoundPlan.{FoundPlan}
@@ -18,7 +17,7 @@ use Rattle.plan_rows.specs.World.{Text, Published, Plan, World}
 use Rattle.plan_rows.specs.Views.{View}
 use Rattle.plan_rows.specs.Plans.{plan_number, plan_seen, has_number}
 use Rattle.plan_rows.specs.Books.{Shelf, MoreFaults, Reads, Matches, IsPlanAnswer, bind_in}
-use Rattle.plan_desk.specs.Lookup.{IsNumbered, with_capacity_of, HasCapacities}
+use Rattle.plan_desk.specs.Lookup.{IsNumbered, BindsPlan, with_capacity_of, HasCapacities}
 use Rattle.plan_desk.specs.BookSteps.{Quiet, Finds, Knows}
 use Rattle.plan_rows.proofs.RuleLemmas.{found_has}
 
@@ -238,11 +237,10 @@ plan_missing v text n spelled missing =
     by_row (Some row) is = absurd is
 
 -- a plan that is found, with the capacities of its places
-pub bound_there : (v : View) (text : Text) (found : FoundPlan) (places : Vec BoundPlace Global) → IsNumbered v text found
-    → HasCapacities v.published found.plan.binds.items places.items → IsBound v text (record { plan = found.plan; places = places })
-bound_there v text found places is has = record {
-  row = is.row;
-  seen = is.seen;
-  answer = is.answer;
-  places = has ∙ ap (map (with_capacity_of v.published)) is.answer.binds_are;
+pub bound_is : (v : View) (text : Text) (plan : PlanRow) (bound : BoundPlan) → IsFound v text plan → BindsPlan v.published plan bound → IsBound v text bound
+bound_is v text plan bound found binds = record {
+  row = found.row;
+  seen = found.seen;
+  answer = subst (IsPlanAnswer v found.row) (sym binds.plan_is) found.answer;
+  places = binds.places ∙ ap (map (with_capacity_of v.published)) found.answer.binds_are;
 }

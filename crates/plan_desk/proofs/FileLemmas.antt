@@ -16,7 +16,7 @@ use Rattle.plan_rows.specs.declared.fault.BookFault.{BookFault}
 use Rattle.plan_rows.specs.declared.rows.LagEntry.{LagEntry}
 use Rattle.plan_rows.specs.Plans.{lagged_by}
 use Rattle.plan_rows.specs.Books.{lag_in}
-use Rattle.plan_desk.specs.PlanValues.{TakesLags}
+use Rattle.plan_desk.specs.KeptFiles.{TakesLags}
 
 -- a text that spells a project is refused only for lack of memory
 pub refused_for_memory : (text : List ℕ) (p : Project) (first : FileFault) → SaysProject text p

@@ -1,3 +1,4 @@
+pub mod KeptPlanLemmas
 pub mod SeenLemmas
 pub mod StoryLemmas
 pub mod OutcomeLemmas

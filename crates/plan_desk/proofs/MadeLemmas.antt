@@ -85,8 +85,8 @@ made_of_shop s usable name rule m small named opened are active is within = reco
 }
 
 -- the line that refuses the schedule of a plan's shop
-pub shop_told : (bound : BoundPlan) (name : Text) (doc : docs.Shop) (usable : List Bool) (first : ShopFault) (line : Text) → bound.plan.kind ≡ kinds.Shop
-    → Says (string_bytes bound.plan.name) bound.plan.body.items doc → usable ≡ open_in bound (shop_of doc) → (first ≡ NoMemory → ⊥)
+pub shop_told : (bound : BoundPlan) (name : Text) (doc : docs.Shop) (usable : List Bool) (first : ShopFault) (line : Text) → bound.plan.now.kind ≡ kinds.Shop
+    → Says (string_bytes bound.plan.now.name) bound.plan.now.body.items doc → usable ≡ open_in bound (shop_of doc) → (first ≡ NoMemory → ⊥)
     → (first ≡ NoMemory) ⊎ TellsShopRefusal name (shop_of doc) usable (shop_fault_text_of first) → line ≡ shop_fault_text_of first
     → TellsUnscheduled bound name line
 shop_told bound name doc usable first line kind says are enough (inl memory) is = absurd (enough memory)

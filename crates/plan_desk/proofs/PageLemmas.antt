@@ -73,8 +73,8 @@ shop_is v row plan s answer (doc, says, e) =
 pub found_sound : (plan : PlanRow) (v : View) (n : Text) → IsFound v n plan → IsWorld (alone v) → IsSoundPlan plan
 found_sound plan v n found k = sound_plan v n found.row plan k found.seen found.answer
 
-pub bound_sound : (bound : BoundPlan) (v : View) (n : Text) → IsBound v n bound → IsWorld (alone v) → IsSoundPlan bound.plan
-bound_sound bound v n is k = sound_plan v n is.row bound.plan k is.seen is.answer
+pub bound_sound : (bound : BoundPlan) (v : View) (n : Text) → IsBound v n bound → IsWorld (alone v) → IsSoundPlan bound.plan.now
+bound_sound bound v n is k = sound_plan v n is.row bound.plan.now k is.seen is.answer
 
 -- the dates of a project
 pub dates_shown : (plan : PlanRow) (p : Project) (text : Text) (reply : Reply) → plan.kind ≡ kinds.Project → IsProjectIn plan p → IsDateText p.network text
@@ -112,17 +112,17 @@ schedule_shown : (bound : BoundPlan) (rule : Text) (it : Scheduled) (reply : Rep
 unfolding OfSchedule OfShopSchedule some why_or
 schedule_shown bound rule (made.Project p schedule) reply Rest RestOfShop (kind, project, done) v n is rest =
     plan_there v n is.row _ reply is.seen
-    (of_project is.row bound.plan _ _ reply is.answer.kind kind (
+    (of_project is.row bound.plan.now _ _ reply is.answer.kind kind (
       p,
-      project_is v is.row bound.plan p is.answer project,
+      project_is v is.row bound.plan.now p is.answer project,
       subst (λ i. why_or (TellsRefusal rule i) bad_schedule (IsScheduleBy i rule) (Rest is.row i) reply Keep) (planned_is v n bound is p)
           (inr (schedule.starts.items, done.by, rest)),
     ))
 schedule_shown bound rule (made.Shop s schedule) reply Rest RestOfShop (kind, shop, done) v n is rest =
     plan_there v n is.row _ reply is.seen
-    (of_shop is.row bound.plan _ _ reply is.answer.kind kind (
+    (of_shop is.row bound.plan.now _ _ reply is.answer.kind kind (
       s,
-      shop_is v is.row bound.plan s is.answer shop,
+      shop_is v is.row bound.plan.now s is.answer shop,
       subst (λ usable. why_or (TellsShopRefusal rule s usable) bad_schedule (IsShopScheduleBy s usable rule) (RestOfShop is.row s) reply Keep) (open_are v n bound is s)
           (inr (schedule.starts.items, done.by, rest)),
     ))
@@ -133,17 +133,17 @@ schedule_refused : (bound : BoundPlan) (rule line : Text) (reply : Reply) (Rest 
 unfolding OfSchedule OfShopSchedule some why_or refuses
 schedule_refused bound rule line reply Rest RestOfShop (inl (kind, (p, project, told))) e v n is =
     plan_there v n is.row _ reply is.seen
-    (of_project is.row bound.plan _ _ reply is.answer.kind kind (
+    (of_project is.row bound.plan.now _ _ reply is.answer.kind kind (
       p,
-      project_is v is.row bound.plan p is.answer project,
+      project_is v is.row bound.plan.now p is.answer project,
       subst (λ i. why_or (TellsRefusal rule i) bad_schedule (IsScheduleBy i rule) (Rest is.row i) reply Keep) (planned_is v n bound is p)
           (inl (line, told, (e, refl))),
     ))
 schedule_refused bound rule line reply Rest RestOfShop (inr (kind, (s, shop, told))) e v n is =
     plan_there v n is.row _ reply is.seen
-    (of_shop is.row bound.plan _ _ reply is.answer.kind kind (
+    (of_shop is.row bound.plan.now _ _ reply is.answer.kind kind (
       s,
-      shop_is v is.row bound.plan s is.answer shop,
+      shop_is v is.row bound.plan.now s is.answer shop,
       subst (λ usable. why_or (TellsShopRefusal rule s usable) bad_schedule (IsShopScheduleBy s usable rule) (RestOfShop is.row s) reply Keep) (open_are v n bound is s)
           (inl (line, told, (e, refl))),
     ))
@@ -195,19 +195,19 @@ same_calendar a b IsTable IsBeyond reply same also h =
 
 -- the working days of a schedule
 days_answered : (bound : BoundPlan) (rule : Text) (it : Scheduled) (reply : Reply) → IsScheduled bound rule it
-    → OfCalendar (row_in bound.plan) (IsDaysTableOf it) (HasDayBeyondOf it) reply Keep → (v : View) (n : Text) → IsBound v n bound → Days v n rule reply Keep
+    → OfCalendar (row_in bound.plan.now) (IsDaysTableOf it) (HasDayBeyondOf it) reply Keep → (v : View) (n : Text) → IsBound v n bound → Days v n rule reply Keep
 unfolding Days
 days_answered bound rule (made.Project p schedule) reply done days v n seen =
     schedule_shown bound rule (made.Project p schedule) reply _ _ done v n seen
-    (same_calendar (row_in bound.plan) seen.row _ _ reply seen.answer.start seen.answer.days days)
+    (same_calendar (row_in bound.plan.now) seen.row _ _ reply seen.answer.start seen.answer.days days)
 days_answered bound rule (made.Shop s schedule) reply done days v n seen =
     schedule_shown bound rule (made.Shop s schedule) reply _ _ done v n seen
-    (same_calendar (row_in bound.plan) seen.row _ _ reply seen.answer.start seen.answer.days days)
+    (same_calendar (row_in bound.plan.now) seen.row _ _ reply seen.answer.start seen.answer.days days)
 
 -- the page of a schedule's working days
 pub days_made : (bound : BoundPlan) (rule : Text) (it : Scheduled) (r : Result rows.Reply BookFault) → IsScheduled bound rule it
-    → IfOk r (λ reply. OfCalendar (row_in bound.plan) (IsDaysTableOf it) (HasDayBeyondOf it) (reply_of reply) Keep)
-    → IfErr r (λ fault. fault ≡ Store → HasCalendar (string_bytes bound.plan.start) (string_bytes bound.plan.days) → ⊥)
+    → IfOk r (λ reply. OfCalendar (row_in bound.plan.now) (IsDaysTableOf it) (HasDayBeyondOf it) (reply_of reply) Keep)
+    → IfErr r (λ fault. fault ≡ Store → HasCalendar (string_bytes bound.plan.now.start) (string_bytes bound.plan.now.days) → ⊥)
     → MakesPage (λ v n. IsBound v n bound) (λ v n. Days v n rule) r
 days_made bound rule it (Ok reply) done days blamed = record { shown = days_answered bound rule it (reply_of reply) done days; blamed = tt }
 days_made bound rule it (Err fault) done days blamed = record { shown = tt; blamed = λ e v n is k. blamed e (bound_sound bound v n is k).calendar }
@@ -223,16 +223,16 @@ pub best_shown : (bound : BoundPlan) (word text : Text) (reply : Reply) → IsBe
 unfolding Best OfProjectBest OfShopBest some why_or shows
 best_shown bound word text reply (inl (kind, (p, project, best))) e v n is =
     plan_there v n is.row _ reply is.seen
-    (of_project is.row bound.plan _ _ reply is.answer.kind kind (
+    (of_project is.row bound.plan.now _ _ reply is.answer.kind kind (
       p,
-      project_is v is.row bound.plan p is.answer project,
+      project_is v is.row bound.plan.now p is.answer project,
       inr (text, subst (λ i. IsBestProjectTextOf word i text) (planned_is v n bound is p) best, (text, refl, e, refl)),
     ))
 best_shown bound word text reply (inr (kind, (s, shop, best))) e v n is =
     plan_there v n is.row _ reply is.seen
-    (of_shop is.row bound.plan _ _ reply is.answer.kind kind (
+    (of_shop is.row bound.plan.now _ _ reply is.answer.kind kind (
       s,
-      shop_is v is.row bound.plan s is.answer shop,
+      shop_is v is.row bound.plan.now s is.answer shop,
       inr (text, subst (λ usable. IsOpenBest word s usable text) (open_are v n bound is s) best, (text, refl, e, refl)),
     ))
 
@@ -241,15 +241,15 @@ pub best_refused : (bound : BoundPlan) (word line : Text) (reply : Reply) → Te
 unfolding Best OfProjectBest OfShopBest some why_or refuses
 best_refused bound word line reply (inl (kind, (p, project, told))) e v n is =
     plan_there v n is.row _ reply is.seen
-    (of_project is.row bound.plan _ _ reply is.answer.kind kind (
+    (of_project is.row bound.plan.now _ _ reply is.answer.kind kind (
       p,
-      project_is v is.row bound.plan p is.answer project,
+      project_is v is.row bound.plan.now p is.answer project,
       inl (line, subst (λ i. TellsBestProjectRefusal word i line) (planned_is v n bound is p) told, (e, refl)),
     ))
 best_refused bound word line reply (inr (kind, (s, shop, told))) e v n is =
     plan_there v n is.row _ reply is.seen
-    (of_shop is.row bound.plan _ _ reply is.answer.kind kind (
+    (of_shop is.row bound.plan.now _ _ reply is.answer.kind kind (
       s,
-      shop_is v is.row bound.plan s is.answer shop,
+      shop_is v is.row bound.plan.now s is.answer shop,
       inl (line, subst (λ usable. TellsNoShopBest word s usable line) (open_are v n bound is s) told, (e, refl)),
     ))

@@ -18,7 +18,8 @@ use Rattle.plan_rows.specs.Plans.{plan_seen, plan_number, has_number, put_in_ord
 use Rattle.plan_rows.specs.Plans.{has_arc}
 use Rattle.plan_rows.specs.Rules.{IsThereAnd, IsPlanRow, IsLagRow, IsWorld, HasCalendar}
 use Rattle.plan_rows.specs.Books.{IsPlanAnswer}
-use Rattle.plan_desk.specs.PlanValues.{TakesLags, IsSoundPlan}
+use Rattle.plan_desk.specs.KeptFiles.{TakesLags}
+use Rattle.plan_desk.specs.PlanValues.{IsSoundPlan}
 use Rattle.plan_desk.proofs.KeepLemmas.{HasLag}
 use Rattle.plan_desk.proofs.SameLemmas.{Has, all_has, found_there, found_one, filter_has, any_has}
 use Rattle.plan_desk.proofs.LooksLemmas.{same_number, numbers_differ, at_has}
@@ -99,14 +100,14 @@ pub seen_has : (v : View) (n : Text) (row : Plan) → plan_seen v n ≡ Some row
 seen_has v n row seen = (found_there (has_number row.n) v.plans row (seen_number v n row seen)).0
 
 -- a plan of its number is the plan
-same_plan : (v : View) (n : Text) (row other : Plan) → IsWorld (alone v) → plan_seen v n ≡ Some row → Has v.plans other → other.n ≡ row.n → other ≡ row
-same_plan v n row other k seen there same =
+same_plan : (v : View) (row other : Plan) → IsWorld (alone v) → find (has_number row.n) v.plans ≡ Some row → Has v.plans other → other.n ≡ row.n → other ≡ row
+same_plan v row other k seen there same =
     let found = found_one same_number (has_number row.n) (λ x y a b. eq-eqb y.n x.n (eqb-true y.n row.n b ∙ sym (eqb-true x.n row.n a)))
     v.plans other (numbers_differ v k) there (eq-eqb other.n row.n same) in
-    cc (found, seen_number v n row seen)
+    cc (found, seen)
 
 -- a fact about the plan that a row belongs to holds for the plan
-module _ (v : View) (n : Text) (row : Plan) (k : IsWorld (alone v)) (seen : plan_seen v n ≡ Some row) where
+module _ (v : View) (row : Plan) (k : IsWorld (alone v)) (seen : find (has_number row.n) v.plans ≡ Some row) where
   of_its_plan : (t : Text) (m : ℕ) (P : Plan → Type 0) → m ≡ row.n → IsThereAnd (plan_in (alone v) t m) P → P row
   of_its_plan t m P same h = by_plan (plan_in (alone v) t m) refl h
     where
@@ -115,7 +116,7 @@ module _ (v : View) (n : Text) (row : Plan) (k : IsWorld (alone v)) (seen : plan
       by_plan (Some x) e there =
           let found = found_there (is_plan t m) v.plans x e in
           let number = eqb-true x.n m (and_parts (is_plan_of t x) (x.n == m) found.1).1 in
-          subst P (same_plan v n row x k seen found.0 (number ∙ same)) there
+          subst P (same_plan v row x k seen found.0 (number ∙ same)) there
 
   -- the lags of the plan are on arcs of any project that its file spells
   its_lag : (p : Project) → SaysProject row.body p → (x : Lag) → Has v.lags x → x.n ≡ row.n → IsArc p.network x.source x.target × (x.lag ≤ 10000)
@@ -136,16 +137,19 @@ module _ (v : View) (n : Text) (row : Plan) (k : IsWorld (alone v)) (seen : plan
       (its_lag p says x there.0 (eqb-true x.n row.n there.1))
 
 -- a plan that a book returns keeps the rules of rows
-pub sound_plan : (v : View) (n : Text) (row : Plan) (plan : PlanRow) → IsWorld (alone v) → plan_seen v n ≡ Some row → IsPlanAnswer v row plan → IsSoundPlan plan
-sound_plan v n row plan k seen answer = record {
+pub sound_row : (v : View) (row : Plan) (plan : PlanRow) → IsWorld (alone v) → find (has_number row.n) v.plans ≡ Some row → IsPlanAnswer v row plan → IsSoundPlan plan
+sound_row v row plan k seen answer = record {
   project = λ kind. record {
     says = project_said row.kind row.name row.body plan.body.items keeps.reads (sym answer.kind ∙ kind) answer.body;
     takes = λ p says. subst (λ arcs. TakesLags p arcs) (sym answer.lags_are)
-        (its_lags v n row k seen p (subst (λ file. SaysProject file p) answer.body says));
+        (its_lags v row k seen p (subst (λ file. SaysProject file p) answer.body says));
   };
   shop = λ kind. shop_said row.kind row.name row.body (string_bytes plan.name) plan.body.items keeps.reads (sym answer.kind ∙ kind) answer.name answer.body;
   calendar = subst (λ start. HasCalendar start (string_bytes plan.days)) (sym answer.start) (subst (λ days. HasCalendar row.start days) (sym answer.days) keeps.calendar);
 }
   where
     keeps : IsPlanRow row
-    keeps = all_has IsPlanRow v.plans row k.plans (seen_has v n row seen)
+    keeps = all_has IsPlanRow v.plans row k.plans (found_there (has_number row.n) v.plans row seen).0
+
+pub sound_plan : (v : View) (n : Text) (row : Plan) (plan : PlanRow) → IsWorld (alone v) → plan_seen v n ≡ Some row → IsPlanAnswer v row plan → IsSoundPlan plan
+sound_plan v n row plan k seen answer = sound_row v row plan k (seen_number v n row seen) answer

@@ -20,18 +20,18 @@ IsOpenBest word s usable text = NoneIsClosed s.steps usable × IsBestTextOf word
 -- a text shows the best schedule of a plan within the budget that another text spells
 abbrev pub IsBestOf : BoundPlan → Text → Text → Type 0
 IsBestOf bound word text =
-    ((bound.plan.kind ≡ kinds.Project)
-    × ((p : Project) × IsProjectIn bound.plan p
+    ((bound.plan.now.kind ≡ kinds.Project)
+    × ((p : Project) × IsProjectIn bound.plan.now p
     × IsBestProjectTextOf word (planned_in bound p) text))
-    ⊎ ((bound.plan.kind ≡ kinds.Shop)
-    × ((s : JobShop) × IsShopOf (row_in bound.plan) s × IsOpenBest word s (open_in bound s) text))
+    ⊎ ((bound.plan.now.kind ≡ kinds.Shop)
+    × ((s : JobShop) × IsShopOf (row_in bound.plan.now) s × IsOpenBest word s (open_in bound s) text))
 
 -- a line refuses the search of a plan
 abbrev pub TellsNoBest : BoundPlan → Text → Text → Type 0
 TellsNoBest bound word line =
-    ((bound.plan.kind ≡ kinds.Project)
-    × ((p : Project) × IsProjectIn bound.plan p
+    ((bound.plan.now.kind ≡ kinds.Project)
+    × ((p : Project) × IsProjectIn bound.plan.now p
     × TellsBestProjectRefusal word (planned_in bound p) line))
-    ⊎ ((bound.plan.kind ≡ kinds.Shop)
-    × ((s : JobShop) × IsShopOf (row_in bound.plan) s
+    ⊎ ((bound.plan.now.kind ≡ kinds.Shop)
+    × ((s : JobShop) × IsShopOf (row_in bound.plan.now) s
     × TellsNoShopBest word s (open_in bound s) line))

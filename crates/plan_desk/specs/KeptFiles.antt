@@ -2,6 +2,8 @@
 use Rattle.std.specs.Prelude.{◌≡◌, ℕ, ◌/◌, ◌≤◌, ◌⊎◌, List, [], ◌∷◌, ◌++◌, map, take, drop, length, All, Contains}
 use Rattle.std.specs.List.{sum_by}
 use Rattle.lru.specs.LruCache.{LruCache}
+use Rattle.plan_net.specs.Limits.{longest_lag}
+use Rattle.plan_net.specs.Network.{IsArc}
 use Rattle.plan_psplib.specs.Project.{Project, SaysProject}
 use Rattle.plan_orlib.specs.Shop as docs
 use Rattle.plan_orlib.specs.Says.{Says}
@@ -10,7 +12,6 @@ use Rattle.plan_rows.specs.Books.{lag_in}
 use Rattle.plan_rows.specs.declared.kinds.PlanKind.{PlanKind}
 use Rattle.plan_rows.specs.declared.kinds.PlanKind.TheVariants as kinds
 use Rattle.plan_rows.specs.declared.rows.LagEntry.{LagEntry}
-use Rattle.plan_desk.specs.PlanValues.{TakesLags}
 use Rattle.plan_desk.specs.declared.stored_files.StoredFile.{StoredFile}
 use Rattle.plan_desk.specs.declared.file_keys.FileKey.{FileKey}
 use Rattle.plan_desk.specs.declared.files.Document.{Document}
@@ -44,6 +45,10 @@ IsLagged body lags p = (said : Project) × SaysProject body said × (p ≡ lagge
 abbrev pub IsReading : Stored → Document → Type 0
 IsReading f (documents.Project p) = (f.kind ≡ kinds.Project) × IsLagged f.body f.lags p
 IsReading f (documents.Shop s) = (f.kind ≡ kinds.Shop) × Says f.name f.body s
+
+-- each lag is on an arc of the project, and is at most the longest allowed lag
+abbrev pub TakesLags : Project → List (ℕ × ℕ × ℕ) → Type 0
+TakesLags p arcs = All (λ arc. IsArc p.network arc.0 arc.1 × (arc.2 ≤ longest_lag)) arcs
 
 -- the body spells a project, and any project that it spells has the arcs of the lags
 pub record TakesProject (body : List ℕ) (lags : List LagEntry) : Type 0 where

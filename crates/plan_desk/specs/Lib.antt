@@ -1,3 +1,5 @@
+pub mod KeptPlans
+pub mod ReadPlans
 pub mod Bodies
 pub mod Calls
 pub mod Stories

@@ -37,7 +37,7 @@ pub record IsFound (v : View) (n : Text) (plan : PlanRow) : Type 0 where
 pub record IsBound (v : View) (n : Text) (bound : BoundPlan) : Type 0 where
   pub row : Plan
   pub seen : plan_seen v n ≡ Some row
-  pub answer : IsPlanAnswer v row bound.plan
+  pub answer : IsPlanAnswer v row bound.plan.now
   pub places : map bound_in bound.places.items ≡ capacities_at v row.n
 
 -- The reply is the route's reply in each view that contains the plan, and nothing changes. The

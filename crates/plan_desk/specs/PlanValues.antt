@@ -1,7 +1,5 @@
 -- Values of a plan that a book returns, for private clauses only (docs/definitions.md, "Books").
-use Rattle.std.specs.Prelude.{◌≡◌, ℕ, zero, suc, ◌+◌, ◌≤◌, Bool, true, ◌==◌, not, List, [], ◌∷◌, ◌++◌, map, find, All, Option, Some, None, unwrap_or, option_and_then, string_bytes}
-use Rattle.plan_net.specs.Limits.{longest_lag}
-use Rattle.plan_net.specs.Network.{IsArc}
+use Rattle.std.specs.Prelude.{◌≡◌, ℕ, zero, suc, ◌+◌, Bool, true, ◌==◌, not, List, [], ◌∷◌, ◌++◌, map, find, Option, Some, None, unwrap_or, option_and_then, string_bytes}
 use Rattle.plan_psplib.specs.Project.{Project, SaysProject}
 use Rattle.plan_orlib.specs.Shop as docs
 use Rattle.plan_orlib.specs.Says.{Says}
@@ -15,6 +13,7 @@ use Rattle.plan_rows.specs.World.{Plan}
 use Rattle.plan_rows.specs.Plans.{lagged_by}
 use Rattle.plan_rows.specs.Books.{lag_in}
 use Rattle.plan_rows.specs.Rules.{HasCalendar}
+use Rattle.plan_desk.specs.KeptFiles.{TakesLags}
 
 -- the lags of a plan, each with the two activities of its arc
 abbrev pub lags_in : PlanRow → List (ℕ × ℕ × ℕ)
@@ -24,10 +23,6 @@ lags_in plan = map lag_in plan.lags.items
 abbrev pub IsProjectIn : PlanRow → Project → Type 0
 IsProjectIn plan p =
     (said : Project) × SaysProject plan.body.items said × (p ≡ lagged_by (lags_in plan) said)
-
--- each lag is on an arc of the project, and is at most the longest allowed lag
-abbrev pub TakesLags : Project → List (ℕ × ℕ × ℕ) → Type 0
-TakesLags p arcs = All (λ arc. IsArc p.network arc.0 arc.1 × (arc.2 ≤ longest_lag)) arcs
 
 -- the file spells a project, and any project that it spells has the arcs of the lags
 pub record HasProject (plan : PlanRow) : Type 0 where

@@ -49,19 +49,19 @@ pub record IsMadeOfShop (s : JobShop) (usable : List Bool) (name : Text) (schedu
 -- the schedule of a plan by the rule with this name
 abbrev pub IsScheduled : BoundPlan → Text → Scheduled → Type 0
 IsScheduled bound name (made.Project p schedule) =
-    (bound.plan.kind ≡ kinds.Project) × IsProjectIn bound.plan p
+    (bound.plan.now.kind ≡ kinds.Project) × IsProjectIn bound.plan.now p
     × IsMade (planned_in bound p) name schedule
 IsScheduled bound name (made.Shop s schedule) =
-    (bound.plan.kind ≡ kinds.Shop) × IsShopOf (row_in bound.plan) s
+    (bound.plan.now.kind ≡ kinds.Shop) × IsShopOf (row_in bound.plan.now) s
     × IsMadeOfShop s (open_in bound s) name schedule
 
 -- a line refuses the schedule of a plan
 abbrev pub TellsUnscheduled : BoundPlan → Text → Text → Type 0
 TellsUnscheduled bound name line =
-    ((bound.plan.kind ≡ kinds.Project)
-    × ((p : Project) × IsProjectIn bound.plan p × TellsRefusal name (planned_in bound p) line))
-    ⊎ ((bound.plan.kind ≡ kinds.Shop)
-    × ((s : JobShop) × IsShopOf (row_in bound.plan) s
+    ((bound.plan.now.kind ≡ kinds.Project)
+    × ((p : Project) × IsProjectIn bound.plan.now p × TellsRefusal name (planned_in bound p) line))
+    ⊎ ((bound.plan.now.kind ≡ kinds.Shop)
+    × ((s : JobShop) × IsShopOf (row_in bound.plan.now) s
     × TellsShopRefusal name s (open_in bound s) line))
 
 -- the schedule is within the limits of texts

@@ -1,6 +1,6 @@
 //! Plans with the capacities of their bound places.
 
-use plan_rows::PlanRow;
+use crate::read_plan::ReadPlan;
 
 // A bound place, and the capacity of its code if the code is published.
 #[derive(Clone, Copy, Drop)]
@@ -11,7 +11,7 @@ pub(crate) struct BoundPlace {
 
 // A plan with its bound places in ascending order.
 #[derive(Drop)]
-pub(crate) struct BoundPlan {
-    pub plan: PlanRow,
+pub(crate) struct BoundPlan<'f> {
+    pub plan: &'f ReadPlan,
     pub places: Vec<BoundPlace>,
 }

@@ -3,11 +3,13 @@
 ghost use Rattle.std.specs.Prelude.{IfOk};
 ghost use Rattle.plan_desk.specs.Decisions.{Answers, IsDecision};
 ghost use Rattle.plan_desk.specs.BookSteps.{Decides, IsRowFor, Knows};
+ghost use Rattle.plan_desk.specs.KeptPlans.{AreRowsOf};
 ghost use Rattle.plan_desk.specs.Requests.{call_in, request_in, path_of, subject_of};
 
 use crate::admission::admit;
 use crate::change::{Decision, without_change};
 use crate::files::Files;
+use crate::kept_plans::Plans;
 use crate::pages::RulePage;
 use crate::reply::no_key;
 use crate::request::{Call, Request};
@@ -22,13 +24,16 @@ fn decide<'r, B: Book>(
     alloc: Global,
     memo: &mut Memo,
     files: &mut Files,
+    plans: &mut Plans,
     call: &'r Call,
     row: Option<DeskRow>,
 ) -> Result<Decision<'r>, BookFault>
-    requires { Knows B.shelf book.old (IsRowFor (call_in call.now) row) }
-    ensures { Decides B.shelf book.old book.new
+    requires row { Knows B.shelf book.old (IsRowFor (call_in call.now) row) }
+    requires kept { Knows B.shelf book.old (λ w. AreRowsOf w plans.old) }
+    ensures found { Decides B.shelf book.old book.new
         (path_of (call_in call.now)) (subject_of (call_in call.now))
         (λ v. Answers v (call_in call.now)) result }
+    ensures kept { Knows B.shelf book.new (λ w. AreRowsOf w plans.new) }
 {
     match call {
         Call::Publish { body } => office::publish_code(book, alloc, body),
@@ -55,14 +60,14 @@ fn decide<'r, B: Book>(
             binds::set_lag(book, alloc, files, desk.as_str(), n.as_str(), body)
         }
         Call::Dates { desk, n } => {
-            queries::show_dates(book, alloc, files, desk.as_str(), n.as_str())
+            queries::show_dates(book, alloc, plans, desk.as_str(), n.as_str())
         }
         Call::Schedule { desk, n, rule } => {
             let page = RulePage::Schedule;
             queries::show_by_rule(
                 book,
                 alloc,
-                files,
+                plans,
                 desk.as_str(),
                 n.as_str(),
                 page,
@@ -74,7 +79,7 @@ fn decide<'r, B: Book>(
             queries::show_by_rule(
                 book,
                 alloc,
-                files,
+                plans,
                 desk.as_str(),
                 n.as_str(),
                 page,
@@ -86,7 +91,7 @@ fn decide<'r, B: Book>(
             queries::show_by_rule(
                 book,
                 alloc,
-                files,
+                plans,
                 desk.as_str(),
                 n.as_str(),
                 page,
@@ -97,7 +102,7 @@ fn decide<'r, B: Book>(
             book,
             alloc,
             memo,
-            files,
+            plans,
             desk.as_str(),
             n.as_str(),
             budget.as_str(),
@@ -111,16 +116,27 @@ pub(crate) fn judge<'r, B: Book>(
     alloc: Global,
     memo: &mut Memo,
     files: &mut Files,
+    plans: &mut Plans,
     request: &'r Request,
 ) -> Result<Decision<'r>, BookFault>
+    requires { Knows B.shelf book.old (λ w. AreRowsOf w plans.old) }
     ensures found { Decides B.shelf book.old book.new
         (path_of (call_in request.now.call)) (subject_of (call_in request.now.call))
         (λ v. IsDecision v (request_in request.now)) result }
+    ensures kept { Knows B.shelf book.new (λ w. AreRowsOf w plans.new) }
     ensures stands { IfOk result (λ _. B.shelf.honest book.new → B.shelf.stands book.new) }
 {
     let admission = admit(book, request)?;
     if admission.is_admitted {
-        decide(book, alloc, memo, files, &request.call, admission.row)
+        decide(
+            book,
+            alloc,
+            memo,
+            files,
+            plans,
+            &request.call,
+            admission.row,
+        )
     } else {
         Ok(without_change(no_key()))
     }

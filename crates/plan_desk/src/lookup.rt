@@ -3,11 +3,12 @@
 ghost use Rattle.std.specs.Prelude.{◌≡◌, option_map};
 ghost use Rattle.plan_rows.specs.Views.{view};
 ghost use Rattle.plan_desk.specs.BookSteps.{Finds};
-ghost use Rattle.plan_desk.specs.Lookup.{FindsPlan, FindsBound, HasCapacities, with_capacity_of};
+ghost use Rattle.plan_desk.specs.Lookup.{FindsPlan, BindsPlan, HasCapacities, with_capacity_of};
 ghost use Rattle.plan_rows.specs.Books.{bind_in};
 ghost use Rattle.plan_desk.specs.Pages.{bound_in};
 
 use crate::bound::{BoundPlace, BoundPlan};
+use crate::read_plan::ReadPlan;
 use plan_rows::{BindEntry, Book, BookFault, Kind, PlanRow, plan_number};
 use std::alloc::Global;
 
@@ -72,23 +73,15 @@ fn find_capacities<B: Book>(
     Ok(places)
 }
 
-// Reads the plan of a desk under the number that a text spells, with the capacities of its bound
-// places.
-pub(crate) fn find_bound<B: Book>(
+// Reads the capacities of the bound places of a plan.
+pub(crate) fn find_bound<'f, B: Book>(
     book: &mut B,
     alloc: Global,
-    desk: &str,
-    number: &str,
-) -> Result<Option<BoundPlan>, BookFault>
+    plan: &'f ReadPlan,
+) -> Result<BoundPlan<'f>, BookFault>
     ensures { Finds B.shelf book.old book.new
-        (λ w. FindsBound (view desk.now w) number.now) result }
+        (λ w. BindsPlan w.published plan.now) result }
 {
-    let Some(found) = find_plan(book, desk, number)? else {
-        return Ok(None);
-    };
-    let places = find_capacities(book, alloc, &found.plan.binds)?;
-    Ok(Some(BoundPlan {
-        plan: found.plan,
-        places,
-    }))
+    let places = find_capacities(book, alloc, &plan.row().binds)?;
+    Ok(BoundPlan { plan, places })
 }

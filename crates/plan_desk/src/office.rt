@@ -1,13 +1,15 @@
 //! The office: it handles a request and returns the reply.
 
 ghost use Rattle.std.specs.Prelude.{◌≡◌, MatchResult};
-ghost use Rattle.plan_desk.specs.BookSteps.{Handled, want_of};
+ghost use Rattle.plan_desk.specs.BookSteps.{Handled, Knows, want_of};
+ghost use Rattle.plan_desk.specs.KeptPlans.{AreRowsOf};
 ghost use Rattle.plan_desk.specs.Replies.{reply_of};
 ghost use Rattle.plan_desk.specs.Requests.{request_in};
 
 use crate::dispatch::judge;
-use crate::execution::carry_out;
+use crate::execution::execute;
 use crate::files::Files;
+use crate::kept_plans::Plans;
 use crate::reply::{Reply, no_memory, store_refused};
 use crate::request::Request;
 use plan_exact::Memo;
@@ -16,19 +18,24 @@ use std::alloc::Global;
 use std::marker::Model;
 
 /// An office over a book: it answers the requests of all desks. Contracts see its book. It caches
-/// best schedules and the documents of files, for all desks together. No reply depends on a cache.
+/// best schedules, the documents of files and the plans that were read last, for all desks together.
+/// No reply depends on a cache.
 #[derive(Drop)]
 pub struct Office<B: Book> {
     alloc: Global,
     book: B,
     memo: Memo,
     files: Files,
+    plans: Plans,
 }
 
 impl<B: Book> Model for Office<B> {
     ghost Value = { B };
 
     ghost view = { λ office. office.book };
+
+    // The kept plans are those of the tables.
+    ghost invariant = { λ office. Knows B.shelf office.book (λ w. AreRowsOf w office.plans) };
 }
 
 // Answers a request, or returns the fault of the book.
@@ -37,14 +44,17 @@ fn answer<B: Book>(
     alloc: Global,
     memo: &mut Memo,
     files: &mut Files,
+    plans: &mut Plans,
     request: &Request,
 ) -> Result<Reply, BookFault>
-    ensures { MatchResult result
+    requires { Knows B.shelf book.old (λ w. AreRowsOf w plans.old) }
+    ensures handled { MatchResult result
         (λ reply. Handled B.shelf book.old book.new (request_in request.now) (reply_of reply))
         (λ fault. Handled B.shelf book.old book.new (request_in request.now) (want_of fault)) }
+    ensures kept { Knows B.shelf book.new (λ w. AreRowsOf w plans.new) }
 {
-    let decision = judge(book, alloc, memo, files, request)?;
-    carry_out(book, request.call.path(), decision.change)?;
+    let decision = judge(book, alloc, memo, files, plans, request)?;
+    execute(book, plans, request.call.path(), decision.change)?;
     Ok(decision.reply)
 }
 
@@ -64,6 +74,7 @@ impl<B: Book> Office<B> {
             book,
             memo,
             files,
+            plans: Plans::new(alloc),
         })
     }
 
@@ -86,6 +97,7 @@ impl<B: Book> Office<B> {
             self.alloc,
             &mut self.memo,
             &mut self.files,
+            &mut self.plans,
             request,
         ) {
             Ok(reply) => reply,

@@ -7,14 +7,16 @@ ghost use Rattle.plan_orlib.specs.Shop as docs;
 ghost use Rattle.plan_orlib.specs.Says.{Says};
 ghost use Rattle.plan_rows.specs.Plans.{lagged_by};
 ghost use Rattle.plan_rows.specs.Books.{lag_in};
-ghost use Rattle.plan_desk.specs.PlanValues.{IsProjectIn, HasProject, TakesLags};
+ghost use Rattle.plan_desk.specs.ReadPlans.{IsDocumentOf, stored_of};
 ghost use Rattle.plan_desk.specs.KeptFiles.{IsLagged, IsReadable, IsReading, IsReadingOfFirst};
-ghost use Rattle.plan_desk.specs.KeptFiles.{Remembers, StartsWith, TakesProject, stored_in};
+ghost use Rattle.plan_desk.specs.KeptFiles.{Remembers, StartsWith, TakesLags, TakesProject};
+ghost use Rattle.plan_desk.specs.KeptFiles.{stored_in};
 ghost use Rattle.plan_rows.specs.declared.fault.BookFault.TheVariants.{NoMemory, Store};
 
 use crate::document_refs::{ProjectRef, ShopRef};
 use crate::file_keys::FileKey;
 use crate::files::{Document, Files};
+use crate::read_plan::ReadPlan;
 use crate::stored_files::StoredFile;
 use plan_orlib::{ShopDoc, read_shop};
 use plan_psplib::{FileCode, FileFault, ProjectDoc, read_sm};
@@ -201,14 +203,25 @@ pub(crate) fn read_shop_file<'f>(
     }
 }
 
-// The project of a plan, with the lags of the desk.
-pub(crate) fn lagged_project<'f>(
-    alloc: Global,
-    files: &'f mut Files,
-    plan: &PlanRow,
-) -> Result<ProjectRef<'f>, BookFault>
-    ensures ok { IfOk result (IsProjectIn plan.now) }
-    ensures blamed { IfErr result (λ fault. fault ≡ Store → HasProject plan.now → ⊥) }
+// Reads the document of a plan, with the lags of the desk.
+fn document_of(alloc: Global, plan: &PlanRow) -> Result<Document, BookFault>
+    ensures said { IfOk result (IsDocumentOf plan.now) }
+    ensures blamed { IfErr result (λ fault. fault ≡ Store → IsReadable (stored_of plan.now) → ⊥) }
 {
-    stored_project(alloc, files, plan.body.as_slice(), plan.lags.as_slice())
+    let file = StoredFile {
+        kind: plan.kind,
+        name: plan.name.as_str(),
+        body: plan.body.as_slice(),
+        lags: plan.lags.as_slice(),
+    };
+    read_document(alloc, &file)
+}
+
+// Adds its document to a plan.
+pub(crate) fn read_plan(alloc: Global, plan: PlanRow) -> Result<ReadPlan, BookFault>
+    ensures ok { IfOk result (λ read. read ≡ plan) }
+    ensures blamed { IfErr result (λ fault. fault ≡ Store → IsReadable (stored_of plan) → ⊥) }
+{
+    let document = document_of(alloc, &plan)?;
+    Ok(ReadPlan::new(plan, document))
 }

@@ -16,10 +16,8 @@ ghost use Rattle.plan_desk.specs.BestOf as spec;
 
 use crate::bound::BoundPlan;
 use crate::document_refs::{ProjectRef, ShopRef};
-use crate::files::Files;
 use crate::pages::capacities::{capacities, open_machines};
 use crate::pages::scheduled::shop_fault_line;
-use crate::plan_files::{lagged_project, read_shop_file};
 use crate::reply::{Reply, bad_schedule, page};
 use plan_exact::{ExactFault, Memo, parse_budget};
 use plan_gantt::{best_project_text, best_text, exact_fault_text, schedule_fault_text};
@@ -130,18 +128,17 @@ fn best_of_shop(
 fn of_project(
     alloc: Global,
     memo: &mut Memo,
-    files: &mut Files,
-    bound: &BoundPlan,
+    bound: &BoundPlan<'_>,
     budget: &str,
 ) -> Result<Result<String, String>, BookFault>
-    requires { bound.now.plan.kind ≡ PlanKind.Project }
+    requires { bound.now.plan.now.kind ≡ PlanKind.Project }
     ensures made { IfOk result (λ r. MatchResult r
         (λ text. spec.IsBestOf bound.now budget.now (string_bytes text))
         (λ line. spec.TellsNoBest bound.now budget.now (string_bytes line))) }
     ensures blamed { IfErr result
-        (λ fault. fault ≡ Store → HasProject bound.now.plan → ⊥) }
+        (λ fault. fault ≡ Store → HasProject bound.now.plan.now → ⊥) }
 {
-    let project = lagged_project(alloc, files, &bound.plan)?;
+    let project = bound.plan.project();
     let caps = capacities(alloc, &bound.places, project.avail())?;
     Ok(best_of_project(alloc, memo, &project, &caps, budget)?)
 }
@@ -150,17 +147,16 @@ fn of_project(
 fn of_shop(
     alloc: Global,
     memo: &mut Memo,
-    files: &mut Files,
-    bound: &BoundPlan,
+    bound: &BoundPlan<'_>,
     budget: &str,
 ) -> Result<Result<String, String>, BookFault>
-    requires { bound.now.plan.kind ≡ PlanKind.Shop }
+    requires { bound.now.plan.now.kind ≡ PlanKind.Shop }
     ensures made { IfOk result (λ r. MatchResult r
         (λ text. spec.IsBestOf bound.now budget.now (string_bytes text))
         (λ line. spec.TellsNoBest bound.now budget.now (string_bytes line))) }
-    ensures blamed { IfErr result (λ fault. fault ≡ Store → HasShop bound.now.plan → ⊥) }
+    ensures blamed { IfErr result (λ fault. fault ≡ Store → HasShop bound.now.plan.now → ⊥) }
 {
-    let doc = read_shop_file(alloc, files, bound.plan.name.as_str(), &bound.plan.body)?;
+    let doc = bound.plan.shop();
     let usable = open_machines(alloc, &bound.places, doc.machines())?;
     Ok(best_of_shop(alloc, memo, &doc, &usable, budget)?)
 }
@@ -169,19 +165,18 @@ fn of_shop(
 fn best_of(
     alloc: Global,
     memo: &mut Memo,
-    files: &mut Files,
-    bound: &BoundPlan,
+    bound: &BoundPlan<'_>,
     budget: &str,
 ) -> Result<Result<String, String>, BookFault>
     ensures made { IfOk result (λ r. MatchResult r
         (λ text. spec.IsBestOf bound.now budget.now (string_bytes text))
         (λ line. spec.TellsNoBest bound.now budget.now (string_bytes line))) }
     ensures blamed { IfErr result
-        (λ fault. fault ≡ Store → IsSoundPlan bound.now.plan → ⊥) }
+        (λ fault. fault ≡ Store → IsSoundPlan bound.now.plan.now → ⊥) }
 {
-    match bound.plan.kind {
-        PlanKind::Project => of_project(alloc, memo, files, bound, budget),
-        PlanKind::Shop => of_shop(alloc, memo, files, bound, budget),
+    match bound.plan.row().kind {
+        PlanKind::Project => of_project(alloc, memo, bound, budget),
+        PlanKind::Shop => of_shop(alloc, memo, bound, budget),
     }
 }
 
@@ -189,13 +184,12 @@ fn best_of(
 pub(crate) fn best_page(
     alloc: Global,
     memo: &mut Memo,
-    files: &mut Files,
-    bound: &BoundPlan,
+    bound: &BoundPlan<'_>,
     budget: &str,
 ) -> Result<Reply, BookFault>
     ensures { MakesPage (λ v n. IsBound v n bound.now) (λ v n. Best v n budget.now) result }
 {
-    match best_of(alloc, memo, files, bound, budget)? {
+    match best_of(alloc, memo, bound, budget)? {
         Ok(text) => Ok(page(text)),
         Err(line) => Ok(bad_schedule(alloc, line.as_str())?),
     }

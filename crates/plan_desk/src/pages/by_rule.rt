@@ -4,7 +4,6 @@ ghost use Rattle.plan_desk.specs.Pages.{IsBound, MakesPage};
 ghost use Rattle.plan_desk.specs.RulePages.{ByRule};
 
 use crate::bound::BoundPlan;
-use crate::files::Files;
 use crate::pages::charts::chart_page;
 use crate::pages::days::days_page;
 use crate::pages::schedules::schedule_page;
@@ -23,16 +22,15 @@ pub(crate) enum RulePage {
 /// Returns a page of the schedule of a plan by the rule of this name.
 pub(crate) fn rule_page(
     alloc: Global,
-    files: &mut Files,
-    bound: &BoundPlan,
+    bound: &BoundPlan<'_>,
     page: RulePage,
     rule: &str,
 ) -> Result<Reply, BookFault>
     ensures { MakesPage (λ v n. IsBound v n bound.now) (λ v n. ByRule page v n rule.now) result }
 {
     match page {
-        RulePage::Schedule => schedule_page(alloc, files, bound, rule),
-        RulePage::Chart => chart_page(alloc, files, bound, rule),
-        RulePage::Days => days_page(alloc, files, bound, rule),
+        RulePage::Schedule => schedule_page(alloc, bound, rule),
+        RulePage::Chart => chart_page(alloc, bound, rule),
+        RulePage::Days => days_page(alloc, bound, rule),
     }
 }

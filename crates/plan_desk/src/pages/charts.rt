@@ -6,7 +6,6 @@ ghost use Rattle.plan_desk.specs.Pages.{IsBound, MakesPage};
 ghost use Rattle.plan_desk.specs.Scheduled.{ScheduleFits, chart_text_of};
 
 use crate::bound::BoundPlan;
-use crate::files::Files;
 use crate::pages::scheduled::{Scheduled, schedule_of};
 use crate::reply::{Reply, bad_schedule, page};
 use plan_gantt::{chart, shop_chart};
@@ -34,13 +33,12 @@ fn chart_of(alloc: Global, made: &Scheduled<'_>) -> Result<String, AllocError>
 /// Returns the chart of a plan's schedule by the rule of this name.
 pub(crate) fn chart_page(
     alloc: Global,
-    files: &mut Files,
-    bound: &BoundPlan,
+    bound: &BoundPlan<'_>,
     rule: &str,
 ) -> Result<Reply, BookFault>
     ensures { MakesPage (λ v n. IsBound v n bound.now) (λ v n. Charts v n rule.now) result }
 {
-    match schedule_of(alloc, files, bound, rule)? {
+    match schedule_of(alloc, bound, rule)? {
         Ok(made) => Ok(page(chart_of(alloc, &made)?)),
         Err(line) => Ok(bad_schedule(alloc, line.as_str())?),
     }

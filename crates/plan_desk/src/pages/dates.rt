@@ -5,13 +5,12 @@ ghost use Rattle.plan_gantt.specs.DateTable.{IsDateText};
 ghost use Rattle.plan_desk.specs.PageRoutes.{Dates};
 ghost use Rattle.plan_desk.specs.Pages.{IsFound, MakesPage};
 
-use crate::files::Files;
-use crate::plan_files::lagged_project;
+use crate::read_plan::ReadPlan;
 use crate::reply::{Reply, other_kind, page};
 use plan_cpm::dates;
 use plan_gantt::date_table;
 use plan_net::Network;
-use plan_rows::{BookFault, PlanKind, PlanRow};
+use plan_rows::{BookFault, PlanKind};
 use std::alloc::{AllocError, Global};
 
 // The date table of a network.
@@ -23,16 +22,12 @@ fn date_text(alloc: Global, network: &Network) -> Result<String, AllocError>
 }
 
 /// Returns the dates of a project. They ignore its resources.
-pub(crate) fn dates_page(
-    alloc: Global,
-    files: &mut Files,
-    plan: &PlanRow,
-) -> Result<Reply, BookFault>
+pub(crate) fn dates_page(alloc: Global, plan: &ReadPlan) -> Result<Reply, BookFault>
     ensures { MakesPage (λ v n. IsFound v n plan.now) Dates result }
 {
-    match plan.kind {
+    match plan.row().kind {
         PlanKind::Project => {
-            let project = lagged_project(alloc, files, plan)?;
+            let project = plan.project();
             Ok(page(date_text(alloc, project.network())?))
         }
         PlanKind::Shop => Ok(other_kind()),

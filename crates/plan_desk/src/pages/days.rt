@@ -11,7 +11,6 @@ ghost use Rattle.plan_desk.specs.PlanValues.{row_in};
 ghost use Rattle.plan_desk.specs.Scheduled.{ScheduleFits, IsDaysTableOf, HasDayBeyondOf};
 
 use crate::bound::BoundPlan;
-use crate::files::Files;
 use crate::pages::scheduled::{Scheduled, schedule_of};
 use crate::reply::{Reply, bad_calendar, bad_schedule, page};
 use plan_gantt::{
@@ -65,14 +64,13 @@ fn days_of(alloc: Global, plan: &PlanRow, made: &Scheduled<'_>) -> Result<Reply,
 /// Returns the working days of a plan's schedule by the rule of this name.
 pub(crate) fn days_page(
     alloc: Global,
-    files: &mut Files,
-    bound: &BoundPlan,
+    bound: &BoundPlan<'_>,
     rule: &str,
 ) -> Result<Reply, BookFault>
     ensures { MakesPage (λ v n. IsBound v n bound.now) (λ v n. Days v n rule.now) result }
 {
-    match schedule_of(alloc, files, bound, rule)? {
-        Ok(made) => days_of(alloc, &bound.plan, &made),
+    match schedule_of(alloc, bound, rule)? {
+        Ok(made) => days_of(alloc, bound.plan.row(), &made),
         Err(line) => Ok(bad_schedule(alloc, line.as_str())?),
     }
 }

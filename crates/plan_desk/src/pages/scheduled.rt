@@ -12,9 +12,7 @@ ghost use Rattle.plan_desk.specs.Scheduled as spec;
 
 use crate::bound::BoundPlan;
 use crate::document_refs::{ProjectRef, ShopRef};
-use crate::files::Files;
 use crate::pages::capacities::{capacities, open_machines};
-use crate::plan_files::{lagged_project, read_shop_file};
 use plan_gantt::{schedule_fault_text, shop_fault_text};
 use plan_rows::{BookFault, PlanKind};
 use plan_sgs::{Instance, Rule, Schedule, SgsFault, serial};
@@ -70,17 +68,16 @@ fn shop_schedule(
 // Returns the schedule of a project's plan, or the line of its refusal.
 fn of_project<'f>(
     alloc: Global,
-    files: &'f mut Files,
-    bound: &BoundPlan,
+    bound: &BoundPlan<'f>,
     rule: &str,
 ) -> Result<Result<Scheduled<'f>, String>, BookFault>
-    requires { bound.now.plan.kind ≡ PlanKind.Project }
+    requires { bound.now.plan.now.kind ≡ PlanKind.Project }
     ensures made { IfOk result (λ r. MatchResult r (spec.IsScheduled bound.now rule.now)
         (λ line. spec.TellsUnscheduled bound.now rule.now (string_bytes line))) }
     ensures blamed { IfErr result
-        (λ fault. fault ≡ Store → HasProject bound.now.plan → ⊥) }
+        (λ fault. fault ≡ Store → HasProject bound.now.plan.now → ⊥) }
 {
-    let project = lagged_project(alloc, files, &bound.plan)?;
+    let project = bound.plan.project();
     let caps = capacities(alloc, &bound.places, project.avail())?;
     match project_schedule(alloc, &project, &caps, rule) {
         Ok(schedule) => Ok(Ok(Scheduled::Project(project, schedule))),
@@ -103,16 +100,15 @@ pub(crate) fn shop_fault_line(alloc: Global, fault: &ShopFault) -> Result<String
 // Returns the schedule of a shop's plan, or the line of its refusal.
 fn of_shop<'f>(
     alloc: Global,
-    files: &'f mut Files,
-    bound: &BoundPlan,
+    bound: &BoundPlan<'f>,
     rule: &str,
 ) -> Result<Result<Scheduled<'f>, String>, BookFault>
-    requires { bound.now.plan.kind ≡ PlanKind.Shop }
+    requires { bound.now.plan.now.kind ≡ PlanKind.Shop }
     ensures made { IfOk result (λ r. MatchResult r (spec.IsScheduled bound.now rule.now)
         (λ line. spec.TellsUnscheduled bound.now rule.now (string_bytes line))) }
-    ensures blamed { IfErr result (λ fault. fault ≡ Store → HasShop bound.now.plan → ⊥) }
+    ensures blamed { IfErr result (λ fault. fault ≡ Store → HasShop bound.now.plan.now → ⊥) }
 {
-    let doc = read_shop_file(alloc, files, bound.plan.name.as_str(), &bound.plan.body)?;
+    let doc = bound.plan.shop();
     let usable = open_machines(alloc, &bound.places, doc.machines())?;
     match shop_schedule(alloc, &doc, &usable, rule) {
         Ok((shop, schedule)) => Ok(Ok(Scheduled::Shop(shop, schedule))),
@@ -123,17 +119,16 @@ fn of_shop<'f>(
 /// Returns the schedule of a plan by the rule of this name, or the line of its refusal.
 pub(crate) fn schedule_of<'f>(
     alloc: Global,
-    files: &'f mut Files,
-    bound: &BoundPlan,
+    bound: &BoundPlan<'f>,
     rule: &str,
 ) -> Result<Result<Scheduled<'f>, String>, BookFault>
     ensures made { IfOk result (λ r. MatchResult r (spec.IsScheduled bound.now rule.now)
         (λ line. spec.TellsUnscheduled bound.now rule.now (string_bytes line))) }
     ensures blamed { IfErr result
-        (λ fault. fault ≡ Store → IsSoundPlan bound.now.plan → ⊥) }
+        (λ fault. fault ≡ Store → IsSoundPlan bound.now.plan.now → ⊥) }
 {
-    match bound.plan.kind {
-        PlanKind::Project => of_project(alloc, files, bound, rule),
-        PlanKind::Shop => of_shop(alloc, files, bound, rule),
+    match bound.plan.row().kind {
+        PlanKind::Project => of_project(alloc, bound, rule),
+        PlanKind::Shop => of_shop(alloc, bound, rule),
     }
 }

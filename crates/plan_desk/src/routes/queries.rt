@@ -3,11 +3,13 @@
 ghost use Rattle.plan_desk.specs.PageRoutes as routes;
 ghost use Rattle.plan_desk.specs.BestRoutes as best;
 ghost use Rattle.plan_desk.specs.RulePages.{ByRule};
-ghost use Rattle.plan_desk.specs.BookSteps.{Decides};
+ghost use Rattle.plan_desk.specs.BookSteps.{Decides, Knows};
+ghost use Rattle.plan_desk.specs.KeptPlans.{AreRowsOf};
 
 use crate::change::{Decision, without_change};
-use crate::files::Files;
-use crate::lookup::{find_bound, find_plan};
+use crate::held::{hold, plan_of};
+use crate::kept_plans::Plans;
+use crate::lookup::find_bound;
 use crate::pages::{RulePage, best_page, dates_page, rule_page};
 use crate::reply::not_found;
 use plan_exact::Memo;
@@ -18,17 +20,20 @@ use std::alloc::Global;
 pub(crate) fn show_dates<B: Book>(
     book: &mut B,
     alloc: Global,
-    files: &mut Files,
+    plans: &mut Plans,
     desk: &str,
     number: &str,
 ) -> Result<Decision<'static>, BookFault>
-    ensures { Decides B.shelf book.old book.new desk.now desk.now
+    requires { Knows B.shelf book.old (λ w. AreRowsOf w plans.old) }
+    ensures found { Decides B.shelf book.old book.new desk.now desk.now
         (λ v. routes.Dates v number.now) result }
+    ensures kept { Knows B.shelf book.new (λ w. AreRowsOf w plans.new) }
 {
-    let Some(found) = find_plan(book, desk, number)? else {
+    let held = hold(book, alloc, plans, desk, number)?;
+    let Some(plan) = plan_of(&held, plans) else {
         return Ok(without_change(not_found()));
     };
-    let reply = dates_page(alloc, files, &found.plan)?;
+    let reply = dates_page(alloc, plan)?;
     Ok(without_change(reply))
 }
 
@@ -36,19 +41,23 @@ pub(crate) fn show_dates<B: Book>(
 pub(crate) fn show_by_rule<B: Book>(
     book: &mut B,
     alloc: Global,
-    files: &mut Files,
+    plans: &mut Plans,
     desk: &str,
     number: &str,
     page: RulePage,
     rule: &str,
 ) -> Result<Decision<'static>, BookFault>
-    ensures { Decides B.shelf book.old book.new desk.now desk.now
+    requires { Knows B.shelf book.old (λ w. AreRowsOf w plans.old) }
+    ensures found { Decides B.shelf book.old book.new desk.now desk.now
         (λ v. ByRule page v number.now rule.now) result }
+    ensures kept { Knows B.shelf book.new (λ w. AreRowsOf w plans.new) }
 {
-    let Some(bound) = find_bound(book, alloc, desk, number)? else {
+    let held = hold(book, alloc, plans, desk, number)?;
+    let Some(plan) = plan_of(&held, plans) else {
         return Ok(without_change(not_found()));
     };
-    let reply = rule_page(alloc, files, &bound, page, rule)?;
+    let bound = find_bound(book, alloc, plan)?;
+    let reply = rule_page(alloc, &bound, page, rule)?;
     Ok(without_change(reply))
 }
 
@@ -57,17 +66,21 @@ pub(crate) fn show_best<B: Book>(
     book: &mut B,
     alloc: Global,
     memo: &mut Memo,
-    files: &mut Files,
+    plans: &mut Plans,
     desk: &str,
     number: &str,
     budget: &str,
 ) -> Result<Decision<'static>, BookFault>
-    ensures { Decides B.shelf book.old book.new desk.now desk.now
+    requires { Knows B.shelf book.old (λ w. AreRowsOf w plans.old) }
+    ensures found { Decides B.shelf book.old book.new desk.now desk.now
         (λ v. best.Best v number.now budget.now) result }
+    ensures kept { Knows B.shelf book.new (λ w. AreRowsOf w plans.new) }
 {
-    let Some(bound) = find_bound(book, alloc, desk, number)? else {
+    let held = hold(book, alloc, plans, desk, number)?;
+    let Some(plan) = plan_of(&held, plans) else {
         return Ok(without_change(not_found()));
     };
-    let reply = best_page(alloc, memo, files, &bound, budget)?;
+    let bound = find_bound(book, alloc, plan)?;
+    let reply = best_page(alloc, memo, &bound, budget)?;
     Ok(without_change(reply))
 }

@@ -12,8 +12,8 @@ best_of_project-requires c =
 
 pub returns-clause-made : goal.returns-clause-made
 returns-clause-made c =
-    project_answered string_bytes string_bytes _ c.args.bound.now c.args.budget.now c.in_ok-project.project c.deref-2.result.now c.requires
-    c.in_ok-project.ensures.ok
+    project_answered string_bytes string_bytes _ c.args.bound.now c.args.budget.now c.project.result c.deref-2.result.now c.requires
+    c.project.ensures
     (c.deref-2.ensures.value ∙ c.in_ok-caps.ensures ∙ ap (λ places. capacities_in places 1 c.avail.result.now) c.deref.ensures.value
     ∙ ap (capacities_in c.args.bound.now.places.items 1) c.avail.ensures)
     c.in_ok-best_of_project.ensures
