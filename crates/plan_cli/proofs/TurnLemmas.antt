@@ -1,14 +1,17 @@
--- The proof of a job shop is its solution.
+-- The proof of a job shop is its solution, and so is what is known of a project.
 use Rattle.std.proofs.Common.{◌≡◌, ◌≤◌, ℕ, arith}
 use Rattle.plan_sgs.specs.Problem.{makespan}
+use Rattle.plan_sgs.specs.Instances.{Planned}
+use Rattle.plan_sgs.specs.Instances as instances
 use Rattle.plan_shop.specs.Shop.{JobShop, problem_of}
 use Rattle.plan_shop.specs.Docs.{IsSmallShop}
 use Rattle.plan_prove.specs.Proofs.{IsProofOf}
 use Rattle.plan_prove.specs.declared.proof.Proof.{Proof}
+use Rattle.plan_solve.specs.Solutions.{IsKnown}
 use Rattle.plan_solve.specs.declared.solving.Solved.{Solved}
 use Rattle.plan_cli.specs.SolveRun.{IsSolution}
 use Rattle.plan_cli.specs.declared.documents.Plan.TheVariants as plan
-use Rattle.plan_cli.proofs.ScheduledLemmas.{fits_shop}
+use Rattle.plan_cli.proofs.ScheduledLemmas.{fits_shop, fits_early}
 
 -- the lower bound is at most the makespan
 pub bound_below : (s : JobShop) (proof : Proof) → IsProofOf s proof → proof.lower ≤ proof.schedule.makespan
@@ -32,3 +35,22 @@ solution_by_proof s proof solved small is same_schedule same_lower = rw (same_sc
   };
   fits = fits_shop s proof.schedule small is.schedule.active is.schedule.makespan_is is.schedule.within;
 })
+
+-- what is known of a project is a solution
+pub solution_by_known : (i : Planned) (solved : Solved) → IsKnown (instances.problem_of i) solved
+    → IsSolution (plan.Project i) solved
+solution_by_known i solved is =
+    let bound = is.lower solved.schedule.starts.items is.schedule.active.feasible in
+    record {
+      active = is.schedule.active;
+      makespan = is.schedule.makespan_is;
+      bound = is.lower;
+      below = omega (arith, bound, is.schedule.makespan_is);
+      shortest = λ same. record {
+        feasible = is.schedule.active.feasible;
+        least = λ other feasible.
+            let other_bound : solved.lower ≤ makespan (instances.problem_of i) other = is.lower other feasible in
+            omega (arith, other_bound, same, is.schedule.makespan_is);
+      };
+      fits = fits_early i solved.schedule is.schedule.active is.schedule.ends is.schedule.makespan_is;
+    }

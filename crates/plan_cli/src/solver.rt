@@ -13,11 +13,12 @@ use crate::watchers::{ProofWatcher, SolveWatcher};
 use plan_errors::CliFault;
 use plan_sgs::Instance;
 use plan_shop::Shop;
-use plan_solve::{Log, MOST_CONFLICTS, SolveFault, Solved, solve_logged};
-use plan_turns::search_in_turns;
+use plan_solve::{Log, MOST_CONFLICTS, Solved};
+use plan_turns::{search_in_turns, solve_in_turns};
 use std::alloc::{AllocError, Global};
 
-// Returns the solution of an instance that a search of at most so many conflicts finds.
+// Returns the solution of an instance that searches in turns find. All turns together have at most
+// so many conflicts.
 fn solved_project<V: SolveWatcher, L: Log>(
     alloc: Global,
     conflicts: u64,
@@ -28,11 +29,8 @@ fn solved_project<V: SolveWatcher, L: Log>(
     requires { IsConflictLimit conflicts }
     ensures { IfOk result (spec.IsSolution (Plan.Project instance.now)) }
 {
-    match solve_logged(alloc, instance, conflicts, watcher, log) {
-        Ok(solved) => Ok(solved),
-        Err(SolveFault::NoMemory) => Err(AllocError),
-        Err(SolveFault::BadConflicts) => unreachable!(),
-    }
+    let solved = solve_in_turns(alloc, instance, &[], conflicts, watcher, log)?;
+    Ok(solved)
 }
 
 // Returns the solution of a job shop that searches in turns find. Each turn has at most so many
@@ -49,7 +47,7 @@ fn solved_shop<V: ProofWatcher + SolveWatcher, L: Log>(
 {
     // The proof needs the shop's invariant, which this call states.
     let _machines = shop.machines();
-    let proof = search_in_turns(alloc, shop, conflicts, watcher, log)?;
+    let proof = search_in_turns(alloc, shop, &[], conflicts, watcher, log)?;
     Ok(Solved {
         schedule: proof.schedule,
         lower: proof.lower,

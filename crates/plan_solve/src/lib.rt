@@ -36,7 +36,9 @@ mod work;
 
 pub use fault::SolveFault;
 pub use log::{Log, Unlogged};
-pub use projects::{solve, solve_logged, solve_watched};
+pub use projects::{
+    project_session, project_solution, solve, solve_from, solve_logged, solve_watched, with_starts,
+};
 pub use running::Session;
 pub use shops::{
     rule_solution, shop_session, solve_shop, solve_shop_from, solve_shop_logged, solve_shop_watched,

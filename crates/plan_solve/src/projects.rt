@@ -1,19 +1,19 @@
 //! Shortest schedules of projects.
 
-ghost use Rattle.std.specs.Prelude.{◌≡◌, ◌≤◌, IfOk, IfErr, IfSome, IsErrOf};
-ghost use Rattle.plan_sgs.specs.Problem.{IsActive, IsShortest, makespan};
+ghost use Rattle.std.specs.Prelude.{◌≡◌, ◌≤◌, IfOk, IfErr, IfSome};
 ghost use Rattle.plan_sgs.specs.Instances.{problem_of};
-ghost use Rattle.plan_sgs.specs.Placement.{AllEndBy, latest_end};
 ghost use Rattle.plan_solve.specs.Progress.{HearsTruth};
+ghost use Rattle.plan_solve.specs.Sessions.{IsSessionOf};
 ghost use Rattle.plan_solve.specs.Solutions as spec;
 
 use crate::bounds::simple_bound;
 use crate::fault::SolveFault;
 use crate::log::{Log, Unlogged};
 use crate::orders::orders_of;
+use crate::running::Session;
 use crate::schedules::{by_rules, tightened};
 use crate::solvable::Solvable;
-use crate::solving::{MOST_CONFLICTS, Solved, searched};
+use crate::solving::{MOST_CONFLICTS, Solved, best_of, searched, searched_from, unsearched};
 use crate::watcher::{Unwatched, Watcher};
 use plan_kernel::Input;
 use plan_sgs::{Instance, Schedule};
@@ -50,24 +50,8 @@ impl<'a> Solvable for Instance<'a> {
 /// Refused with [`SolveFault::BadConflicts`] if the number of conflicts is not from 1 to
 /// 1,000,000,000. Out of memory can replace any result.
 pub fn solve(alloc: Global, instance: &Instance, conflicts: u64) -> Result<Solved, SolveFault>
-    ensures active { IfOk result (λ solved.
-        IsActive (problem_of instance.now) solved.schedule.starts.items) }
-    ensures makespan { IfOk result (λ solved.
-        solved.schedule.makespan
-        ≡ makespan (problem_of instance.now) solved.schedule.starts.items) }
-    // No feasible schedule has a makespan below it.
-    ensures lower { IfOk result (λ solved.
-        spec.IsLowerBound (problem_of instance.now) solved.lower) }
-    ensures below { IfOk result (λ solved. solved.lower ≤ solved.schedule.makespan) }
-    ensures optimal { IfOk result (λ solved. solved.lower ≡ solved.schedule.makespan
-        → IsShortest (problem_of instance.now) solved.schedule.starts.items) }
-    ensures ends { IfOk result (λ solved.
-        AllEndBy (problem_of instance.now) solved.schedule.starts.items latest_end) }
-    ensures conflicts { IfOk result (λ solved. solved.conflicts ≤ conflicts) }
-    ensures allowed { IfOk result (λ _. spec.IsConflictLimit conflicts) }
+    ensures solved { IfOk result (spec.IsSolution (problem_of instance.now) conflicts) }
     ensures refused { IfErr result (spec.RefusesSolving conflicts) }
-    // What is refused takes no memory.
-    ensures early { IsErrOf result SolveFault.NoMemory → spec.IsConflictLimit conflicts }
 {
     solve_watched(alloc, instance, conflicts, &mut Unwatched)
 }
@@ -79,24 +63,8 @@ pub fn solve_watched<W: Watcher>(
     conflicts: u64,
     watcher: &mut W,
 ) -> Result<Solved, SolveFault>
-    ensures active { IfOk result (λ solved.
-        IsActive (problem_of instance.now) solved.schedule.starts.items) }
-    ensures makespan { IfOk result (λ solved.
-        solved.schedule.makespan
-        ≡ makespan (problem_of instance.now) solved.schedule.starts.items) }
-    // No feasible schedule has a makespan below it.
-    ensures lower { IfOk result (λ solved.
-        spec.IsLowerBound (problem_of instance.now) solved.lower) }
-    ensures below { IfOk result (λ solved. solved.lower ≤ solved.schedule.makespan) }
-    ensures optimal { IfOk result (λ solved. solved.lower ≡ solved.schedule.makespan
-        → IsShortest (problem_of instance.now) solved.schedule.starts.items) }
-    ensures ends { IfOk result (λ solved.
-        AllEndBy (problem_of instance.now) solved.schedule.starts.items latest_end) }
-    ensures conflicts { IfOk result (λ solved. solved.conflicts ≤ conflicts) }
-    ensures allowed { IfOk result (λ _. spec.IsConflictLimit conflicts) }
+    ensures solved { IfOk result (spec.IsSolution (problem_of instance.now) conflicts) }
     ensures refused { IfErr result (spec.RefusesSolving conflicts) }
-    // What is refused takes no memory.
-    ensures early { IsErrOf result SolveFault.NoMemory → spec.IsConflictLimit conflicts }
     // All that the watcher is told is true of the project, whatever the search comes to.
     ensures told { HearsTruth (problem_of instance.now) conflicts
         (W.was_told watcher.old) (W.was_told watcher.new) }
@@ -113,24 +81,8 @@ pub fn solve_logged<W: Watcher, L: Log>(
     watcher: &mut W,
     log: &mut L,
 ) -> Result<Solved, SolveFault>
-    ensures active { IfOk result (λ solved.
-        IsActive (problem_of instance.now) solved.schedule.starts.items) }
-    ensures makespan { IfOk result (λ solved.
-        solved.schedule.makespan
-        ≡ makespan (problem_of instance.now) solved.schedule.starts.items) }
-    // No feasible schedule has a makespan below it.
-    ensures lower { IfOk result (λ solved.
-        spec.IsLowerBound (problem_of instance.now) solved.lower) }
-    ensures below { IfOk result (λ solved. solved.lower ≤ solved.schedule.makespan) }
-    ensures optimal { IfOk result (λ solved. solved.lower ≡ solved.schedule.makespan
-        → IsShortest (problem_of instance.now) solved.schedule.starts.items) }
-    ensures ends { IfOk result (λ solved.
-        AllEndBy (problem_of instance.now) solved.schedule.starts.items latest_end) }
-    ensures conflicts { IfOk result (λ solved. solved.conflicts ≤ conflicts) }
-    ensures allowed { IfOk result (λ _. spec.IsConflictLimit conflicts) }
+    ensures solved { IfOk result (spec.IsSolution (problem_of instance.now) conflicts) }
     ensures refused { IfErr result (spec.RefusesSolving conflicts) }
-    // What is refused takes no memory.
-    ensures early { IsErrOf result SolveFault.NoMemory → spec.IsConflictLimit conflicts }
     // All that the watcher is told is true of the project, whatever the search comes to.
     ensures told { HearsTruth (problem_of instance.now) conflicts
         (W.was_told watcher.old) (W.was_told watcher.new) }
@@ -139,6 +91,79 @@ pub fn solve_logged<W: Watcher, L: Log>(
         return Err(SolveFault::BadConflicts);
     }
     let searched = searched(alloc, instance, conflicts, watcher, log);
+    watcher.end();
+    Ok(searched?)
+}
+
+/// Returns the shortest schedule of the priority rules of a project and a lower bound of all makespans
+/// that needs no search.
+pub fn project_solution(alloc: Global, instance: &Instance) -> Result<Solved, AllocError>
+    ensures { IfOk result (spec.IsKnown (problem_of instance.now)) }
+{
+    unsearched(alloc, instance)
+}
+
+/// Returns a search of a project that starts from a schedule and hasn't begun. `is_logged` states
+/// whether a log gets what the search proves.
+pub fn project_session(
+    alloc: Global,
+    instance: &Instance,
+    known: &Solved,
+    is_logged: bool,
+) -> Result<Session, AllocError>
+    ensures { IfOk result (IsSessionOf (problem_of instance.now)) }
+{
+    Session::new(alloc, instance, &known.schedule.starts, is_logged)
+}
+
+/// Returns a known solution of a project with the active schedule of some starts instead, if that is
+/// shorter. The starts need not be feasible: only their order counts.
+pub fn with_starts(
+    alloc: Global,
+    instance: &Instance,
+    known: Solved,
+    starts: &[u32],
+) -> Result<Solved, AllocError>
+    requires { spec.IsKnown (problem_of instance.now) known }
+    ensures known { IfOk result (spec.IsKnown (problem_of instance.now)) }
+    ensures no_longer { IfOk result (λ solved.
+        solved.schedule.makespan ≤ known.schedule.makespan) }
+{
+    Ok(Solved {
+        schedule: best_of(alloc, instance, known.schedule, starts)?,
+        lower: known.lower,
+        conflicts: known.conflicts,
+    })
+}
+
+/// Continues a search of a project from a known schedule and lower bound, otherwise as
+/// [`solve_logged`].
+pub fn solve_from<W: Watcher, L: Log>(
+    alloc: Global,
+    instance: &Instance,
+    known: Solved,
+    session: &mut Session,
+    conflicts: u64,
+    watcher: &mut W,
+    log: &mut L,
+) -> Result<Solved, SolveFault>
+    requires known { spec.IsKnown (problem_of instance.now) known }
+    requires session { IsSessionOf (problem_of instance.now) session.old }
+    ensures session { IsSessionOf (problem_of instance.now) session.new }
+    ensures solved { IfOk result (spec.IsSolution (problem_of instance.now) conflicts) }
+    ensures refused { IfErr result (spec.RefusesSolving conflicts) }
+    // It is no worse than what was known.
+    ensures no_longer { IfOk result (λ solved.
+        solved.schedule.makespan ≤ known.schedule.makespan) }
+    ensures no_lower { IfOk result (λ solved. known.lower ≤ solved.lower) }
+    // All that the watcher is told is true of the project, whatever the search comes to.
+    ensures told { HearsTruth (problem_of instance.now) conflicts
+        (W.was_told watcher.old) (W.was_told watcher.new) }
+{
+    if conflicts == 0 || conflicts > MOST_CONFLICTS {
+        return Err(SolveFault::BadConflicts);
+    }
+    let searched = searched_from(alloc, instance, known, session, conflicts, watcher, log);
     watcher.end();
     Ok(searched?)
 }

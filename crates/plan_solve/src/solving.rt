@@ -37,8 +37,8 @@ impl Solved {
     }
 }
 
-// Returns the shorter one of a schedule and the active schedule of starts that were found.
-fn best_of<S: Solvable>(
+/// Returns the shorter one of a schedule and the active schedule of starts that were found.
+pub fn best_of<S: Solvable>(
     alloc: Global,
     source: &S,
     schedule: Schedule,

@@ -2,6 +2,8 @@
 #![tactic(auto)]
 
 mod moves;
+mod projects;
 mod shops;
 
+pub use projects::solve_in_turns;
 pub use shops::search_in_turns;

@@ -8,7 +8,9 @@ ghost use Rattle.plan_solve.specs.Sessions.{IsSessionOf};
 ghost use Rattle.plan_solve.specs.Solutions.{IsConflictLimit, IsActiveShopSchedule, IsLowerBound};
 
 use crate::moves::Moves;
+use plan_active::active_shop_schedule;
 use plan_prove::{Course, MOST_NODES, Proof, ProveFault, Watcher as ProofWatcher, prove_from};
+use plan_sgs::Schedule;
 use plan_shop::Shop;
 use plan_solve::{
     Log, Session, SolveFault, Solved, Watcher as SolveWatcher, rule_solution, shop_session,
@@ -181,13 +183,36 @@ fn search_from<V: ProofWatcher + SolveWatcher, L: Log>(
     Ok(best)
 }
 
+// Returns the active schedule of some starts, if there are any and it is shorter than a known one.
+fn first_schedule(
+    alloc: Global,
+    shop: &Shop,
+    known: Schedule,
+    from: &[u32],
+) -> Result<Schedule, AllocError>
+    requires { IsActiveShopSchedule shop.now known }
+    ensures { IfOk result (IsActiveShopSchedule shop.now) }
+{
+    if from.is_empty() {
+        return Ok(known);
+    }
+    let found = active_shop_schedule(alloc, shop, from)?;
+    if found.makespan < known.makespan {
+        Ok(found)
+    } else {
+        Ok(known)
+    }
+}
+
 /// Searches a shop in turns, by moves, by conflicts and by nodes. Each search continues where it
 /// stopped, from the schedule and the lower bound of the other ones. The search by moves comes
 /// first. `most` is the greatest number of conflicts of all turns. The log gets what the search by
-/// conflicts proves, and the schedule.
+/// conflicts proves, and the schedule. The searches begin with the active schedule of some starts, in
+/// flat order, if there are any and it is shorter than those of the rules.
 pub fn search_in_turns<V: ProofWatcher + SolveWatcher, L: Log>(
     alloc: Global,
     shop: &Shop,
+    from: &[u32],
     most: u64,
     watcher: &mut V,
     log: &mut L,
@@ -198,7 +223,8 @@ pub fn search_in_turns<V: ProofWatcher + SolveWatcher, L: Log>(
     let known = rule_solution(alloc, shop)?;
     let mut moves = Moves::new(alloc, shop)?;
     let (lower, work) = (known.lower, moves.first_work());
-    let schedule = moves.search(alloc, shop, known.schedule, lower, work, watcher)?;
+    let first = first_schedule(alloc, shop, known.schedule, from)?;
+    let schedule = moves.search(alloc, shop, first, lower, work, watcher)?;
     if lower >= schedule.makespan && !log.is_wanted() {
         return Ok(Proof {
             schedule,

@@ -1,14 +1,5 @@
-use Rattle.plan_cli.proofs.ScheduledLemmas.{fits_early}
+use Rattle.plan_cli.proofs.TurnLemmas.{solution_by_known}
 use Rattle.plan_cli.proofs.solver.solved_project.Goals as goal
 
-pub returns-in-Ok : goal.returns-in-Ok
-returns-in-Ok g c =
-    let e = c.in-Ok.ensures in
-    record {
-      active = e.active;
-      makespan = e.makespan;
-      bound = e.lower;
-      below = e.below;
-      shortest = e.optimal;
-      fits = fits_early c.args.instance.now c.in-Ok.solved.schedule e.active e.ends e.makespan;
-    }
+pub returns : goal.returns
+returns g c = solution_by_known c.args.instance.now c.in_ok-solved.solved c.in_ok-solved.ensures
