@@ -2,3 +2,4 @@ pub use Rattle.plan_shop.specs.Shop
 pub use Rattle.plan_prove.specs.Proofs
 pub use Rattle.plan_solve.specs.Solutions
 pub use Rattle.plan_solve.specs.Sessions
+pub use Rattle.plan_sgs.specs.Instances
