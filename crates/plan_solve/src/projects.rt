@@ -13,7 +13,7 @@ use crate::orders::orders_of;
 use crate::running::Session;
 use crate::schedules::{by_rules, tightened};
 use crate::solvable::Solvable;
-use crate::solving::{MOST_CONFLICTS, Solved, best_of, searched, searched_from, unsearched};
+use crate::solving::{Solved, best_of, check, searched, searched_from, unsearched};
 use crate::watcher::{Unwatched, Watcher};
 use plan_kernel::Input;
 use plan_sgs::{Instance, Schedule};
@@ -87,9 +87,7 @@ pub fn solve_logged<W: Watcher, L: Log>(
     ensures told { HearsTruth (problem_of instance.now) conflicts
         (W.was_told watcher.old) (W.was_told watcher.new) }
 {
-    if conflicts == 0 || conflicts > MOST_CONFLICTS {
-        return Err(SolveFault::BadConflicts);
-    }
+    check(conflicts)?;
     let searched = searched(alloc, instance, conflicts, watcher, log);
     watcher.end();
     Ok(searched?)
@@ -160,9 +158,7 @@ pub fn solve_from<W: Watcher, L: Log>(
     ensures told { HearsTruth (problem_of instance.now) conflicts
         (W.was_told watcher.old) (W.was_told watcher.new) }
 {
-    if conflicts == 0 || conflicts > MOST_CONFLICTS {
-        return Err(SolveFault::BadConflicts);
-    }
+    check(conflicts)?;
     let searched = searched_from(alloc, instance, known, session, conflicts, watcher, log);
     watcher.end();
     Ok(searched?)

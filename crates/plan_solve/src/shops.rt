@@ -12,7 +12,7 @@ use crate::log::{Log, Unlogged};
 use crate::running::Session;
 use crate::schedules::shorter;
 use crate::solvable::Solvable;
-use crate::solving::{MOST_CONFLICTS, Solved, searched, searched_from, unsearched};
+use crate::solving::{Solved, check, searched, searched_from, unsearched};
 use crate::watcher::{Unwatched, Watcher};
 use plan_active::{active_shop_schedule, shop_bound};
 use plan_kernel::{Input, Order};
@@ -134,9 +134,7 @@ pub fn solve_shop_logged<W: Watcher, L: Log>(
     ensures told { HearsTruth (problem_of shop.now) conflicts
         (W.was_told watcher.old) (W.was_told watcher.new) }
 {
-    if conflicts == 0 || conflicts > MOST_CONFLICTS {
-        return Err(SolveFault::BadConflicts);
-    }
+    check(conflicts)?;
     let searched = searched(alloc, shop, conflicts, watcher, log);
     watcher.end();
     Ok(searched?)
@@ -190,9 +188,7 @@ pub fn solve_shop_from<W: Watcher, L: Log>(
     ensures told { HearsTruth (problem_of shop.now) conflicts
         (W.was_told watcher.old) (W.was_told watcher.new) }
 {
-    if conflicts == 0 || conflicts > MOST_CONFLICTS {
-        return Err(SolveFault::BadConflicts);
-    }
+    check(conflicts)?;
     let searched = searched_from(alloc, shop, known, session, conflicts, watcher, log);
     watcher.end();
     Ok(searched?)

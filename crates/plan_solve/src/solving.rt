@@ -1,10 +1,11 @@
 //! A schedule and a lower bound that meet, or as near as the conflicts allow.
 
-ghost use Rattle.std.specs.Prelude.{◌≡◌, ◌≤◌, nat_eq, IfOk};
+ghost use Rattle.std.specs.Prelude.{◌≡◌, ◌≤◌, nat_eq, IfOk, IfErr};
 ghost use Rattle.plan_solve.specs.Progress.{HearsTruth};
 ghost use Rattle.plan_solve.specs.Sessions.{IsSessionOf};
 ghost use Rattle.plan_solve.specs.Solutions as spec;
 
+use crate::fault::SolveFault;
 use crate::log::Log;
 use crate::running::Session;
 use crate::schedules::shorter;
@@ -35,6 +36,17 @@ impl Solved {
     {
         self.lower == self.schedule.makespan
     }
+}
+
+/// Fails if a number of conflicts isn't allowed.
+pub fn check(conflicts: u64) -> Result<(), SolveFault>
+    ensures allowed { IfOk result (λ _. spec.IsConflictLimit conflicts) }
+    ensures refused { IfErr result (spec.RefusesSolving conflicts) }
+{
+    if conflicts == 0 || conflicts > MOST_CONFLICTS {
+        return Err(SolveFault::BadConflicts);
+    }
+    Ok(())
 }
 
 /// Returns the shorter one of a schedule and the active schedule of starts that were found.
