@@ -1,0 +1,5 @@
+pub mod Verdicts
+pub use Rattle.plan_sgs.specs.Problem
+pub use Rattle.plan_sgs.specs.Instances
+pub use Rattle.plan_shop.specs.Shop
+pub use Rattle.plan_kernel.specs.Inputs
