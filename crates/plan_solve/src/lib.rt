@@ -5,6 +5,7 @@
 mod activity;
 mod analysis;
 mod bounds;
+mod derivation;
 mod explanation;
 mod fault;
 mod lines;

@@ -11,6 +11,8 @@ use std::fmt::Write;
 pub struct Lines {
     is_on: bool,
     text: String,
+    // the greatest lower bound that has a line
+    bound: u32,
 }
 
 // A number that is counted from 0, counted from 1.
@@ -103,6 +105,7 @@ impl Lines {
         Lines {
             is_on,
             text: String::new(alloc),
+            bound: 0,
         }
     }
 
@@ -144,6 +147,16 @@ impl Lines {
         };
         if self.is_on {
             push(&mut self.text, "schedule", &[kernel.upper()])?;
+            push(&mut self.text, "", starts)?;
+            self.text.push_str("\n")?;
+        }
+        Ok(())
+    }
+
+    /// The starts of the schedule that the search has come to, as long as the best one of a kernel.
+    pub fn solution(&mut self, kernel: &Kernel, starts: &[u32]) -> Result<(), AllocError> {
+        if self.is_on {
+            push(&mut self.text, "solution", &[kernel.upper()])?;
             push(&mut self.text, "", starts)?;
             self.text.push_str("\n")?;
         }
@@ -195,6 +208,15 @@ impl Lines {
     /// A clause is dropped.
     pub fn dropped(&mut self, clause: u32) -> Result<(), AllocError> {
         self.line("drop", clause)
+    }
+
+    /// The lower bound that was proved, if it has risen.
+    pub fn rise(&mut self, bound: u32) -> Result<(), AllocError> {
+        if bound > self.bound {
+            self.bound = bound;
+            self.lower(bound)?;
+        }
+        Ok(())
     }
 
     /// The lower bound that was proved.

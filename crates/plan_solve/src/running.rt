@@ -6,9 +6,10 @@ ghost use Rattle.plan_solve.specs.Progress.{HearsNothing, HearsTruth};
 ghost use Rattle.plan_solve.specs.Sessions.{IsSessionOf};
 ghost use Rattle.plan_solve.specs.Solutions.{IsLowerBound};
 
+use crate::derivation::derive;
 use crate::lines::Lines;
 use crate::log::Log;
-use crate::prover::prover_of;
+use crate::prover::{Prover, prover_of};
 use crate::search::{Advance, Search};
 use crate::solvable::Solvable;
 use crate::stop::Clash;
@@ -96,7 +97,8 @@ fn tell<S: Solvable, W: Watcher>(
 
 // Whether the best makespan is a bound that was known before the search. A log has to prove it.
 fn is_met<L: Log>(kernel: &Kernel, simple: u64, log: &L) -> bool {
-    kernel.upper() as u64 <= simple && !log.is_wanted()
+    let is_proved = !log.is_wanted() || kernel.lower_bound() >= kernel.upper();
+    kernel.upper() as u64 <= simple && is_proved
 }
 
 // Hands the lines of a prover over if there are so many.
@@ -105,6 +107,17 @@ fn hand_over<L: Log>(lines: &mut Lines, log: &mut L, many: usize) {
         let is_wanted = log.write(lines.text());
         lines.clear(is_wanted);
     }
+}
+
+// Logs the lower bound of a prover if it has risen.
+fn log_bound(prover: &mut Prover) -> Result<(), AllocError>
+    ensures { prover.new.kernel ≡ prover.old.kernel }
+{
+    if prover.lines.is_on() {
+        let lower = prover.kernel.lower_bound();
+        prover.lines.rise(lower)?;
+    }
+    Ok(())
 }
 
 // Searches until a clause is false. `None` if nothing is left to search for, or the watcher ends
@@ -130,8 +143,29 @@ fn next_clash<W: Watcher>(
     Ok(None)
 }
 
+// Returns a prover over a kernel that knows starts. With a log it derives the lower bound that needs
+// no search.
+fn deriving_prover<S: Solvable>(
+    alloc: Global,
+    source: &S,
+    starts: &[u64],
+    is_logged: bool,
+) -> Result<Prover, AllocError>
+    ensures { IfOk result (λ prover.
+        inputs.problem_of prover.kernel.known.input ≡ S.problem source.now) }
+{
+    let kernel = kernel_of(alloc, source, starts)?;
+    let mut prover = prover_of(alloc, kernel, is_logged)?;
+    if is_logged {
+        derive(alloc, &mut prover, source.simple_bound(alloc)?)?;
+        log_bound(&mut prover)?;
+    }
+    Ok(prover)
+}
+
 impl Session {
-    /// Returns a search that starts from a schedule.
+    /// Returns a search that starts from a schedule. If it is logged, the log first proves the lower
+    /// bound that needs no search.
     pub fn new<S: Solvable>(
         alloc: Global,
         source: &S,
@@ -140,9 +174,10 @@ impl Session {
     ) -> Result<Session, AllocError>
         ensures { IfOk result (IsSessionOf (S.problem source.now)) }
     {
-        let kernel = kernel_of(alloc, source, starts)?;
-        let mut search = Search::new(alloc, prover_of(alloc, kernel, is_logged)?)?;
-        let is_open = search.can_search() && search.begin(alloc)?;
+        let prover = deriving_prover(alloc, source, starts, is_logged)?;
+        let is_met = prover.kernel.lower_bound() >= prover.kernel.upper();
+        let mut search = Search::new(alloc, prover)?;
+        let is_open = !is_met && search.can_search() && search.begin(alloc)?;
         Ok(Session {
             search,
             is_open,
@@ -200,6 +235,7 @@ impl Session {
                 self.is_open = false;
                 return Ok(conflict + 1);
             }
+            log_bound(&mut self.search.prover)?;
             hand_over(&mut self.search.prover.lines, log, LINES_TOGETHER);
         }
         Ok(conflicts)
@@ -231,8 +267,7 @@ impl Session {
         }
         let used = self.search_all(alloc, source, simple, conflicts, watcher, log)?;
         let prover = &mut self.search.prover;
-        let lower = prover.kernel.lower_bound();
-        prover.lines.lower(lower)?;
+        log_bound(prover)?;
         hand_over(&mut prover.lines, log, 0);
         let starts = match prover.kernel.best() {
             Some(starts) => Vec::from_slice(alloc, starts)?,
@@ -243,5 +278,32 @@ impl Session {
             lower: lower_bound(source, &prover.kernel, simple),
             conflicts: used,
         })
+    }
+
+    /// Ends the log with the schedule that the search has come to, and its lower bound.
+    pub fn end_log<L: Log>(
+        &mut self,
+        alloc: Global,
+        schedule: &Schedule,
+        log: &mut L,
+    ) -> Result<(), AllocError>
+        ensures { self.new.search.prover.kernel.known.input
+            ≡ self.old.search.prover.kernel.known.input }
+    {
+        if !log.is_wanted() {
+            return Ok(());
+        }
+        let prover = &mut self.search.prover;
+        let starts = narrowed(alloc, &schedule.starts)?;
+        if schedule.makespan < prover.kernel.upper() as u64 {
+            let _ = prover.lower(narrowed(alloc, &schedule.starts)?)?;
+        }
+        if schedule.makespan == prover.kernel.upper() as u64 {
+            prover.lines.solution(&prover.kernel, &starts)?;
+        }
+        let lower = prover.kernel.lower_bound();
+        prover.lines.lower(lower)?;
+        hand_over(&mut prover.lines, log, 0);
+        Ok(())
     }
 }

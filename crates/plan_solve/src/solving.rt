@@ -121,5 +121,7 @@ pub fn searched<S: Solvable, W: Watcher, L: Log>(
     }
     let starts = &known.schedule.starts;
     let mut session = Session::new(alloc, source, starts, log.is_wanted())?;
-    searched_from(alloc, source, known, &mut session, conflicts, watcher, log)
+    let solved = searched_from(alloc, source, known, &mut session, conflicts, watcher, log)?;
+    session.end_log(alloc, &solved.schedule, log)?;
+    Ok(solved)
 }
