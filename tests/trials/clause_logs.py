@@ -16,7 +16,7 @@ import tempfile
 sys.dont_write_bytecode = True
 TOP = os.path.dirname(os.path.dirname(os.path.dirname(os.path.abspath(__file__))))
 sys.path += [os.path.join(TOP, "bench"), os.path.join(TOP, "tests", "clients")]
-import clause_log
+import checker
 import files
 import progen
 from answers import Wrong
@@ -41,8 +41,8 @@ def logged(words, folder, seed):
 
 def accepts(text, log):
     try:
-        clause_log.check(text, log)
-    except clause_log.Refused:
+        checker.shown(text, log)
+    except checker.Refused:
         return False
     return True
 

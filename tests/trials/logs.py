@@ -17,7 +17,7 @@ import threading
 import time
 
 sys.path.append(os.path.join(os.path.dirname(os.path.abspath(__file__)), "..", "..", "bench"))
-import clause_log
+import checker
 import files
 import progen
 from exchanges import file_of
@@ -66,8 +66,8 @@ def same_without_drafts(what, room):
 def judge_log(what, path, log):
     """A log proves what the checker of logs confirms, down to its last line."""
     try:
-        clause_log.check(bytes_of(path).decode(), bytes_of(log).decode())
-    except clause_log.Refused as error:
+        checker.shown(bytes_of(path).decode(), bytes_of(log).decode())
+    except checker.Refused as error:
         raise Wrong(f"the log of {what}: {error}") from None
     same(f"the last line of {what}", bytes_of(log).split(b"\n")[-2][:6], b"lower ")
 
@@ -226,9 +226,16 @@ def begun(room, log, path):
     raise Wrong("a search writes no log")
 
 
+def judge_draft(what, path, draft):
+    """The whole lines of a log that isn't complete show a lower bound."""
+    log = bytes_of(draft)
+    shown = checker.shown(bytes_of(path).decode(), log[: log.rfind(b"\n") + 1].decode())
+    same(f"what is shown after {what}", shown.rpartition(" ")[0], "verified at least")
+
+
 def try_log_stops(room):
-    """A search that is killed leaves what was at the name of its log: the old log, or nothing. One
-    that its time limit ends has a complete log."""
+    """A search that is killed leaves what was at the name of its log: the old log, or nothing, and a
+    new file with the lines so far. A search that its time limit ends has a complete log."""
     path, log = drawn(room, 90, 1), os.path.join(room, "log")
     for before in (OLD, None):
         for number in (signal.SIGINT, signal.SIGTERM, signal.SIGKILL):
@@ -241,6 +248,7 @@ def try_log_stops(room):
             found = bytes_of(log) if os.path.exists(log) else None
             same(f"the log after signal {number}", found, before)
             for name in drafts(room):
+                judge_draft(f"signal {number}", path, name)
                 os.remove(name)
         if before is not None:
             os.remove(log)
