@@ -132,46 +132,49 @@ pub(crate) fn solution_text<V: SolveWatcher, L: Log>(
 // Returns the solution of a job shop that searches in turns find. Each turn has at most so many
 // conflicts.
 #[tactic(auto, using(crate::proofs::TurnLemmas::solved_by_proof))]
-fn solved_shop_text<V: ProofWatcher + SolveWatcher>(
+fn solved_shop_text<V: ProofWatcher + SolveWatcher, L: Log>(
     alloc: Global,
     conflicts: u64,
     shop: &Shop,
     watcher: &mut V,
+    log: &mut L,
 ) -> Result<String, CliFault>
     requires { IsConflictLimit conflicts }
     ensures made { IfText result (spec.IsShopSolvedBy shop.now) }
     ensures refused { IfErr result (λ e. e ≡ CliFault.Memory) }
 {
-    let proof = search_in_turns(alloc, shop, conflicts, watcher)?;
+    let proof = search_in_turns(alloc, shop, conflicts, watcher, log)?;
     Ok(proof_table(alloc, shop, &proof)?)
 }
 
 // Returns the solution of a file's job shop.
-fn doc_text<V: ProofWatcher + SolveWatcher>(
+fn doc_text<V: ProofWatcher + SolveWatcher, L: Log>(
     alloc: Global,
     conflicts: u64,
     doc: &ShopDoc,
     watcher: &mut V,
+    log: &mut L,
 ) -> Result<String, CliFault>
     ensures made { IfText result (spec.IsShopSolvedBy (shop_of doc.now)) }
     ensures refused { IfErr result (λ e. e ≡ CliFault.Memory) }
 {
     let shop = open_shop(alloc, doc)?;
-    solved_shop_text(alloc, allowed(conflicts), &shop, watcher)
+    solved_shop_text(alloc, allowed(conflicts), &shop, watcher, log)
 }
 
 /// Returns the solution of an instance in a job shop file. The watcher is called during the search,
-/// and can stop it.
-pub(crate) fn shop_solution_text<V: ProofWatcher + SolveWatcher>(
+/// and can stop it. The log gets what the search by conflicts proves.
+pub(crate) fn shop_solution_text<V: ProofWatcher + SolveWatcher, L: Log>(
     alloc: Global,
     conflicts: u64,
     instance: &str,
     file: &[u8],
     watcher: &mut V,
+    log: &mut L,
 ) -> Result<String, CliFault>
     ensures made { IfText result (spec.IsShopSolvedTableOf instance.now file.now) }
     ensures refused { IfErr result (Refuses (TellsFirstShopFault instance.now file.now)) }
 {
     let doc = read_instance(alloc, instance, file)?;
-    doc_text(alloc, conflicts, &doc, watcher)
+    doc_text(alloc, conflicts, &doc, watcher, log)
 }

@@ -202,7 +202,7 @@ fn text_of<V: ProofWatcher + SolveWatcher, L: Log>(
         Task::SolveShop {
             conflicts,
             instance,
-        } => Ok(shop_solution_text(alloc, conflicts, instance, file, watcher)?.into_bytes()),
+        } => Ok(shop_solution_text(alloc, conflicts, instance, file, watcher, log)?.into_bytes()),
         Task::BestProject { budget, capacities } => Ok(project_best_text(
             alloc, budget, capacities, file,
         )?.into_bytes()),

@@ -9,7 +9,7 @@ ghost use Rattle.plan_solve.specs.Solutions.{IsConflictLimit};
 use crate::watchers::{ProofWatcher, SolveWatcher};
 use plan_prove::{Course, MOST_NODES, Proof, ProveFault, prove_from};
 use plan_shop::Shop;
-use plan_solve::{Session, SolveFault, Solved, rule_solution, shop_session, solve_shop_from};
+use plan_solve::{Log, Session, SolveFault, Solved, rule_solution, shop_session, solve_shop_from};
 use std::alloc::{AllocError, Global};
 
 /// The least number of nodes of a turn.
@@ -35,13 +35,14 @@ fn proof_of(solved: Solved) -> Proof
 }
 
 // Continues a search from another proof, with at most so many conflicts.
-fn by_conflicts<V: SolveWatcher>(
+fn by_conflicts<V: SolveWatcher, L: Log>(
     alloc: Global,
     shop: &Shop,
     known: Proof,
     session: &mut Session,
     conflicts: u64,
     watcher: &mut V,
+    log: &mut L,
 ) -> Result<Proof, AllocError>
     requires known { IsProofOf shop.now known }
     requires session { IsSessionOf (problem_of shop.now) session.old }
@@ -57,7 +58,7 @@ fn by_conflicts<V: SolveWatcher>(
         lower: known.lower,
         conflicts: 0,
     };
-    match solve_shop_from(alloc, shop, known, session, conflicts, watcher) {
+    match solve_shop_from(alloc, shop, known, session, conflicts, watcher, log) {
         Ok(solved) => Ok(proof_of(solved)),
         Err(SolveFault::NoMemory) => Err(AllocError),
         Err(SolveFault::BadConflicts) => unreachable!(),
@@ -121,18 +122,19 @@ fn is_over<V: SolveWatcher>(proof: &Proof, left: u64, watcher: &mut V) -> bool {
 
 /// Searches a shop in turns, by conflicts and by nodes. Each search continues where it stopped,
 /// from the schedule and the lower bound of the other one. `most` is the greatest number of
-/// conflicts of all turns.
-pub(crate) fn search_in_turns<V: ProofWatcher + SolveWatcher>(
+/// conflicts of all turns. The log gets what the search by conflicts proves, and the schedule.
+pub(crate) fn search_in_turns<V: ProofWatcher + SolveWatcher, L: Log>(
     alloc: Global,
     shop: &Shop,
     most: u64,
     watcher: &mut V,
+    log: &mut L,
 ) -> Result<Proof, AllocError>
     requires { IsConflictLimit most }
     ensures { IfOk result (IsProofOf shop.now) }
 {
     let known = rule_solution(alloc, shop)?;
-    let mut session = shop_session(alloc, shop, &known)?;
+    let mut session = shop_session(alloc, shop, &known, log.is_wanted())?;
     let mut course = Course::new(alloc);
     let mut best = proof_of(known);
     let ratio = nodes_per_conflict(shop);
@@ -142,12 +144,13 @@ pub(crate) fn search_in_turns<V: ProofWatcher + SolveWatcher>(
             break;
         }
         let part = turn.max(1).min(conflicts);
-        best = by_conflicts(alloc, shop, best, &mut session, part, watcher)?;
+        best = by_conflicts(alloc, shop, best, &mut session, part, watcher, log)?;
         conflicts -= part;
         course.turn = nodes_of_turn(turn, ratio, conflicts);
         best = by_nodes(alloc, shop, best, &mut course, nodes, watcher)?;
         nodes -= best.nodes;
         turn = TURN_NODES.max(best.nodes) / ratio;
     }
+    session.end_log(alloc, &best.schedule, log)?;
     Ok(best)
 }

@@ -72,7 +72,7 @@ enum Form {
     CapacityIfProject,
     /// An option with the capacity of a resource of a list, any number of times.
     ListCapacity,
-    /// An option with the name of a file to write. It is for projects only.
+    /// An option with the name of a file to write.
     Output,
     /// A name that isn't given if the option `starts` is.
     NameUnlessStarts,
@@ -463,7 +463,7 @@ const SCHEDULE_COMMANDS: [Entry; 4] = [
             Argument {
                 name: "log",
                 form: Form::Output,
-                help: "write what the search proves about a project to this file",
+                help: "write what the search proves to this file",
             },
         ],
     },
@@ -833,10 +833,7 @@ fn arg_of<'a>(alloc: Global, argument: &Argument) -> Result<Arg<'a>, AllocError>
             .value_name("FORMAT")
             .value_parser(DAY_FORMATS)
             .default_value("text"),
-        Form::Output => arg
-            .long(argument.name)
-            .value_name("LOG")
-            .conflicts_with("INSTANCE")?,
+        Form::Output => arg.long(argument.name).value_name("LOG"),
         Form::Flag => arg.long(argument.name).action(ArgAction::SetTrue),
         Form::OldFlag => arg
             .long(argument.name)

@@ -201,22 +201,29 @@ pub fn rule_solution(alloc: Global, shop: &Shop) -> Result<Solved, AllocError>
     unsearched(alloc, shop)
 }
 
-/// Returns a search of a job shop that starts from a schedule and hasn't begun.
-pub fn shop_session(alloc: Global, shop: &Shop, known: &Solved) -> Result<Session, AllocError>
+/// Returns a search of a job shop that starts from a schedule and hasn't begun. `is_logged` states
+/// whether a log gets what the search proves.
+pub fn shop_session(
+    alloc: Global,
+    shop: &Shop,
+    known: &Solved,
+    is_logged: bool,
+) -> Result<Session, AllocError>
     ensures { IfOk result (IsSessionOf (problem_of shop.now)) }
 {
-    Session::new(alloc, shop, &known.schedule.starts, false)
+    Session::new(alloc, shop, &known.schedule.starts, is_logged)
 }
 
 /// Continues a search of a job shop from a known schedule and lower bound, otherwise as
-/// [`solve_shop_watched`].
-pub fn solve_shop_from<W: Watcher>(
+/// [`solve_shop_logged`]. [`Session::end_log`] ends the log.
+pub fn solve_shop_from<W: Watcher, L: Log>(
     alloc: Global,
     shop: &Shop,
     known: Solved,
     session: &mut Session,
     conflicts: u64,
     watcher: &mut W,
+    log: &mut L,
 ) -> Result<Solved, SolveFault>
     requires schedule { IsActiveShopSchedule shop.now known.schedule }
     requires lower { spec.IsLowerBound (problem_of shop.now) known.lower }
@@ -251,7 +258,6 @@ pub fn solve_shop_from<W: Watcher>(
     if conflicts == 0 || conflicts > MOST_CONFLICTS {
         return Err(SolveFault::BadConflicts);
     }
-    let log = &mut Unlogged;
     let searched = searched_from(alloc, shop, known, session, conflicts, watcher, log);
     watcher.end();
     Ok(searched?)

@@ -54,7 +54,7 @@ complete -c plan -n 'contains solve (commandline -opc)' -x -l conflicts -d 'conf
 complete -c plan -n 'contains solve (commandline -opc)' -x -l capacity -d 'capacity of a resource, for example R2=4, in place of that of the file; may be repeated'
 complete -c plan -n 'contains solve (commandline -opc)' -l names -d 'print the names of activities, orders or machines'
 complete -c plan -n 'contains solve (commandline -opc)' -x -l format -d 'print text, JSON or CSV [default: text] [possible values: text, json, csv]'
-complete -c plan -n 'contains solve (commandline -opc)' -x -l log -d 'write what the search proves about a project to this file'
+complete -c plan -n 'contains solve (commandline -opc)' -x -l log -d 'write what the search proves to this file'
 complete -c plan -n 'contains chart (commandline -opc)' -x -l starts -d 'show the schedule with the start times in this file, or - for standard input; leave out RULE'
 complete -c plan -n 'contains chart (commandline -opc)' -x -l capacity -d 'capacity of a resource, for example R2=4, in place of that of the file; may be repeated'
 complete -c plan -n 'contains chart (commandline -opc)' -l names -d 'print the names of activities, orders or machines'
