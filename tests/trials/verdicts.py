@@ -1,0 +1,180 @@
+"""Logs of `plan solve --log`, as `plan verify` and share/plan-check-log judge them: what they show of
+drawn projects and job shops, and damaged logs, whose verdicts have to be true.
+
+    tests/trials/run verdicts          logs that are whole
+    tests/trials/run damaged_logs      damaged ones
+"""
+
+import os
+import random
+import re
+import sys
+
+sys.path.append(os.path.join(os.path.dirname(os.path.abspath(__file__)), "..", "..", "bench"))
+import checker
+import files
+import progen
+from exchanges import file_of
+from programs import Wrong, plan, same
+
+PROJECTS, SHOPS, DAMAGED = 12, 6, 25
+REFUSAL = re.compile(rb"V[12] line (\d+)\n")
+
+
+def drawn_project(seed):
+    """A project of 14 activities."""
+    return files.project(*progen.made(12, 1.8, 0.75, 0.2, seed)), []
+
+
+def drawn_shop(seed):
+    """A job shop of three or four jobs and machines, in a file without a name."""
+    draw = random.Random(seed)
+    jobs, machines = draw.randint(2, 4), draw.randint(2, 4)
+    lines = ["instance drawn", "+", "drawn", f"{jobs} {machines}"]
+    for _ in range(jobs):
+        order = draw.sample(range(machines), machines)
+        lines.append(" ".join(f"{k} {draw.randint(0, 9)}" for k in order))
+    return "\n".join(lines) + "\n", ["drawn"]
+
+
+def put(room, name, content):
+    """The path of a new file."""
+    path = os.path.join(room, name)
+    with open(path, "wb") as file:
+        file.write(content)
+    return path
+
+
+def solved(room, text, instance, *limits):
+    """The path of a file, what `plan solve` prints first, and its log."""
+    path, log = put(room, "drawn", text.encode()), os.path.join(room, "log")
+    status, out, err = plan("solve", "--log", log, *limits, path, *instance)
+    same("a search with a log", (status, err), (0, b""))
+    with open(log, "rb") as file:
+        return path, out.decode().split("\n")[0].split(), file.read()
+
+
+def line_of(words):
+    """What a log shows if the search prints these words: `optimal 7`, `between 6 7`."""
+    return f"verified {words[1]}" if words[0] == "optimal" else f"verified at least {words[1]}"
+
+
+def judge_whole(room, text, instance, *limits):
+    """Both checkers confirm what the search prints. The search of a job shop by nodes has no log, so
+    its log may show less."""
+    path, words, log = solved(room, text, instance, *limits)
+    told = plan("verify", path, *instance, os.path.join(room, "log"))
+    if instance:
+        line = checker.shown_of_shop(text, *instance, log.decode())
+    else:
+        line = checker.shown(text, log.decode())
+        same("what the log shows", line, line_of(words))
+    same("plan verify", told, (0, line.encode() + b"\n", b""))
+    return line
+
+
+def try_verdicts(room):
+    """The logs of searches that end, and of searches that are stopped early."""
+    for seed in range(PROJECTS):
+        for limits in ([], ["--conflicts", "1"], ["--conflicts", "10"]):
+            judge_whole(room, *drawn_project(seed), *limits)
+    for seed in range(SHOPS):
+        text, instance = drawn_shop(seed)
+        judge_whole(room, text, instance)
+    judge_whole(room, file_of("examples/shops.txt").decode(), ["ft06"])
+    judge_whole(room, file_of("examples/house.sm").decode(), [])
+
+
+# ---- damaged logs
+
+
+def other_number(lines, draw):
+    """A number of a line is another one."""
+    at = draw.randrange(len(lines))
+    numbers = list(re.finditer(rb"\d+", lines[at]))
+    if numbers:
+        found = draw.choice(numbers)
+        near = max(0, int(found[0]) + draw.choice((-2, -1, 1, 2)))
+        new = draw.choice((near, draw.randrange(60), 2**30, 2**32, 10**12))
+        lines[at] = lines[at][: found.start()] + b"%d" % new + lines[at][found.end() :]
+
+
+def without_line(lines, draw):
+    del lines[draw.randrange(len(lines))]
+
+
+def line_twice(lines, draw):
+    lines.insert(draw.randrange(len(lines)), draw.choice(lines))
+
+
+def lines_swapped(lines, draw):
+    one, other = draw.randrange(len(lines)), draw.randrange(len(lines))
+    lines[one], lines[other] = lines[other], lines[one]
+
+
+def cut(lines, draw):
+    del lines[draw.randrange(len(lines)) :]
+    lines.append(b"lower %d" % draw.randrange(100))
+
+
+def torn(lines, draw):
+    at = draw.randrange(len(lines))
+    lines[at] = lines[at][: draw.randrange(len(lines[at]) + 1)]
+    del lines[at + 1 :]
+
+
+def other_word(lines, draw):
+    at = draw.randrange(len(lines))
+    words = lines[at].split(b" ")
+    words[draw.randrange(len(words))] = draw.choice(draw.choice(lines).split(b" ") or [b""])
+    lines[at] = b" ".join(words)
+
+
+def other_bytes(lines, draw):
+    at = draw.randrange(len(lines))
+    place = draw.randrange(len(lines[at]) + 1)
+    lines[at] = lines[at][:place] + draw.randbytes(draw.randrange(4)) + lines[at][place:]
+
+
+def greater_bound(lines, draw):
+    bounds = [int(line.split(b" ")[1]) for line in lines if re.fullmatch(rb"lower \d+", line)]
+    lines.append(b"lower %d" % (max(bounds, default=0) + 1))
+
+
+def refuted_at_once(lines, draw):
+    lines.insert(draw.randrange(len(lines)), b"refuted")
+
+
+DAMAGES = (other_number, without_line, line_twice, lines_swapped, cut, torn, other_word, other_bytes)
+DAMAGES += (greater_bound, refuted_at_once)
+
+
+def judge_damaged(room, path, instance, least, log, draw):
+    """A damaged log is refused, or its verdict is true: the least makespan, or at most that."""
+    lines = log.split(b"\n")[:-1]
+    names = [damage.__name__ for damage in draw.sample(DAMAGES, draw.randint(1, 2))]
+    for name in names:
+        globals()[name](lines, draw)
+    damaged = b"\n".join(lines) + draw.choice((b"\n", b"\n", b"\n", b"", b"\n\n"))
+    status, out, err = plan("verify", path, *instance, put(room, "damaged", damaged))
+    if status == 1 and out == b"" and REFUSAL.fullmatch(err):
+        return
+    words = out.decode().split()
+    exact = status == 0 and words[:-1] == ["verified"] and int(words[-1]) == least
+    below = status == 0 and words[:-1] == ["verified", "at", "least"] and int(words[-1]) <= least
+    if err or not (exact or below):
+        raise Wrong(f"the verdict of a log with {' and '.join(names)}: {status} {out!r} {err!r}")
+
+
+def try_damaged_logs(room):
+    """Damaged logs of projects and job shops, and logs of other ones."""
+    cases = [drawn_project(seed) for seed in range(PROJECTS)] + [drawn_shop(seed) for seed in range(SHOPS)]
+    other = b"lower 0\n"
+    for seed, (text, instance) in enumerate(cases):
+        path, words, log = solved(room, text, instance)
+        same("a small problem", words[0], "optimal")
+        draw = random.Random(seed)
+        for _ in range(DAMAGED):
+            judge_damaged(room, path, instance, int(words[1]), log, draw)
+        judge_damaged(room, path, instance, int(words[1]), other, draw)
+        other = log
