@@ -28,7 +28,6 @@ mod table_faults;
 mod tables;
 mod tasks;
 mod templates;
-mod turns;
 mod verdicts;
 mod watchers;
 

@@ -18,7 +18,6 @@ use crate::capacities::{Capacity, replaced};
 use crate::projects::{instance_with, read_project};
 use crate::proof::{bound_line, proof_table};
 use crate::shops::{open_shop, read_instance};
-use crate::turns::search_in_turns;
 use crate::watchers::{ProofWatcher, SolveWatcher};
 use plan_errors::CliFault;
 use plan_gantt::schedule_table;
@@ -27,6 +26,7 @@ use plan_psplib::ProjectDoc;
 use plan_sgs::Instance;
 use plan_shop::Shop;
 use plan_solve::{Log, MOST_CONFLICTS, SolveFault, Solved, solve_logged};
+use plan_turns::search_in_turns;
 use std::alloc::{AllocError, Global};
 
 // Returns the line with the lower bound and the makespan, and the table of the schedule.

@@ -1,15 +1,19 @@
-//! Searches of a job shop in turns: by conflicts (plan_solve) and by nodes (plan_prove).
+//! Searches of a job shop in turns: by moves (plan_local), by conflicts (plan_solve) and by nodes
+//! (plan_prove).
 
 ghost use Rattle.std.specs.Prelude.{◌≡◌, ◌≤◌, ◌<◌, IfOk};
 ghost use Rattle.plan_shop.specs.Shop.{problem_of};
 ghost use Rattle.plan_prove.specs.Proofs.{IsNodeLimit, IsProofOf};
 ghost use Rattle.plan_solve.specs.Sessions.{IsSessionOf};
-ghost use Rattle.plan_solve.specs.Solutions.{IsConflictLimit};
+ghost use Rattle.plan_solve.specs.Solutions.{IsConflictLimit, IsActiveShopSchedule, IsLowerBound};
 
-use crate::watchers::{ProofWatcher, SolveWatcher};
-use plan_prove::{Course, MOST_NODES, Proof, ProveFault, prove_from};
+use crate::moves::Moves;
+use plan_prove::{Course, MOST_NODES, Proof, ProveFault, Watcher as ProofWatcher, prove_from};
 use plan_shop::Shop;
-use plan_solve::{Log, Session, SolveFault, Solved, rule_solution, shop_session, solve_shop_from};
+use plan_solve::{
+    Log, Session, SolveFault, Solved, Watcher as SolveWatcher, rule_solution, shop_session,
+    solve_shop_from,
+};
 use std::alloc::{AllocError, Global};
 
 /// The least number of nodes of a turn.
@@ -90,6 +94,26 @@ fn by_nodes<V: ProofWatcher + SolveWatcher>(
     }
 }
 
+// Continues a search by moves from another proof, beside a turn of so many conflicts.
+fn by_moves<V: SolveWatcher>(
+    alloc: Global,
+    shop: &Shop,
+    known: Proof,
+    moves: &mut Moves,
+    conflicts: u64,
+    watcher: &mut V,
+) -> Result<Proof, AllocError>
+    requires { IsProofOf shop.now known }
+    ensures { IfOk result (IsProofOf shop.now) }
+{
+    let (lower, work) = (known.lower, moves.work_of_turn(conflicts));
+    Ok(Proof {
+        schedule: moves.search(alloc, shop, known.schedule, lower, work, watcher)?,
+        lower,
+        nodes: 0,
+    })
+}
+
 // Returns the number of nodes for each conflict.
 fn nodes_per_conflict(shop: &Shop) -> u64
     ensures { 0 < result }
@@ -120,20 +144,22 @@ fn is_over<V: SolveWatcher>(proof: &Proof, left: u64, watcher: &mut V) -> bool {
     left == 0 || proof.lower >= proof.schedule.makespan || watcher.is_late()
 }
 
-/// Searches a shop in turns, by conflicts and by nodes. Each search continues where it stopped,
-/// from the schedule and the lower bound of the other one. `most` is the greatest number of
-/// conflicts of all turns. The log gets what the search by conflicts proves, and the schedule.
-pub(crate) fn search_in_turns<V: ProofWatcher + SolveWatcher, L: Log>(
+// Searches a shop in turns from a known schedule and lower bound. The log gets what the search by
+// conflicts proves, and the schedule.
+fn search_from<V: ProofWatcher + SolveWatcher, L: Log>(
     alloc: Global,
     shop: &Shop,
+    known: Solved,
+    moves: &mut Moves,
     most: u64,
     watcher: &mut V,
     log: &mut L,
 ) -> Result<Proof, AllocError>
-    requires { IsConflictLimit most }
+    requires schedule { IsActiveShopSchedule shop.now known.schedule }
+    requires lower { IsLowerBound (problem_of shop.now) known.lower }
+    requires most { IsConflictLimit most }
     ensures { IfOk result (IsProofOf shop.now) }
 {
-    let known = rule_solution(alloc, shop)?;
     let mut session = shop_session(alloc, shop, &known, log.is_wanted())?;
     let mut course = Course::new(alloc);
     let mut best = proof_of(known);
@@ -150,7 +176,41 @@ pub(crate) fn search_in_turns<V: ProofWatcher + SolveWatcher, L: Log>(
         best = by_nodes(alloc, shop, best, &mut course, nodes, watcher)?;
         nodes -= best.nodes;
         turn = TURN_NODES.max(best.nodes) / ratio;
+        best = by_moves(alloc, shop, best, moves, turn, watcher)?;
     }
     session.end_log(alloc, &best.schedule, log)?;
     Ok(best)
+}
+
+/// Searches a shop in turns, by moves, by conflicts and by nodes. Each search continues where it
+/// stopped, from the schedule and the lower bound of the other ones. The search by moves comes
+/// first. `most` is the greatest number of conflicts of all turns. The log gets what the search by
+/// conflicts proves, and the schedule.
+pub fn search_in_turns<V: ProofWatcher + SolveWatcher, L: Log>(
+    alloc: Global,
+    shop: &Shop,
+    most: u64,
+    watcher: &mut V,
+    log: &mut L,
+) -> Result<Proof, AllocError>
+    requires { IsConflictLimit most }
+    ensures { IfOk result (IsProofOf shop.now) }
+{
+    let known = rule_solution(alloc, shop)?;
+    let mut moves = Moves::new(alloc, shop)?;
+    let (lower, work) = (known.lower, moves.first_work());
+    let schedule = moves.search(alloc, shop, known.schedule, lower, work, watcher)?;
+    if lower >= schedule.makespan && !log.is_wanted() {
+        return Ok(Proof {
+            schedule,
+            lower,
+            nodes: 0,
+        });
+    }
+    let known = Solved {
+        schedule,
+        lower,
+        conflicts: 0,
+    };
+    search_from(alloc, shop, known, &mut moves, most, watcher, log)
 }

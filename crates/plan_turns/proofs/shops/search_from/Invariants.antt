@@ -2,7 +2,7 @@ use Rattle.std.proofs.Common.{◌≤◌}
 use Rattle.plan_shop.specs.Shop.{problem_of}
 use Rattle.plan_prove.specs.Proofs.{IsProofOf}
 use Rattle.plan_solve.specs.Sessions.{IsSessionOf}
-use Rattle.plan_cli.proofs.turns.search_in_turns.Given as goal
+use Rattle.plan_turns.proofs.shops.search_from.Given as goal
 
 -- the best so far is a proof, the search by conflicts is one of the shop, and what is left of the
 -- limits is allowed

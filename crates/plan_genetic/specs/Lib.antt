@@ -1,0 +1,1 @@
+pub use Rattle.plan_sgs.specs.Problem
