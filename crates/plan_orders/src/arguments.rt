@@ -839,7 +839,9 @@ fn arg_of<'a>(alloc: Global, argument: &Argument) -> Result<Arg<'a>, AllocError>
             .value_name("NAME=N")
             .action(ArgAction::Append)
             .conflicts_with("shop")?,
-        Form::NameUnlessStarts => arg.required_unless_present_any(&["starts", "solve"])?,
+        Form::NameUnlessStarts => arg
+            .required_unless_present("starts")?
+            .required_unless_present("solve")?,
         Form::Starts => arg
             .long(argument.name)
             .value_name("STARTS")
@@ -847,11 +849,13 @@ fn arg_of<'a>(alloc: Global, argument: &Argument) -> Result<Arg<'a>, AllocError>
         Form::Solve => arg
             .long(argument.name)
             .action(ArgAction::SetTrue)
-            .conflicts_with_all(&["starts", "INSTANCE"])?,
+            .conflicts_with("starts")?
+            .conflicts_with("INSTANCE")?,
         Form::ReportSolve => arg
             .long(argument.name)
             .action(ArgAction::SetTrue)
-            .conflicts_with_all(&["starts", "rule"])?,
+            .conflicts_with("starts")?
+            .conflicts_with("rule")?,
         Form::SolveSeconds => arg
             .long(argument.name)
             .value_name("S")

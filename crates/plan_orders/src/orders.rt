@@ -587,18 +587,17 @@ fn days_order<'a>(arguments: &'a ArgMatches<'_>, lists: Lists<'a>) -> Option<Fil
     })
 }
 
-// Returns the order of `check`.
-fn check_order<'a>(
-    arguments: &'a ArgMatches<'_>,
-    texts: &'a [NamedText<'a>],
-) -> Option<FileOrder<'a>> {
+// Returns the order of `check`, which has no capacities.
+fn check_order<'a>(arguments: &'a ArgMatches<'_>, lists: Lists<'a>) -> Option<FileOrder<'a>> {
+    let subject = subject_of(arguments.get_str("INSTANCE"), lists.capacities);
+    let file = arguments.get_str("FILE")?;
     Some(FileOrder::Texts {
         task: Task::Check {
             starts: &[],
-            subject: subject_of(arguments.get_str("INSTANCE"), &[]),
+            subject,
         },
-        file: arguments.get_str("FILE")?,
-        texts,
+        file,
+        texts: lists.texts,
         seconds: None,
         is_status: arguments.get_flag("status"),
     })
@@ -797,7 +796,7 @@ fn file_order<'a>(
         "explain" => Some(FileOrder::Explain(arguments.get_strs("CODE")?)),
         "prove" => proof_order(arguments),
         "solve" => solve_order(arguments, lists.capacities),
-        "check" => check_order(arguments, lists.texts),
+        "check" => check_order(arguments, lists),
         "verify" => verify_order(arguments),
         "slack" => slack_order(arguments, lists),
         "compare" => compare_order(arguments, lists),
