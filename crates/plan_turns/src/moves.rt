@@ -15,9 +15,9 @@ const WORK_BETWEEN: u64 = 200_000;
 
 /// The work before all other searches for each pair of steps, and the greatest one: half a second
 /// without a shorter schedule.
-const FIRST_WORK_PER_PAIR: u64 = 40;
+const FIRST_WORK_PER_PAIR: u64 = 80;
 
-const MOST_FIRST_WORK: u64 = 10_000_000;
+const MOST_FIRST_WORK: u64 = 20_000_000;
 
 /// A local search, and how many of its turns in a row didn't find a shorter schedule.
 #[derive(Drop)]
@@ -52,8 +52,7 @@ impl Moves {
     pub fn work_of_turn(&self, conflicts: u64) -> u64 {
         let work = conflicts
             .saturating_mul(self.steps)
-            .saturating_mul(self.jobs)
-            / 2;
+            .saturating_mul(self.jobs);
         work / self.idle.max(1)
     }
 
