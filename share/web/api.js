@@ -1,5 +1,6 @@
 // Requests to the office: one at a time, with the key in a field, and the tables that come back.
 
+import { answered, isAlone } from "./local.js";
 import { page } from "./state.js";
 
 const MOST_MILLISECONDS = 90000;
@@ -31,6 +32,7 @@ function judged(response, text) {
 }
 
 async function exchange(key, method, path, body) {
+  if (isAlone()) return answered(method, path, body);
   let response, text;
   try {
     response = await fetch(path, {

@@ -30,8 +30,9 @@ const bind = ({ place, code }) => changePlan("bind", { place: Number(place), cod
   (made) => `${placeWord()} ${made.place} is ${made.code}.`,
   `The plan has no ${placeWord().toLowerCase()} ${place}.`);
 
-const setCalendar = ({ start }) => changePlan("calendar",
-  { start, days: boxes().map(({ checked }) => Number(checked)).join("") },
+const setCalendar = ({ start, holidays }) => changePlan("calendar",
+  { start, days: boxes().map(({ checked }) => Number(checked)).join(""),
+    ...(holidays?.trim() && { holidays: `${holidays.trim()}\n` }) },
   (made) => made,
   (made) => `From ${made.start} on; working days ${made.days}, Monday first.`);
 
@@ -91,6 +92,7 @@ export function showChanges(plan) {
   lag.value = delayed.lag ?? "";
   byId("lag").hidden = !isProject;
   byId("calendar").elements.start.value = calendar?.start ?? "";
+  byId("calendar").elements.holidays.value = calendar?.holidays ?? "";
   boxes().forEach((box, at) => { box.checked = (calendar?.days ?? "1111100")[at] === "1"; });
   put("calendar-set", calendar
     ? `Set here on ${calendar.on}; the office doesn't tell it.` : NOT_HERE);

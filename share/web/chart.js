@@ -6,9 +6,10 @@ import {
   freeDays, heightOfRows, labelFor, marksOn, pagesOf, placeOfDate, scaleOf, shortened, today,
   widthOf,
 } from "./layout.js";
-import { useOf } from "./slack.js";
+import { isAlone } from "./local.js";
 import { page, WORDS_OF_KIND } from "./state.js";
 import { paperTable } from "./table.js";
+import { useOf } from "./use.js";
 import { legendOf, linksOf, nameOf, namesIn } from "./view.js";
 
 const AXIS = 22;
@@ -66,7 +67,7 @@ function barNode(bar, y, height, scale) {
 }
 
 function chartOf(view, width, lines, row) {
-  const scale = scaleOf(view.calendar, view.total, roomForNames(view, width), width - RIGHT);
+  const scale = scaleOf(view, roomForNames(view, width), width - RIGHT);
   const { left, right } = scale;
   const height = row * lines.length + 3, gap = row > 16 ? 3 : 1.5;
   const places = new Map(lines.map((line, index) => [line, index]));
@@ -86,8 +87,9 @@ const legendNodes = (view) => legendOf(view).map(([name, words]) => make("li", {
   ...(name ? [draw("svg", { viewBox: "0 0 20 12", "aria-hidden": "true" },
     draw("g", { class: name }, shapeNode(1, 1, 18, 10)))] : []), ` ${words}`));
 
-function captionOf({ plan, calendar }) {
-  const unit = calendar ? "weeks begin on Monday, free days are shaded" : "working time from 0";
+function captionOf({ plan, dates, calendar }) {
+  const unit = !dates ? "working time from 0"
+    : `weeks begin on Monday${calendar ? ", free weekdays are shaded" : ""}`;
   const rows = plan.kind === "project" ? "Activities" : "Steps";
   return `${rows} by ${nameOf(plan, plan.drawn)}; ${unit}`;
 }
@@ -177,12 +179,12 @@ export function showChart(view) {
 function headNode(view, place, count) {
   const { plan } = view;
   const pages = count > 1 ? `; chart ${place} of ${count}` : "";
-  return make("header", {}, make("h2", {}, titleOf(plan)),
-    say(`desk ${page.desk}, plan ${plan.n}, a ${WORDS_OF_KIND[plan.kind]}; schedule by ${
+  return make("header", {}, make("h2", {}, planTitle(plan)),
+    say(`${isAlone() ? "" : `desk ${page.desk}, `}plan ${plan.n}, a ${WORDS_OF_KIND[plan.kind]}; schedule by ${
       nameOf(plan, plan.drawn)}; printed on ${today()}${pages}`));
 }
 
-const titleOf = (plan) => namesIn(plan).title || `Plan ${plan.n}`;
+const planTitle = (plan) => namesIn(plan).title || `Plan ${plan.n}`;
 
 export function fillPaper(view) {
   const pages = pagesOf([...view.lineNames.keys()], SHEET.lines);
@@ -196,5 +198,5 @@ export function fillPaper(view) {
       say(captionOf(view), { class: "hint" }));
   });
   fill("paper", ...charts, make("section", { class: "sheet rows" },
-    paperTable(view, `${titleOf(view.plan)}: ${captionOf(view)}`)));
+    paperTable(view, `${planTitle(view.plan)}: ${captionOf(view)}`)));
 }

@@ -1,14 +1,30 @@
 // The files of a schedule to hand in: CSV, JSON in the form of `plan --format json`, start times.
 
-import { csvText, startsText } from "./project.js";
 import { page } from "./state.js";
 import { namesIn } from "./view.js";
+
+// a text that a spreadsheet would take for a formula gets a quote sign
+function cellOf(value) {
+  const text = /^[=+\-@\t\r]/.test(value) && !/^-?\d/.test(value) ? `'${value}` : String(value);
+  return /[",;\n\r]/.test(text) ? `"${text.replaceAll('"', '""')}"` : text;
+}
+
+export const csvText = (rows) =>
+  [Object.keys(rows[0]), ...rows.map(Object.values)]
+    .map((cells) => `${cells.map((cell) => cellOf(String(cell ?? ""))).join(",")}\n`).join("");
+
+export const startsText = (rows) => rows.map(({ start }) => `${start}\n`).join("");
 
 const rowsFor = ({ rows, isNamed, dates }, nameOf) =>
   rows.map(({ number: act, job, step, machine: mach, d, start, end, first, last, ...row }) => ({
     ...(act ? { act } : { job, step, mach }), d, start, end,
     ...(isNamed && { name: nameOf(row) }), ...(dates && { first, last }),
   }));
+
+// a cell also has a name in words
+const WORDS = { act: "activity", mach: "machine", d: "duration", first: "first_day", last: "last_day" };
+const inWords = (row) => ({ ...row, ...Object.fromEntries(
+  Object.entries(row).filter(([head]) => WORDS[head]).map(([head, cell]) => [WORDS[head], cell])) });
 
 // the members of an object in the order of their bytes, and null for an empty cell
 function settled(_, value) {
@@ -17,21 +33,22 @@ function settled(_, value) {
   return isObject ? Object.fromEntries(Object.entries(value).sort()) : value;
 }
 
-function valueOf(view) {
+function handedIn(view) {
   const { plan, total, rows } = view;
   const { n, drawn, schedules } = plan;
-  const { verdict } = schedules.get(drawn);
+  const { verdict, lower } = schedules.get(drawn);
   // as in `plan`, the name of a step is that of its order
   const nameOf = ({ name, jobName = name }) => jobName;
   return {
     desk: page.desk, plan: n, schedule: drawn, title: namesIn(plan).title, makespan: total,
     ...(drawn === "best" && { status: verdict, upper_bound: total }),
     ...(verdict === "optimal" && { lower_bound: total }),
-    rows: rowsFor({ ...view, isNamed: rows.some(nameOf) }, nameOf),
+    ...(drawn === "best" && lower && { lower_bound: lower }),
+    rows: rowsFor({ ...view, isNamed: rows.some(nameOf) }, nameOf).map(inWords),
   };
 }
 
-export const jsonText = (view) => `${JSON.stringify(valueOf(view), settled)}\n`;
+export const jsonText = (view) => `${JSON.stringify(handedIn(view), settled)}\n`;
 
 export const TEXTS = {
   csv: (view) => csvText(rowsFor(view, ({ name }) => name)),

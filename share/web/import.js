@@ -1,19 +1,22 @@
 // Importing a file: project files and job shop files are sent as they are; a list of a spreadsheet
-// is shown with the project or the job shop that it becomes, and sent as its file.
+// is shown with the project or the job shop that the program makes of it, and sent as its file.
 
-import { command, deskPath, Refusal, shopPath } from "./api.js";
+import { command, deskPath, Refusal, shopPath, tableOf } from "./api.js";
 import {
-  isOrders, isTable, projectText, readOrders, readTable, recordsOf, shopText, TableFault,
-} from "./csv.js";
-import { byId, fill, make, onSubmit, put, refusalNode, tableNode, tell, wideNode } from "./dom.js";
+  byId, faultNodes, fill, make, onSubmit, put, refusalNode, tableNode, tell, wideNode,
+} from "./dom.js";
+import { noteList, openSaved, replacedFile, showEdit } from "./edit.js";
 import { openPlan, showPlan, takeStarts } from "./plan.js";
 import { showPlans } from "./plans.js";
-import { instancesOf, isStarts, readProject, readShop, stepsOf } from "./project.js";
+import { printed } from "./program.js";
+import { readProject, readShop } from "./project.js";
 import { page, remember } from "./state.js";
 import { counted } from "./words.js";
 
 const LARGEST_FILE = 1048576;
 const CONTEXT = 12;
+// the name of a file for the program
+const FILE = "file";
 const importButton = () => byId("import").querySelector("button");
 
 async function bytesOf(file) {
@@ -25,67 +28,128 @@ async function bytesOf(file) {
   return null;
 }
 
+// what a command prints, or its error
+async function triedTo(words, bytes) {
+  try {
+    return { text: await printed([...words, FILE], { [FILE]: bytes }) };
+  } catch (fault) {
+    if (!(fault instanceof Refusal)) throw fault;
+    return { fault };
+  }
+}
+
+// the project or the job shop that a list becomes, or the error of the list
+async function listOf(name, bytes, given) {
+  const options = [...given].flatMap(([resource, amount]) => ["--capacity", `${resource}=${amount}`]);
+  const project = { isProject: true, ...await triedTo(["import", ...options], bytes) };
+  if (project.text) return project;
+  const shop = { isProject: false, ...await triedTo(["import", "--shop"], bytes) };
+  if (shop.text) return shop;
+  const { message } = project.fault;
+  if (/^T(5|6|7|8|9|10|11|14) /.test(message)) return project;
+  if (/^T(5|6|12|15) /.test(shop.fault.message)) return shop;
+  return /\.(csv|tsv)$/i.test(name) ? project : null;
+}
+
+async function instancesOf(bytes) {
+  const { text } = await triedTo(["names", "--format", "json"], bytes);
+  return text ? JSON.parse(text).rows.map((row) => row.name) : [];
+}
+
+async function isShop(bytes) {
+  const words = ["shop", "spt", FILE, "-"];
+  return printed(words, { [FILE]: bytes }).then(() => true, () => false);
+}
+
+// what a file is: `list` is set for a list, `instances` for a job shop
+async function recognized({ name, bytes, text, given }) {
+  const isProject = /^\s*PRECEDENCE RELATIONS/m.test(text) || /\.sm$/i.test(name);
+  const list = isProject ? null : await listOf(name, bytes, given);
+  // a schedule that was saved as CSV
+  const isSaved = page.plan && list?.fault && /^[^\n]*\bstart\b/.test(text);
+  const instances = isProject || list ? [] : await instancesOf(bytes);
+  const isStarts = isSaved
+    || (page.plan && !isProject && !list && !instances.length && !(await isShop(bytes)));
+  return { isProject, list, instances, isStarts };
+}
+
 /** Takes a file, and sends it at once if it is plain what it is. */
 export async function takeFile(file) {
   forgetFile();
   fill("import-answer");
   const bytes = await bytesOf(file);
   if (!bytes) return null;
-  const { name } = file;
   const text = new TextDecoder().decode(bytes);
-  if (page.plan && isStarts(text)) return takeStarts(file);
-  const instances = instancesOf(text);
-  const isProject = /^\s*PRECEDENCE RELATIONS/m.test(text) || /\.sm$/i.test(name);
-  const isList = !isProject && (/\.(csv|tsv)$/i.test(name) || isTable(text) || isOrders(text));
-  page.file = { name, bytes, text, isProject: isProject || isTable(text), given: new Map() };
+  try {
+    if (openSaved(text)) return null;
+  } catch (fault) {
+    return fill("import-answer", ...faultNodes(fault));
+  }
+  return takeBytes({ name: file.name, bytes, text });
+}
+
+/** Takes the bytes of a file. `replaces` is the number of the plan whose list it is, if any, and
+ * `given` are capacities that the list lacks. */
+export async function takeBytes({ name, bytes, text, given = new Map(), replaces }) {
+  const taken = { name, bytes, text, given, replaces };
+  try {
+    Object.assign(taken, await recognized(taken));
+  } catch (fault) {
+    fill("import-answer", refusalNode(`${name} was not sent. ${fault.message}`));
+    return null;
+  }
+  const { isProject, list, instances, isStarts } = taken;
+  if (isStarts) return takeStarts(text);
+  page.file = taken;
   const { instance } = byId("import").elements;
   put("chosen-name", `${name}, ${bytes.length.toLocaleString("en")} bytes`);
   fill("instances", ...instances.map((value) => make("option", { value })));
   instance.value = instances[0] ?? "-";
-  byId("instance-label").hidden = isProject || isList;
+  byId("instance-label").hidden = Boolean(isProject || list);
   byId("chosen").hidden = importButton().hidden = false;
-  if (isList) return showList();
+  if (list) return showList();
   return isProject || instances.length < 2 ? byId("import").requestSubmit() : instance.focus();
 }
 
 export function forgetFile() {
   page.file = null;
-  byId("chosen").hidden = byId("preview").hidden = true;
+  byId("chosen").hidden = byId("preview").hidden = byId("edit").hidden = true;
   fill("preview");
   fill("capacities");
 }
 
 // -- lists
 
-const fileText = (text, bytes, given) => (isOrders(text) ? shopText(readOrders(bytes))
-  : isTable(text) ? projectText(readTable(bytes, given)) : text);
-
-function showList() {
-  const { file } = page;
+async function showList() {
+  const { file } = page, { fault, text, isProject } = file.list;
   byId("preview").hidden = false;
-  let fault = null, list = {};
-  try {
-    list = isOrders(file.text) ? readOrders(file.bytes) : readTable(file.bytes, file.given);
-  } catch (thrown) {
-    if (!(thrown instanceof TableFault)) throw thrown;
-    fault = thrown;
-  }
-  const { resources, capacities } = { resources: [], ...fault, ...list };
+  showEdit(file);
   importButton().hidden = Boolean(fault);
-  fill("preview", ...(fault ? faultyNodes(file, fault)
-    : list.orders ? shopNodes(file, list) : projectNodes(file, list)));
-  fill("capacities", ...resources.map((name, at) => capacityNode(name, capacities[at])));
+  fill("preview", ...(fault ? faultyNodes(file, fault.message)
+    : isProject ? projectNodes(file, readProject(text)) : await shopNodes(file, text)));
+  fill("capacities", ...(isProject ? capacityNodes(file) : []));
   if (!fault) importButton().focus();
   byId("preview").scrollIntoView({ block: "nearest" });
 }
 
+// the resources of the project, or the one whose capacity is missing
+function capacityNodes({ given, list: { text, fault } }) {
+  const { resources = [], capacities } = text ? readProject(text) : {};
+  const missing = fault?.message.match(/^T10 no capacity (.*)$/)?.[1];
+  const known = [...resources].map(([number, name]) => [name, capacities[number - 1]]);
+  const others = [...given].filter(([name]) => missing && name !== missing);
+  return [...known, ...others, ...(missing ? [[missing, ""]] : [])]
+    .map(([name, value]) => capacityNode(name, value));
+}
+
 function capacityNode(name, value) {
-  const { given } = page.file;
+  const { file } = page;
   const input = make("input", { type: "number", min: 0, max: 10000, value, "data-resource": name });
-  input.onchange = () => {
-    if (input.value && input.validity.valid) given.set(name, input.valueAsNumber);
-    else given.delete(name);
-    showList();
+  input.onchange = async () => {
+    if (input.value && input.validity.valid) file.given.set(name, input.valueAsNumber);
+    else file.given.delete(name);
+    file.list = await listOf(file.name, file.bytes, file.given) ?? file.list;
+    if (page.file === file) await showList();
   };
   return make("label", {}, `Capacity of ${name}`, input);
 }
@@ -95,47 +159,48 @@ const previewNodes = (name, kind, parts, table) => [
   wideNode(`The ${kind}`, tableNode(table)),
 ];
 
-function projectNodes({ name }, { rows, resources, capacities }) {
-  const arcs = rows.reduce((sum, { after }) => sum + after.length, 0);
-  const caps = resources.map((resource, at) => `${resource} ${capacities[at]}`).join(", ");
-  return previewNodes(name, "project", `${counted(rows.length, "activity", "activities")}, with a `
-    + `start and an end around them, ${counted(arcs, "arc")} and ${
-      counted(resources.length, "resource")}`, {
-    caption: caps && `Capacities: ${caps}`,
-    heads: ["number", "id", "name", "duration", "predecessors", ...resources],
-    rows: rows.map((row, at) => [at + 2, row.id, row.name, row.duration,
-      row.after.map((place) => place + 2).join(" "), ...row.needs]),
+// the first and the last activity of the project aren't rows of the list
+function projectNodes({ name }, { durations, arcs, needs, names, resources, capacities }) {
+  const last = durations.length - 1;
+  const inner = arcs.filter(({ from, to }) => from > 0 && to < last);
+  const before = (at) => inner.filter(({ to }) => to === at).map(({ from }) => from + 1);
+  const caps = [...resources].map(([number, words]) => `${words} ${capacities[number - 1]}`);
+  const rows = durations.map((duration, at) => [at + 1, names.get(at + 1) ?? "", duration,
+    before(at).join(" "), ...[...resources.keys()].map((number) => needs[at][number - 1])]);
+  return previewNodes(name, "project", `${counted(last - 1, "activity", "activities")}, with a `
+    + `start and an end around them, ${counted(inner.length, "arc")} and ${
+      counted(resources.size, "resource")}`, {
+    caption: caps.length && `Capacities: ${caps.join(", ")}`,
+    heads: ["number", "name", "duration", "predecessors", ...resources.values()],
+    rows: rows.slice(1, -1),
   });
 }
 
-function shopNodes({ name }, { orders, machines, steps }) {
-  const wordsOf = ({ machine, time }) => `${machines[machine]} ${time}`;
-  return previewNodes(name, "job shop", `${counted(orders.length, "order")} on ${
-    counted(machines.length, "machine")}`, {
+async function shopNodes({ name }, text) {
+  const { rows } = tableOf(await printed(["shop", "spt", FILE, "shop"], { [FILE]: text }));
+  const { names, resources } = readShop(text, "shop");
+  const wordsOf = ({ mach, d }) => `${resources.get(mach)} ${d}`;
+  return previewNodes(name, "job shop", `${counted(names.size, "order")} on ${
+    counted(resources.size, "machine")}`, {
     heads: ["job", "order", "steps"],
-    rows: orders.map((order, at) => [at + 1, order, steps[at].map(wordsOf).join(", ")]),
+    rows: [...names].map(([job, order]) => [job, order,
+      rows.filter((row) => row.job === job).map(wordsOf).join(", ")]),
   });
 }
 
-// an unclosed quote hides where the cells are
-function faultyNodes({ name, text }, fault) {
-  const { line, column, message } = fault;
-  const isOpen = message.startsWith("T13");
-  const records = isOpen ? linesOf(text) : recordsOf(text);
-  return [refusalNode(message), partNode(name, records, line, isOpen ? -1 : column)];
-}
+const faultyNodes = ({ name, text }, message) => [
+  refusalNode(message), partNode(name, text, Number(message.match(/\bline (\d+)/)?.[1] ?? 0)),
+];
 
-const linesOf = (text) => text.split("\n").map((line, at) =>
-  ({ line: at + 1, cells: [line.replaceAll("\0", "\u2400")] }));
-
-function partNode(name, records, line, column) {
-  const at = Math.max(0, records.findIndex((record) => record.line === line));
-  const rows = records.slice(Math.max(0, at - CONTEXT), at + CONTEXT + 1).map((record) => {
-    const isMarked = record.line === line;
-    const cells = record.cells.map((cell, place) =>
-      make("td", { class: isMarked && place === column && "wrong" }, cell));
+// the lines around one of a file, which is marked
+function partNode(name, text, line) {
+  const lines = text.split("\n").map((words) => words.replaceAll("\0", "\u2400"));
+  const at = Math.max(0, line - 1);
+  const from = Math.max(0, at - CONTEXT);
+  const rows = lines.slice(from, at + CONTEXT + 1).map((words, place) => {
+    const isMarked = from + place + 1 === line;
     return make("tr", { class: isMarked && "marked", "aria-current": isMarked && "true" },
-      make("th", { scope: "row" }, record.line), ...cells);
+      make("th", { scope: "row" }, from + place + 1), make("td", {}, words));
   });
   return wideNode("The file", make("table", { class: "part" },
     make("caption", {}, line ? `Line ${line} of ${name}` : name), make("tbody", {}, ...rows)));
@@ -145,37 +210,42 @@ function partNode(name, records, line, column) {
 
 async function importFile(fields) {
   const { file } = page;
-  const { isProject } = file;
-  const text = fileText(file.text, file.bytes, file.given);
-  const isList = text !== file.text;
-  const instance = isList && !isProject ? "shop" : fields.instance || "-";
+  const { list } = file;
+  const isProject = list ? list.isProject : file.isProject;
+  const instance = list && !isProject ? "shop" : fields.instance || "-";
   const path = isProject ? deskPath("projects") : shopPath(instance);
   if (!path) {
     throw new Refusal("This name can't be sent: a name in an address has no blank, no / and no %. "
       + "Rename the instance in the file.");
   }
+  const bytes = list ? new TextEncoder().encode(list.text) : file.bytes;
   let made;
   try {
-    made = await command(path, "POST", new Blob([isList ? text : file.bytes]));
+    made = replacedFile(file.replaces, { kind: isProject ? "project" : "shop", instance, bytes })
+      ?? await command(path, "POST", new Blob([bytes]));
   } catch (fault) {
-    const named = fault.message.match(/^E10 .*?\bline (\d+)/);
-    if (named) fault.more = [partNode(file.name, linesOf(text), Number(named[1]))];
+    const named = fault.message.match(/^(?:E10|F\d+) (?:.*? )?line (\d+)/);
+    if (named) fault.more = [partNode(file.name, file.text, Number(named[1]))];
     throw fault;
   } finally {
     byId("import-answer").scrollIntoView({ block: "nearest" });
   }
-  noteFile(made.n, isProject, file.name, text, instance);
-  page.plans = [...page.plans.filter(({ n }) => n !== made.n), made];
+  noteFile(made.n, isProject, file.name, bytes, instance);
+  if (list) noteList(made.n, file);
+  page.plans = [...page.plans.filter(({ n }) => n !== made.n), made]
+    .sort((a, b) => a.n - b.n);
   showPlans();
-  if (instancesOf(text).length < 2) forgetFile();
+  if (file.instances.length < 2) forgetFile();
   await openPlan(made.n);
   return `${file.name} is plan ${made.n}.`;
 }
 
-function noteFile(n, isProject, name, text, instance) {
+/** Keeps what the page shows of a plan's file. */
+export function noteFile(n, isProject, name, bytes, instance) {
+  const text = new TextDecoder().decode(bytes);
   const found = isProject ? readProject(text) : readShop(text, instance);
   if (!found) return;
-  if (isProject) page.projects.set(n, found);
+  if (isProject) page.projects.set(n, { ...found, bytes });
   remember(n, {
     title: found.title ?? name.replace(/\.[^.]*$/, ""),
     shape: undefined, names: Object.fromEntries(found.names),
@@ -187,31 +257,35 @@ export async function takeNames(file) {
   const { plan } = page;
   const bytes = await bytesOf(file);
   if (!bytes) return null;
-  let text = new TextDecoder().decode(bytes);
-  try {
-    text = fileText(text, bytes);
-  } catch (fault) {
-    if (!(fault instanceof TableFault)) throw fault;
-    return fill("names-answer", refusalNode(fault.message));
-  }
-  const instance = instanceIn(text, plan);
+  const taken = { name: file.name, bytes, text: new TextDecoder().decode(bytes), given: new Map() };
+  const { list, instances } = await recognized(taken);
+  if (list?.fault) return fill("names-answer", refusalNode(list.fault.message));
+  const own = list ? new TextEncoder().encode(list.text) : bytes;
+  const instance = await instanceIn(own, plan, list ? ["shop"] : instances);
   if (instance === undefined) {
     return fill("names-answer",
       refusalNode(`${file.name} isn't the file of plan ${plan.n}: its durations differ.`));
   }
-  noteFile(plan.n, plan.kind === "project", file.name, text, instance);
-  fill("names-answer", tell(`${file.name} is the file of plan ${plan.n}.`));
-  return showPlan();
+  noteFile(plan.n, plan.kind === "project", file.name, own, instance);
+  await showPlan();
+  return fill("names-answer", tell(`${file.name} is the file of plan ${plan.n}.`));
 }
 
 // the instance of a plan, - for a project; undefined if there is none
-function instanceIn(text, { kind, schedules }) {
+async function instanceIn(bytes, { kind, schedules }, instances) {
   const [{ rows } = { rows: [] }] = schedules.values();
-  if (kind === "shop") {
-    const wanted = rows.map(({ mach, d }) => `${mach}:${d}`).join();
-    return [...instancesOf(text), "-"].find((name) => stepsOf(text, name).join() === wanted);
+  const cells = (list) => list.map(({ mach = "", d }) => `${mach}:${d}`).join();
+  const isSame = (text) => cells(tableOf(text).rows) === cells(rows);
+  if (kind === "project") {
+    const { text } = await triedTo(["cpm"], bytes);
+    return text && isSame(text) ? "-" : undefined;
   }
-  return readProject(text)?.durations.join() === rows.map(({ d }) => d).join() ? "-" : undefined;
+  for (const name of [...instances, "-"]) {
+    const words = ["shop", "spt", FILE, name];
+    const text = await printed(words, { [FILE]: bytes }).catch(() => null);
+    if (text && isSame(text)) return name;
+  }
+  return undefined;
 }
 
 export const letImport = () => onSubmit("import", importFile);

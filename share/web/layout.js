@@ -1,24 +1,35 @@
 // The layout of a chart: where times are on its axis, its marks, free days, colours and row
 // heights. Nothing here draws.
 
-import { dateOf, dayAt, dayOf, isWorked, weekdayOf } from "./calendar.js";
+import { dateOf, dayOf, weekdayOf } from "./days.js";
 
 const LETTER = 6.6;
 const COLOURS = 16;
 
 export const widthOf = (text) => text.length * LETTER;
 
-/** Returns the scale of an axis, in days with a calendar, else in units of working time. */
-export function scaleOf(calendar, total, left, right) {
-  const known = calendar && dayAt(calendar, 0) !== null && dayAt(calendar, total) !== null;
-  const origin = known ? dayAt(calendar, 0) : 0;
-  const begin = (time) => (known ? dayAt(calendar, time) - origin : time);
-  const finish = (time) => (known && time ? dayAt(calendar, time - 1) + 1 - origin : time);
+// the day behind the last of `days` whose time is at most this one
+function dayBefore(days, time) {
+  const times = [...days.keys()].filter((known) => known <= time);
+  return times.length ? days.get(Math.max(...times)) : Math.min(...days.values());
+}
+
+/** Returns the scale of an axis: in days if the rows of a view are dated, else in units of working
+ * time. */
+export function scaleOf({ rows, dates, calendar, total }, left, right) {
+  const dated = dates ? rows.filter(({ first }) => first) : [];
+  const isDated = dated.length > 0;
+  const begins = new Map(dated.map(({ start, first }) => [start, dayOf(first)]));
+  const ends = new Map(dated.map(({ end, last }) => [end, dayOf(last) + 1]));
+  const origin = isDated ? Math.min(...begins.values()) : 0;
+  const both = new Map([[0, origin], ...begins, ...ends]);
+  const begin = (time) => (isDated ? begins.get(time) ?? dayBefore(both, time) : time) - origin;
+  const finish = (time) => (isDated ? dayBefore(both, time) : time) - origin;
   const span = Math.max(1, finish(total));
   const unit = (right - left) / span;
   const x = (place) => left + place * unit;
   return {
-    calendar: known ? calendar : null, origin, span, unit, left, right, x,
+    isDated, marks: isDated && calendar ? calendar.days : null, origin, span, unit, left, right, x,
     // an interval that takes no time is where the work before it ends
     startOf: (start, end) => x(start < end ? begin(start) : finish(start)),
     endOf: (end) => x(finish(end)),
@@ -41,8 +52,8 @@ function lineDays({ origin, span, unit }) {
 
 /** Returns the marks of an axis: where each is in units, with its label if there is room. */
 export function marksOn(scale) {
-  const { calendar, origin, span, unit, left, right } = scale;
-  if (!calendar) {
+  const { isDated, origin, span, unit, left, right } = scale;
+  if (!isDated) {
     const step = roundUnits(46, unit);
     return Array.from({ length: Math.floor(span / step) + 1 },
       (_, k) => ({ place: k * step, words: `${k * step}` }));
@@ -58,10 +69,10 @@ export function marksOn(scale) {
 }
 
 /** Returns the free days of an axis as runs of days; none if a day is too narrow to be seen. */
-export function freeDays({ calendar, origin, span, unit }) {
+export function freeDays({ marks, origin, span, unit }) {
   const runs = [];
-  for (let place = 0; calendar && unit >= 1 && place < span; place += 1) {
-    if (isWorked(calendar, origin + place)) continue;
+  for (let place = 0; marks && unit >= 1 && place < span; place += 1) {
+    if (marks[weekdayOf(origin + place)] === "1") continue;
     const last = runs.at(-1);
     if (last && last.place + last.days === place) last.days += 1;
     else runs.push({ place, days: 1 });
@@ -71,8 +82,8 @@ export function freeDays({ calendar, origin, span, unit }) {
 
 export const today = () => new Date().toLocaleDateString("en-CA");
 
-export function placeOfDate({ calendar, origin, span }, date) {
-  if (!calendar) return null;
+export function placeOfDate({ isDated, origin, span }, date) {
+  if (!isDated) return null;
   const place = dayOf(date) - origin;
   return place >= 0 && place <= span ? place : null;
 }

@@ -4,7 +4,9 @@
 import { listenTo, Refusal } from "./api.js";
 import { letChange } from "./changes.js";
 import { all, byId, clear, during, fill, letChoose, letTake, make, onSubmit, put } from "./dom.js";
+import { letEdit, openAlone, start } from "./edit.js";
 import { forgetFile, letImport, takeFile, takeNames } from "./import.js";
+import { isAlone } from "./local.js";
 import { leavePlan, letPlanAct, redraw, showPaper } from "./plan.js";
 import {
   askAgain, askLists, askMakespans, letOfficeAct, noteAnswered, noteLost, refresh, showPublished,
@@ -15,7 +17,7 @@ import { glossary } from "./words.js";
 
 function showView(name) {
   for (const view of ["door", "desk", "office"]) byId(view).hidden = view !== name;
-  byId("leave").hidden = byId("who").hidden = name === "door";
+  byId("leave").hidden = byId("who").hidden = name === "door" || isAlone();
   put("who", name === "office" ? "The office" : `Desk ${page.desk}`);
   byId("remember").checked = isRemembering();
 }
@@ -96,6 +98,7 @@ function letAct() {
   onSubmit("enter", enterDesk);
   onSubmit("enter-office", enterOffice);
   letImport();
+  letEdit();
   letPlanAct();
   letChange();
   letOfficeAct();
@@ -114,3 +117,8 @@ letAct();
 letDrop();
 letFit();
 for (const doors of all("#door fieldset")) doors.disabled = false;
+if (isAlone()) {
+  await openAlone();
+  showView("desk");
+  await start("example");
+}

@@ -1,5 +1,5 @@
-// The plan that is open: asks for its pages, shows its schedules as a chart and as tables, saves
-// them, and checks start times from elsewhere with the verdicts of `plan check`.
+// The plan that is open: asks for its pages, shows its schedules as a chart and as tables, searches,
+// saves, and checks start times from elsewhere. The program gives slack, days and verdicts.
 
 import { ask, askTable, planPath, Refusal, tableOf } from "./api.js";
 import { showChanges } from "./changes.js";
@@ -8,19 +8,19 @@ import {
   all, byId, clear, download, faultNodes, fill, letTake, make, onSubmit, put, refusalNode, say,
   tableNode, tell,
 } from "./dom.js";
+import { showEditable } from "./edit.js";
 import { TEXTS } from "./handin.js";
 import { markOpen, showPlans } from "./plans.js";
-import { readStarts, StartsFault } from "./project.js";
 import { searchWords, shorterOf } from "./search.js";
-import { makespanOf, verdictOf } from "./slack.js";
 import { page, recordOf, remember, RULES, shapeOf, WORDS_OF_KIND } from "./state.js";
+import { savedText, solved, verdictOf } from "./subject.js";
 import { showTable } from "./table.js";
-import {
-  nameOf, namesIn, needWords, settleCalendar, settleModel, viewOf,
-} from "./view.js";
+import { learn, nameOf, namesIn, needWords, settle, viewOf } from "./view.js";
 import { COLUMN_WORDS, RULE_WORDS } from "./words.js";
 
 let view = null;
+// ends the search that is on
+let searching = null;
 
 export async function openPlan(n) {
   const { kind } = page.plans.find((plan) => plan.n === n);
@@ -33,14 +33,13 @@ export async function openPlan(n) {
   try {
     if (kind === "project") plan.dates = await askTable(planPath(n, "dates"));
     await askSchedules(plan);
-    if (page.plan === plan) showPlan();
+    if (page.plan === plan) await showPlan();
   } catch (fault) {
     if (page.plan === plan) fill("plan-answer", ...faultNodes(fault));
   }
   if (page.plan === plan) byId("plan").ariaBusy = null;
 }
 
-// working days are asked for until they determine the calendar
 async function askSchedules(plan) {
   for (const rule of RULES[plan.kind]) {
     const table = await askTable(planPath(plan.n, "schedule", rule));
@@ -50,11 +49,9 @@ async function askSchedules(plan) {
     }
     plan.schedules.set(rule, table);
   }
-  for (const rule of new Set([plan.drawn, ...RULES[plan.kind]])) {
+  for (const rule of RULES[plan.kind]) {
     plan.days.set(rule, await askTable(planPath(plan.n, "days", rule)));
     if (plan.days.get(rule) instanceof Refusal) return;
-    settleCalendar(plan);
-    if (plan.calendar) return;
   }
 }
 
@@ -62,6 +59,7 @@ const headOf = ({ n, kind }) => `Plan ${n}, a ${WORDS_OF_KIND[kind]}`;
 
 function awaitPlan(isNew) {
   view = null;
+  searching?.abort();
   put("plan-head", headOf(page.plan));
   fill("plan-answer", tell("Asking the office …"));
   byId("plan-body").hidden = true;
@@ -75,33 +73,37 @@ function awaitPlan(isNew) {
 }
 
 export function leavePlan() {
+  searching?.abort();
   page.plan = view = null;
   byId("plan").hidden = true;
   fill("paper");
   markOpen();
 }
 
-export function showPlan() {
+export async function showPlan() {
   const { plan } = page;
   const faults = [plan.fault, plan.dates].filter((part) => part instanceof Refusal);
+  const [table] = plan.schedules.values();
+  if (table) noteTable(plan, table);
+  await settle(plan);
+  if (page.plan !== plan) return;
   for (const fault of faults) fault.lead = needWords(plan, fault.message);
   fill("plan-answer", ...faults.flatMap(faultNodes));
   byId("plan-body").hidden = false;
-  const [table] = plan.schedules.values();
   for (const part of all("#plan .drawn")) part.hidden = !table;
-  settleModel(plan);
-  settleCalendar(plan);
-  if (table) {
-    const { names, shape } = recordOf(plan.n);
-    const own = names && !shape ? { shape: shapeOf(table.rows) } : {};
-    remember(plan.n, { makespan: table.total, ...own });
-  }
   showPlans();
   showParts(plan);
   showChanges(plan);
   showDates(plan.dates);
+  showEditable(plan);
   put("handin-words", "There is no schedule to hand in.");
   if (table) showSchedules();
+}
+
+function noteTable({ n }, table) {
+  const { names, shape } = recordOf(n);
+  const own = names && !shape ? { shape: shapeOf(table.rows) } : {};
+  remember(n, { makespan: table.total, ...own });
 }
 
 function showParts(plan) {
@@ -129,6 +131,7 @@ function showDrawn() {
   view = viewOf(plan);
   const point = showChart(view);
   showTable(view, `Schedule by ${nameOf(plan, plan.drawn)}`);
+  showSaves(view);
   showDayNote(plan);
   put("handin-words", `The schedule that is drawn: ${nameOf(plan, plan.drawn)}.`);
   return point;
@@ -142,9 +145,9 @@ export const showPaper = () => view && fillPaper(view);
 
 function showDayNote(plan) {
   const refusal = [...plan.days.values()].find((days) => days instanceof Refusal);
-  const words = !refusal ? "The dates of this schedule aren't known: the office's working days "
-    + "leave several calendars. Set the calendar on this page."
-    : refusal.message === "E12 G4 no calendar"
+  const words = !refusal ? "The dates of this schedule aren't known, because the calendar wasn't set "
+    + "on this computer. Set it under Changes."
+    : refusal.message.endsWith("G4 no calendar")
       && "No calendar is set, so times are units of working time, counted from 0.";
   fill("days", ...(view.dates ? [] : words ? [say(words)] : faultNodes(refusal)));
 }
@@ -191,89 +194,123 @@ function showRules({ schedules }) {
   }));
 }
 
-async function searchBest({ budget }) {
+// -- search
+
+async function searchBest({ seconds }) {
   const { plan } = page;
-  let table;
+  searching = new AbortController();
+  byId("cancel").hidden = !plan.model;
+  const told = (line) => page.plan === plan && fill("best-answer", tell(line));
   try {
-    table = tableOf(await ask(planPath(plan.n, "best", budget)));
+    const table = await (plan.model ? solved(plan, seconds, told, searching.signal) : askBest(plan));
+    plan.schedules.set("best", { ...[...plan.schedules.values()][0], ...table });
+    plan.days.delete("best");
+    await learn(plan, "best");
   } catch (fault) {
-    if (fault instanceof Refusal && /\bS5\b/.test(fault.message)) fault.more = [solveNode(plan)];
-    throw fault;
+    if (page.plan === plan) throw fault;
+  } finally {
+    byId("cancel").hidden = true;
   }
   if (page.plan !== plan) return "";
-  plan.schedules.set("best", table);
   plan.drawn = shorterOf(plan);
   showSchedules();
-  return searchWords(plan, budget);
+  return searchWords(plan);
 }
 
-const solveNode = ({ kind }) => make("p", { class: "solve" },
-  "Search on your own computer: run ",
-  make("code", {}, `plan solve FILE${kind === "project" ? "" : " INSTANCE"}`),
-  ", then drop what it prints on this page, or paste it under \"Hand in and check\". The page "
-  + "checks and draws it.");
+// without the plan's file the office searches
+async function askBest(plan) {
+  try {
+    return tableOf(await ask(planPath(plan.n, "best", OFFICE_BUDGET)));
+  } catch (fault) {
+    if (fault instanceof Refusal && /\bS5\b/.test(fault.message)) fault.more = [solveNode()];
+    throw fault;
+  }
+}
+
+const OFFICE_BUDGET = 200000;
+
+const solveNode = () => make("p", { class: "solve" },
+  "Add the file of this plan below: then this page searches, for as long as you like.");
 
 // -- hand in and check
 
-function save(form) {
+async function save(form) {
   if (!view) return;
-  const { n, drawn } = view.plan;
-  download(`${page.desk}-plan-${n}-${drawn}.${form}`, TEXTS[form](view));
-}
-
-// a verdict in steps and machines
-function shopWords(line, rows) {
-  const step = (_, number) => `step ${rows[number - 1].step} of job ${rows[number - 1].job}`;
-  return line.replace(/activity (\d+)/, step).replace(/(?<=before )(\d+)/, step)
-    .replace(/more of resource (\d+) is .*/,
-      (_, number) => `machine ${number - 1} has two steps`);
-}
-
-function checkStarts(text) {
-  const { plan } = page, { model, note, schedules } = plan;
-  const [{ heads, rows } = { rows: [] }] = schedules.values();
-  const isProject = plan.kind === "project";
-  const wanted = rows.map(({ act, job, step }) => (isProject ? `${act}` : `${job} ${step}`));
-  if (!model) {
-    throw new StartsFault(note ? `${note} Add the plan's file first.` : "There is no schedule.");
+  const { plan, starts } = view;
+  const name = `${page.desk}-plan-${plan.n}-${plan.drawn}.${form}`;
+  try {
+    const text = TEXTS[form] ? TEXTS[form](view)
+      : await savedText(plan, form, starts, view.calendar);
+    download(name, text);
+    fill("save-answer");
+  } catch (fault) {
+    fill("save-answer", ...faultNodes(fault));
   }
-  const starts = readStarts(text, plan.kind, wanted);
-  const { line, isFeasible, activity } = verdictOf(model, starts);
-  const total = makespanOf(model, starts);
+}
+
+function showSaves({ plan, calendar }) {
+  for (const button of all("#saves button")) {
+    const isAble = TEXTS[button.value] || (plan.model && (button.value !== "ics" || calendar));
+    button.hidden = !isAble;
+  }
+}
+
+// the activity or step that a verdict names first, counted from 0; -1 for none
+function placeIn(line, rows) {
+  const [, step, job] = line.match(/^step (\d+) of job (\d+)/) ?? [];
+  const [, activity] = line.match(/^activity (\d+)/) ?? [];
+  return rows.findIndex((row) => (activity ? row.act === Number(activity)
+    : row.job === Number(job) && row.step === Number(step)));
+}
+
+async function checkStarts(text) {
+  const { plan } = page, { model, note, schedules } = plan;
+  if (!model) throw new Refusal(note ? `${note} Add the plan's file first.` : "There is no schedule.");
+  const [{ heads, rows }] = schedules.values();
+  const { line, total, starts } = await verdictOf(plan, text);
+  const isFeasible = line === "active" || line.endsWith("can start earlier");
   schedules.set("own", {
-    heads, total, verdict: isFeasible ? "" : " (not feasible)",
+    heads, total, isInfeasible: !isFeasible, verdict: isFeasible ? "" : " (not feasible)",
     rows: rows.map((row, at) => ({ ...row, start: starts[at], end: starts[at] + row.d })),
   });
+  plan.days.delete("own");
+  await learn(plan, "own");
+  if (page.plan !== plan) return null;
   plan.drawn = "own";
   const point = showSchedules();
-  if (activity !== undefined) point(activity);
-  return { isFeasible, total, line: isProject ? line : shopWords(line, rows) };
+  const place = placeIn(line, rows);
+  if (place >= 0) point(place);
+  return { isFeasible, total, line };
 }
 
-function showVerdict(text) {
+async function showVerdict(text) {
   try {
-    const { line, isFeasible, total } = checkStarts(text);
+    const found = await checkStarts(text);
+    if (!found) return;
+    const { line, isFeasible, total } = found;
     const meaning = !isFeasible ? "Not feasible."
       : line === "active" ? "Feasible, and nothing can start earlier by itself."
         : "Feasible, but not active: all others fixed, this one could start earlier.";
     fill("check-answer", make("div", { class: isFeasible ? "verdict" : "refusal", role: "status" },
       make("strong", {}, line), say(`${meaning} Makespan ${total}.`)));
   } catch (fault) {
-    if (!(fault instanceof StartsFault)) throw fault;
-    fill("check-answer", refusalNode(fault.message));
+    if (!(fault instanceof Refusal)) throw fault;
+    // `compare` gets the starts as both A and B
+    fill("check-answer", refusalNode(fault.message.replace(/(of the starts) A$/, "$1")));
   }
   byId("check-answer").scrollIntoView({ block: "nearest" });
 }
 
-export async function takeStarts(file) {
+export async function takeStarts(text) {
   byId("tab-handin").click();
-  showVerdict(await file.text());
+  await showVerdict(text);
 }
 
 export function letPlanAct() {
   onSubmit("best", searchBest);
-  onSubmit("check", async ({ starts }) => showVerdict(starts));
-  letTake(byId("check-zone"), takeStarts);
+  onSubmit("check", ({ starts }) => showVerdict(starts));
+  byId("cancel").onclick = () => searching?.abort();
+  letTake(byId("check-zone"), async (file) => takeStarts(await file.text()));
   byId("saves").onclick = ({ target: { value } }) => value && save(value);
   byId("colours").onchange = byId("lines").onchange = showDrawn;
 }

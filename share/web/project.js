@@ -1,8 +1,8 @@
-// Files that the page reads as far as it needs them: of a project its model, names and title, of a
-// job shop names and steps, and start times in several forms. The office is the judge of a file.
+// Project and job shop files as far as the page shows them: names, titles, and of a project its needs
+// and arcs. The program is the judge of a file; it also reads lists and start times.
 
-import { byHead, tableOf } from "./api.js";
-import { IMPORTED, recordsOf } from "./csv.js";
+// the program writes it in the place of a title
+const IMPORTED = "plan import";
 
 const TITLES = [
   "PROJECT INFORMATION", "PRECEDENCE RELATIONS", "REQUESTS/DURATIONS", "RESOURCEAVAILABILITIES",
@@ -101,102 +101,9 @@ export function readShop(text, instance) {
   return { ...namesBy(/^\+\s*(machine|job)\s+(\d{1,9})\s+(.+)$/, lines), title };
 }
 
-/** Returns the machine and the time of each step of an instance, in order, as "0:3". */
-export function stepsOf(text, instance) {
-  const lines = blockOf(text, instance).filter(Boolean);
-  const first = lines.findIndex((line) => !line.startsWith("+"));
-  const rest = lines.slice(instance === "-" ? first : first + 1);
-  const end = rest.findIndex((line) => line.startsWith("+"));
-  const words = rest.slice(0, end < 0 ? rest.length : end).flatMap((line) => line.split(/\s+/));
-  const [jobs, machines, ...numbers] = words.map(Number);
-  return Array.from({ length: jobs * machines || 0 }, (_, at) =>
-    `${numbers[2 * at]}:${numbers[2 * at + 1]}`);
-}
-
-export const instancesOf = (text) =>
-  [...text.matchAll(/^[ \t]*instance[ \t]+(\S+)[ \t\r]*$/gm)].map((match) => match[1]);
-
 /** Returns the first resource of which the greatest part is needed, counted from 1; 0 if none. */
 export function mostNeeded(needs, capacities) {
   const parts = needs.map((need, place) => need / Math.max(1, capacities[place]));
   const greatest = Math.max(0, ...parts);
   return greatest > 0 ? parts.indexOf(greatest) + 1 : 0;
 }
-
-// -- start times
-
-const MOST_START = 10000000;
-
-export class StartsFault extends Error {}
-
-function numbersOf(words) {
-  const wrong = words.find((word) => !/^\d{1,9}$/.test(word) || Number(word) > MOST_START);
-  if (wrong !== undefined) {
-    throw new StartsFault(`${wrong} isn't a start time from 0 to 10,000,000.`);
-  }
-  return words.map(Number);
-}
-
-function startsIn(rows, keys, wanted) {
-  const found = new Map(rows.map((row) => [keys.map((key) => row?.[key]).join(" "), row?.start]));
-  return wanted.map((key) => {
-    if ((found.get(key) ?? "") === "") throw new StartsFault(`The file has no start of ${key}.`);
-    return found.get(key);
-  });
-}
-
-function printedIn(text) {
-  const { heads, rows } = tableOf(text);
-  return heads.includes("start") ? rows : null;
-}
-
-// the rows of JSON that `plan` or this page wrote
-function jsonIn(text) {
-  try {
-    const { rows } = JSON.parse(text);
-    return Array.isArray(rows) ? rows : null;
-  } catch {
-    return null;
-  }
-}
-
-function csvIn(text) {
-  if (!/^[^\n]*\bstart\b/.test(text) || !/^[^\n]*[,;\t]/.test(text)) return null;
-  const [header, ...rest] = recordsOf(text);
-  const heads = header.cells.map((cell) => cell.trim());
-  return rest.map(({ cells }) => byHead(heads, cells));
-}
-
-/** Reads start times. `wanted` numbers the plan's rows: "3", or "1 2" for step 2 of job 1. */
-export function readStarts(text, kind, wanted) {
-  const rows = printedIn(text) ?? jsonIn(text) ?? csvIn(text);
-  const keys = kind === "project" ? ["act"] : ["job", "step"];
-  const words = rows ? startsIn(rows, keys, wanted) : text.split(/[\s,;]+/).filter(Boolean);
-  const numbers = numbersOf(words);
-  const { length } = numbers;
-  if (length !== wanted.length) {
-    throw new StartsFault(`The file has ${length} start times; ${wanted.length} are needed.`);
-  }
-  return numbers;
-}
-
-/** Returns whether a text is a list of start times; numbers are one, unless the first two count the
- * jobs and machines of a job shop behind them. */
-export function isStarts(text) {
-  const [jobs, machines, ...steps] = text.trim().split(/\s+/);
-  const isShop = jobs * machines > 0 && steps.length === 2 * jobs * machines;
-  return (/^[\s\d]+$/.test(text) && !isShop) || Boolean(printedIn(text) ?? jsonIn(text))
-    || /^(act|job)[,;\t]([^\n]*[,;\t])?start\b/.test(text);
-}
-
-// a text that a spreadsheet would take for a formula gets a quote sign
-function cellOf(value) {
-  const text = /^[=+\-@\t\r]/.test(value) && !/^-?\d/.test(value) ? `'${value}` : String(value);
-  return /[",;\n\r]/.test(text) ? `"${text.replaceAll('"', '""')}"` : text;
-}
-
-export const csvText = (rows) =>
-  [Object.keys(rows[0]), ...rows.map(Object.values)]
-    .map((cells) => `${cells.map((cell) => cellOf(String(cell ?? ""))).join(",")}\n`).join("");
-
-export const startsText = (rows) => rows.map(({ start }) => `${start}\n`).join("");

@@ -23,10 +23,10 @@ function comparedWords(plan) {
   return `The schedule by the rule ${least} is ${-gain} shorter, so it is drawn.`;
 }
 
-/** Returns the words on a search with a budget, whose schedule is `best`. */
-export function searchWords(plan, budget) {
-  const { verdict, total } = plan.schedules.get("best");
+/** Returns the words on a search, whose schedule is `best`. */
+export function searchWords(plan) {
+  const { verdict, total, lower } = plan.schedules.get("best");
   const meaning = verdict === "optimal" ? "no schedule of this plan is shorter"
-    : `the best that was found within ${budget} search steps`;
+    : `the shortest that was found${lower ? `; no schedule is shorter than ${lower}` : ""}`;
   return `${verdict} ${total}: ${meaning}. ${comparedWords(plan)}`;
 }

@@ -1,6 +1,8 @@
 // The state of the page, and what this browser remembers of plans: titles, names, and the changes
 // that were made here. Keys are never stored. With the switch off, all of it ends with the page.
 
+import { isAlone } from "./local.js";
+
 const SWITCH = "plan/forget";
 const PREFIX = "plan/of/";
 
@@ -28,7 +30,7 @@ export const WORDS_OF_KIND = { project: "project", shop: "job shop" };
 // uses the browser's memory, which may be closed, full or damaged: the page goes on without it
 function withMemory(action) {
   try {
-    return action(localStorage);
+    return isAlone() ? undefined : action(localStorage);
   } catch {
     return undefined;
   }

@@ -6,7 +6,7 @@ import { COLUMN_WORDS } from "./words.js";
 
 let sorting = { n: 0, head: "", isDown: false };
 
-const nameOf = (head) => ({ first: "first day", last: "last day" })[head] ?? head;
+const headName = (head) => ({ first: "first day", last: "last day" })[head] ?? head;
 
 // the columns are the members of a row that are known
 const columnsOf = ({ plan: { kind, dates }, isNamed, dates: days, slack }) => [
@@ -28,7 +28,7 @@ export function compare(a, b) {
   return a.localeCompare(b, "en", { numeric: true });
 }
 
-function tableOf(view, rows, titleOf, words) {
+function scheduleTable(view, rows, titleOf, words) {
   const columns = columnsOf(view);
   const classOf = (head) => view.isNamed && /^(name|job|machine)$/.test(head) && "words";
   const cells = (row) => columns.map((head, at) =>
@@ -51,8 +51,8 @@ export function showTable(view, words) {
     : view.rows;
   const headNode = (column) => byId("table").querySelector(`[data-head=${column}]`);
   const buttonOf = (column) => {
-    const title = COLUMN_WORDS[column] ?? `the ${nameOf(column)}`;
-    const button = make("button", { title }, nameOf(column));
+    const title = COLUMN_WORDS[column] ?? `the ${headName(column)}`;
+    const button = make("button", { title }, headName(column));
     button.onclick = () => {
       sorting = { n, head: column, isDown: column === head && !isDown };
       showTable(view, words);
@@ -60,9 +60,9 @@ export function showTable(view, words) {
     };
     return button;
   };
-  fill("table", tableOf(view, rows, buttonOf, words));
+  fill("table", scheduleTable(view, rows, buttonOf, words));
   if (isSorted) headNode(head).ariaSort = isDown ? "descending" : "ascending";
 }
 
 /** Returns the table in the order of the plan, without buttons. */
-export const paperTable = (view, words) => tableOf(view, view.rows, nameOf, words);
+export const paperTable = (view, words) => scheduleTable(view, view.rows, headName, words);

@@ -1,41 +1,16 @@
-// The state of the open plan: its model, from its file and the changes of this browser, if the
-// office's tables agree with it; and the rows, bars and texts of the schedule that is drawn.
+// The state of the open plan: its model and what the program says of its schedules, if the office's
+// tables agree with its file; and the rows, bars and texts of the schedule that is drawn.
 
-import {
-  calendarFrom, calendarsOf, datesOf, dayAt, daysTold, onlyCalendar,
-} from "./calendar.js";
+import { Refusal } from "./api.js";
 import { byId } from "./dom.js";
 import { coloursOf } from "./layout.js";
 import { mostNeeded } from "./project.js";
-import { boundsOf, slackOf, verdictOf } from "./slack.js";
 import { page, recordOf, shapeOf } from "./state.js";
+import { agrees, daysOf, projectModel, shopModel, slackOf, subjectOf } from "./subject.js";
 
 const STARRED = "critical by dates alone (crews not counted)";
 
 export const startsOf = (table) => table.rows.map(({ start }) => start);
-
-// a machine is a resource of 1; each step waits for the one before it
-function shopModel({ rows }) {
-  const machines = [...Array(Math.max(...rows.map(({ mach }) => mach)) + 1).keys()];
-  return {
-    durations: rows.map(({ d }) => d),
-    arcs: rows.flatMap(({ step }, to) => (step > 1 ? [{ from: to - 1, to, lag: 0 }] : [])),
-    needs: rows.map(({ mach }) => machines.map((machine) => Number(machine === mach))),
-    capacities: machines.map(() => 1),
-  };
-}
-
-function projectModel(plan) {
-  const project = page.projects.get(plan.n);
-  if (!project) return null;
-  const { lag: lags = {}, bind: binds = {} } = recordOf(plan.n).set ?? {};
-  const arcs = project.arcs.map((arc) =>
-    ({ ...arc, lag: lags[`${arc.from + 1}-${arc.to + 1}`]?.lag ?? 0 }));
-  const bound = (code) => page.codes.find((found) => found.code === code)?.capacity;
-  const capacities = project.capacities.map((capacity, place) =>
-    bound(binds[place + 1]?.code) ?? capacity);
-  return { ...project, arcs, capacities };
-}
 
 /** Returns what an error S1 means in names; nothing if the plan's file, with the changes that were
  * made here, has no such need, or the page hasn't read it. */
@@ -51,53 +26,67 @@ export function needWords(plan, line) {
     + `has ${capacity}.`;
 }
 
-// the office's dates and active schedules are those of the model
-function agrees(model, { dates, schedules }) {
-  const isSame = (head, side) => {
-    const numbers = dates.rows.map((row) => row[head]);
-    return boundsOf(model, numbers)[side].join() === numbers.join();
-  };
-  const areDates = !dates?.rows || (isSame("ES", "earliest") && isSame("LS", "latest"));
-  return areDates && [...schedules.values()].every((table) =>
-    table.rows.map(({ d }) => d).join() === model.durations.join()
-    && verdictOf(model, startsOf(table)).line === "active");
-}
-
-export function settleModel(plan) {
-  const [table] = plan.schedules.values();
-  plan.model = null;
-  plan.note = "";
-  if (!table) return;
-  const model = plan.kind === "shop" ? shopModel(table) : projectModel(plan);
-  if (!model) {
-    plan.note = "Slack isn't known, because this page hasn't read the plan's file.";
-  } else if (!agrees(model, plan)) {
-    plan.note = "Slack isn't known: the office's plan differs from the file, because somebody "
-      + "bound a resource or set a lag elsewhere.";
-  } else {
-    plan.model = model;
+/** Asks the program for the slack and the days of a schedule of the plan. */
+export async function learn(plan, rule) {
+  const table = plan.schedules.get(rule);
+  const starts = startsOf(table);
+  const isSound = plan.model && !table.isInfeasible;
+  plan.slacks.set(rule, isSound ? await slackOf(plan, starts) : null);
+  if (!plan.days.has(rule) && plan.calendar) {
+    plan.days.set(rule, { rows: await daysOf(plan, starts, plan.calendar).catch(() => null) });
   }
 }
 
-/** Sets the calendar of a plan as far as the office's working days determine it. */
-export function settleCalendar(plan) {
-  const pairs = [...plan.days].filter(([, days]) => days.rows)
-    .map(([rule, days]) => [plan.schedules.get(rule).rows, days.rows]);
-  plan.calendar = null;
-  if (!pairs.length) return;
-  const told = daysTold(pairs);
-  const set = recordOf(plan.n).set?.calendar;
-  const own = set && calendarFrom(set.start, set.days);
-  const isTold = own && [...told].every(([time, day]) => dayAt(own, time) === day);
-  const total = Math.max(...[...plan.schedules.values()].map((table) => table.total));
-  plan.calendar = isTold ? own : onlyCalendar(calendarsOf(told), total);
+/** Settles the model of a plan, and asks the program for all that is shown of its schedules. */
+export async function settle(plan) {
+  const [table] = plan.schedules.values();
+  Object.assign(plan, { model: null, note: "", calendar: null, slacks: new Map() });
+  if (!table) return;
+  plan.model = plan.kind === "shop" ? shopModel(table.rows) : projectModel(plan);
+  if (!plan.model) {
+    plan.note = "Slack isn't known, because this page hasn't read the plan's file.";
+    return;
+  }
+  const named = namesIn(plan);
+  plan.subject = subjectOf(plan, table.rows, { ...named, title: named.title || `Plan ${plan.n}` });
+  try {
+    await settleModel(plan);
+  } catch (fault) {
+    if (!(fault instanceof Refusal)) throw fault;
+    Object.assign(plan, { model: null, calendar: null, note: fault.message });
+  }
 }
 
-// the office's dates, or else those of the calendar if it is known
+async function settleModel(plan) {
+  if (!(await agrees(plan))) {
+    plan.model = null;
+    plan.note = "Slack isn't known: the office's plan differs from the file, because somebody "
+      + "bound a resource or set a lag elsewhere.";
+    return;
+  }
+  await settleCalendar(plan);
+  for (const rule of plan.schedules.keys()) await learn(plan, rule);
+}
+
+const dayCells = (rows) =>
+  rows.map((row) => (row && row.first !== "-" ? `${row.first} ${row.last}` : "-")).join();
+
+// the calendar that was set here, if the office's days are those that the program has by it
+async function settleCalendar(plan) {
+  const set = recordOf(plan.n).set?.calendar;
+  const told = [...plan.days].filter(([, days]) => days.rows);
+  if (!set || !told.length) return;
+  for (const [rule, days] of told) {
+    const own = await daysOf(plan, startsOf(plan.schedules.get(rule)), set);
+    if (dayCells(own) !== dayCells(days.rows)) return;
+  }
+  plan.calendar = { start: set.start, days: set.days, holidays: set.holidays };
+}
+
+// the office's dates, or else those of the program, if the calendar is known
 function datesIn(plan, rule) {
-  const days = plan.days.get(rule);
-  if (days?.rows) return days.rows.map((row) => (row.first === "-" ? null : row));
-  return plan.calendar && datesOf(plan.calendar, plan.schedules.get(rule).rows);
+  const rows = plan.days.get(rule)?.rows;
+  return rows ? rows.map((row) => (row && row.first !== "-" ? row : null)) : null;
 }
 
 // -- the schedule that is drawn
@@ -178,8 +167,7 @@ function shopBars({ rows }) {
 export function viewOf(plan) {
   const table = plan.schedules.get(plan.drawn);
   const starts = startsOf(table);
-  const isSound = plan.model && verdictOf(plan.model, starts).isFeasible;
-  const slack = isSound ? slackOf(plan.model, starts) : null;
+  const slack = plan.slacks.get(plan.drawn) ?? null;
   const dates = datesIn(plan, plan.drawn);
   const rows = rowsOf(plan, table, dates, slack);
   const bars = plan.kind === "project" ? projectBars({ plan, rows, slack }) : shopBars({ rows });

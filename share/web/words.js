@@ -28,7 +28,8 @@ const TERMS = {
   Slack: `${COLUMN_WORDS.slack}, and the schedule gets no longer. It comes from the plan's file `
     + "and the changes made in this browser; if the office's dates or schedules differ from these, "
     + "it isn't shown.",
-  "Search steps": "the budget of a search; 200,000 take some seconds.",
+  Search: "ends at the latest after so many seconds, with the shortest schedule that it found. "
+    + "Optimal: it is proved that none is shorter.",
   Lag: "the least time between the end of an activity and the start of its successor.",
 };
 

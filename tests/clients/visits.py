@@ -11,7 +11,7 @@ import sys
 
 from exchanges import OFFICE_KEY, TOP, Exchange, file_of
 from front import sent
-from page_units import as_model, brute_slack, read_sm, worked_days
+from page_units import as_model, brute_slack, read_sm, shop_model, worked_days
 from pages import (
     RULES, drop, example, explained, focus_window, makespan_of, open_plan, open_tab, printed, rows_of,
     same_bars, same_project, same_senses, same_table, seen, seen_axis, seen_plans, seen_table,
@@ -39,16 +39,6 @@ def sign_in(browser, desk=DESK, key=KEY):
     browser.type("#enter [name=desk]", desk)
     browser.type("#enter [name=key]", key)
     submit(browser, "enter")
-
-
-def shop_model(rows):
-    """The model of a job shop whose rows were printed: machines are resources of 1."""
-    machines = max(int(row[2]) for row in rows) + 1
-    needs = [[int(machine == int(row[2])) for machine in range(machines)] for row in rows]
-    arcs = [{"from": at - 1, "to": at, "lag": 0} for at in range(1, len(rows))
-            if rows[at - 1][0] == rows[at][0]]
-    return {"durations": [int(row[3]) for row in rows], "needs": needs, "arcs": arcs,
-            "capacities": [1] * machines}
 
 
 def model_of(text):
@@ -416,6 +406,17 @@ def visit_lag(browser):
     same("what the page says of it", texts(browser, "#lag .refusal p"),
          ["The project has no arc from activity 2 to activity 14. A lag is set between an activity and its "
           "direct successor."])
+    # a plan with a lag alone, without a bind
+    open_plan(browser, 2)
+    open_tab(browser, "changes")
+    for name, value in arc.items():
+        browser.type(f"#lag [name={name}]", value)
+    submit(browser, "lag")
+    wait_text(browser, "#lag-set", "2-3: 5 (set here on")
+    same("a column of slack with a lag alone", "slack" in seen_table(browser, "#table")[0], True)
+    browser.type("#lag [name=lag]", "0")
+    submit(browser, "lag")
+    wait_text(browser, "#lag-set", "2-3: 0 (set here on")
 
 
 def visit_elsewhere(browser, office):
@@ -441,33 +442,31 @@ def visit_elsewhere(browser, office):
 
 
 def visit_best(browser):
-    """A file is dropped; the best schedule and its words are those of `plan best-project`; it is
-    drawn, dated and compared with the rules. If a rule's is shorter, the page says so and draws it."""
+    """A file is dropped; the best schedule and its words are those of `plan solve`; it is drawn, dated
+    and compared with the rules."""
     drop(browser, "five.sm", file_of("examples/five.sm").decode())
     wait_plan(browser, 3)
-    same("the budget at first", browser.run("return best.elements.budget.value"), "200000")
+    same("the seconds at first", browser.run("return best.elements.seconds.value"), "10")
     set_date(browser, "#calendar [name=start]", "2024-03-01")
     submit(browser, "calendar")
-    for budget in ("7", "10"):
-        browser.type("#best [name=budget]", budget)
-        submit(browser, "best")
-        lines = printed("best-project", budget, example("five.sm"))
-        wait_text(browser, "#best-answer", lines[0] + ":")
-        wait_text(browser, "#drawn label:last-child", f"best {lines[0]}")
-        last = int(makespan_of(lines))
-        same_choice(browser, last)
-        browser.click("#drawn [value=best]")
-        bars = [[row[0], row[2], row[3]] for row in rows_of(lines)]
-        same_bars("a best schedule", browser, bars, last, places_in("2024-03-01", "1111100", last))
-        verdict = f"best ({lines[0].split()[0]})"
-        same("its column", seen_table(browser, "#rules")[0][-1], verdict)
-        ends = [row[-1] for row in seen_table(browser, "#rules")[1:-1]]
-        same("its ends", ends, [f"{row[2]}–{row[3]}" for row in rows_of(lines)])
-        days = [str(day) for day in worked_days(datetime.date(2024, 3, 1), "1111100", last)]
-        dates = [["", ""] if row[2] == row[3] else [days[int(row[2])], days[int(row[3]) - 1]]
-                 for row in rows_of(lines)]
-        found = list(map(list, zip(column(browser, "first day"), column(browser, "last day"))))
-        same("its dates", found, dates)
+    submit(browser, "best")
+    lines = printed("solve", example("five.sm"))
+    wait_text(browser, "#best-answer", f"{lines[0]}: no schedule of this plan is shorter.")
+    wait_text(browser, "#drawn label:last-child", f"best {lines[0]}")
+    last = int(makespan_of(lines))
+    same_choice(browser, last)
+    bars = [[row[0], row[2], row[3]] for row in rows_of(lines)]
+    same_bars("a best schedule", browser, bars, last, places_in("2024-03-01", "1111100", last))
+    same("its column", seen_table(browser, "#rules")[0][-1], "best (optimal)")
+    ends = [row[-1] for row in seen_table(browser, "#rules")[1:-1]]
+    same("its ends", ends, [f"{row[2]}–{row[3]}" for row in rows_of(lines)])
+    days = [str(day) for day in worked_days(datetime.date(2024, 3, 1), "1111100", last)]
+    dates = [["", ""] if row[2] == row[3] else [days[int(row[2])], days[int(row[3]) - 1]]
+             for row in rows_of(lines)]
+    found = list(map(list, zip(column(browser, "first day"), column(browser, "last day"))))
+    same("its dates", found, dates)
+    slack = slack_in(file_of("examples/five.sm").decode(), lines)
+    same("its slack", column(browser, "slack"), [str(number) for number in slack])
 
 
 def same_choice(browser, found):
@@ -502,21 +501,21 @@ def chain(count, width=1):
 
 
 def visit_large(browser):
-    """A plan that is too large for the office's search: the page says what to run, and takes what it
+    """A plan that is too large for the office's search: the page searches, and takes what `plan solve`
     prints."""
     text = chain(41, 2)
     drop(browser, "large.sm", text)
     wait_plan(browser, 4)
     wait_text(browser, "#plan-head", "Plan 4, a project: large")
+    browser.type("#best [name=seconds]", "10")
     submit(browser, "best")
-    wait_text(browser, "#best-answer .refusal", "E11 S5 too large")
-    wait_text(browser, "#best-answer .solve code", "plan solve FILE")
+    output = "\n".join([*printed("solve", "-", given=text.encode()), ""])
+    wait_text(browser, "#best-answer", f"{output.splitlines()[0]}: no schedule of this plan is shorter.")
     browser.click("#colours option[value=resource]")
     colours = set(bar_classes(browser))
     same("the first of two that are needed alike", colours, {"cnone", "c0"})
     browser.click("#colours option[value=slack]")
     lines = printed("schedule", "num", "-", given=text.encode())
-    output = "\n".join([f"optimal {makespan_of(lines)}", *lines, ""])
     drop(browser, "solved.txt", output)
     wait_text(browser, "#check-answer strong", "active")
     wait_text(browser, "#check-answer", f"Makespan {makespan_of(lines)}.")
@@ -524,8 +523,6 @@ def visit_large(browser):
          "'#drawn :checked').value"), "own")
     same_bars("what was solved", browser, [[row[0], row[2], row[3]] for row in rows_of(lines)],
               makespan_of(lines))
-
-
 def values_set(browser):
     """The values in the forms of changes."""
     return browser.run("return [bind.elements.place, lag.elements.from, lag.elements.to,"
@@ -555,9 +552,12 @@ def visit_check(browser):
             wait_text(browser, "#told", f"Activity {line.split()[1]}: ")
     browser.choose("#check-file", example("late.txt"))
     wait_text(browser, "#check-answer strong", "activity 6 can start earlier")
-    browser.run("check.elements.starts.value = '0 0 0'")
-    submit(browser, "check")
-    wait_text(browser, "#check-answer", "The file has 3 start times; 6 are needed.")
+    for starts in ("0 0 0", "0 0 0 3 2 x"):
+        browser.run("check.elements.starts.value = arguments[0]", starts)
+        submit(browser, "check")
+        line = plan("check", example("six.sm"), "-", given=starts.encode())[2].decode().rstrip("\n")
+        wait_text(browser, "#check-answer strong", line)
+        same(f"the error of {starts}", seen(browser, "#check-answer strong"), line)
 
 
 def downloaded(browser, office, button):
@@ -621,6 +621,23 @@ def visit_save(browser, office):
     verdict = plan("check", file.name, "-", given=starts.encode())
     same("plan check on them", verdict[:2], (0, b"active\n"))
     browser.click("#drawn [value=lft]")
+    open_plan(browser, 3)
+    browser.click("#drawn [value=mts]")
+    five = example("five.sm")
+    with open(os.path.join(os.path.dirname(office.database), "five.starts"), "w", encoding="ascii") as file:
+        file.write("\n".join(row[2] for row in rows_of(printed("schedule", "mts", five))))
+    calendar = ["2024-03-01", "1111100"]
+    for form, words in (
+        ("html", ["report", "--title=five", "--start", calendar[0], "--days", calendar[1],
+                  "--starts", file.name, five]),
+        ("ics", ["days", "--format", "ics", "--starts", file.name, *calendar, five]),
+        ("svg", ["chart", "--svg", "--starts", file.name, five]),
+    ):
+        status, out, _ = plan(*words)
+        same(f"plan {words[0]}", status, 0)
+        text = downloaded(browser, office, form)[1]
+        same(f"what is saved as {form}", text.replace("plan.sm", "five.sm"), out.decode())
+    open_plan(browser, 1)
 
 
 # ---- tables of spreadsheets
@@ -631,19 +648,24 @@ def visit_table(browser):
     text = file_of("tests/tables/list.csv").decode()
     drop(browser, "list.csv", text.replace("B C", "B X"))
     wait_text(browser, "#preview strong", "T8 line 5 predecessor X")
-    same("the cell", texts(browser, "#preview .wrong"), ["B X"])
-    same("the row", texts(browser, "#preview .marked td")[0], "D")
+    same("the line", texts(browser, "#preview .marked td"), [text.replace("B C", "B X").split("\n")[4]])
     same_senses("a table with an error", browser)
     same("a button", browser.run("return document.querySelector('#chosen button').checkVisibility()"),
          False)
     drop(browser, "list.csv", text)
     wait_text(browser, "#preview", "a project of 4 activities, with a start and an end around them, "
               "4 arcs and 2 resources")
-    wanted = [["number", "id", "name", "duration", "predecessors", "crew", "digger"],
-              ["2", "A", "Excavation", "4", "", "3", "1"], ["3", "B", "Foundation", "6", "2", "5", "0"],
-              ["4", "C", "Drains", "3", "2", "2", "1"], ["5", "D", "Walls, north", "10", "3 4", "4", "0"]]
+    wanted = [["number", "name", "duration", "predecessors", "crew", "digger"],
+              ["2", "Excavation", "4", "", "3", "1"], ["3", "Foundation", "6", "2", "5", "0"],
+              ["4", "Drains", "3", "2", "2", "1"], ["5", "Walls, north", "10", "3 4", "4", "0"]]
     same("the project", seen_table(browser, "#preview"), wanted)
     same("the plans so far", seen_plans(browser), [1, 2, 3, 4, 5])
+    browser.run("edit.elements.list.value = arguments[0]", text.replace("Drains,3", "Drains,x"))
+    submit(browser, "edit")
+    wait_text(browser, "#preview strong", "T5 line 4 duration")
+    browser.click("#undo")
+    wait_text(browser, "#preview", "becomes a project of 4 activities")
+    same("the list again", browser.run("return edit.elements.list.value"), text)
 
 
 def visit_capacity(browser, office):
@@ -651,9 +673,11 @@ def visit_capacity(browser, office):
     text = file_of("tests/tables/list.csv").decode().replace("capacity,,,,5,1\n", "")
     drop(browser, "list.csv", text)
     wait_text(browser, "#preview strong", "T10 no capacity crew")
-    for name, value in (("crew", "5"), ("digger", "1")):
-        browser.type(f"#capacities [data-resource={name}]", value)
-        browser.press(TAB)
+    browser.type("#capacities [data-resource=crew]", "5")
+    browser.press(TAB)
+    wait_text(browser, "#preview strong", "T10 no capacity digger")
+    browser.type("#capacities [data-resource=digger]", "1")
+    browser.press(TAB)
     wait_text(browser, "#preview", "becomes a project of 4 activities")
     submit(browser, "import")
     wait_plan(browser, 6)
@@ -712,6 +736,11 @@ def visit_names(browser):
     wait_text(browser, "#note", "Slack isn't known, because this page hasn't read the plan's file.")
     same("the colours", set(bar_classes(browser)), {"plain"})
     same("the use without a file", texts(browser, "#use svg"), [])
+    open_plan(browser, 4)
+    submit(browser, "best")
+    wait_text(browser, "#best-answer .refusal", "E11 S5 too large")
+    wait_text(browser, "#best-answer .solve", "Add the file of this plan below")
+    open_plan(browser, 6)
     open_tab(browser, "changes")
     browser.type("#bind [name=place]", "3")
     submit(browser, "bind")
@@ -783,7 +812,6 @@ def visit_shop(browser):
     browser.click("#lines option[value=job]")
     same_bars("jobs", browser, [[row[0], row[4], row[5]] for row in rows], makespan_of(lines))
     browser.click("#lines option[value=mach]")
-    browser.type("#best [name=budget]", "6")
     submit(browser, "best")
     wait_text(browser, "#best-answer", "optimal 6:")
     open_tab(browser, "changes")
@@ -1006,13 +1034,15 @@ def visit_waiting(browser):
             return real(...words);
         };
     """)
-    browser.click("#best button")
-    browser.wait("a button that awaits", "return document.querySelector('#best button').textContent"
-                 " === 'Search for the best …'")
+    open_tab(browser, "changes")
+    set_date(browser, "#calendar [name=start]", "2024-03-01")
+    browser.click("#calendar button")
+    browser.wait("a button that awaits", "return document.querySelector('#calendar button').textContent"
+                 " === 'Set the calendar …'")
     browser.wait("the request", "return Boolean(window.letGo)")
     browser.run("window.letGo()")
     wait_idle(browser)
-    same("the button then", seen(browser, "#best button"), "Search for the best")
+    same("the button then", seen(browser, "#calendar button"), "Set the calendar")
 
 
 # ---- sizes, the dark, people with other senses, and paper
@@ -1116,11 +1146,12 @@ def visit_orders(browser, office):
     text = file_of("examples/shop.csv").decode()
     drop(browser, "orders.csv", text.replace("press,4", "press,four", 1))
     wait_text(browser, "#preview strong", "T5 line 7 duration")
-    same("the cell", texts(browser, "#preview .wrong"), ["four"])
+    same("the line", texts(browser, "#preview .marked td"),
+         [text.replace("press,4", "press,four", 1).split("\n")[6]])
     drop(browser, "orders.csv", text)
     wait_text(browser, "#preview", "orders.csv becomes a job shop of 3 orders on 3 machines.")
     wanted = [["job", "order", "steps"], ["1", "order 4711", "saw 3, press 2, paint 2"],
-              ["2", "order 4712", "saw 2, paint 1, press 4"], ["3", "order 4713", "press 4, paint 3"]]
+              ["2", "order 4712", "saw 2, paint 1, press 4"], ["3", "order 4713", "press 4, paint 3, saw 0"]]
     same("the job shop", seen_table(browser, "#preview"), wanted)
     same_senses("a list of orders", browser)
     submit(browser, "import")
@@ -1140,13 +1171,13 @@ def visit_orders(browser, office):
         wanted += [[f"{row[0]} order {4710 + int(row[0])}", row[1], f"{row[2]} {machines[int(row[2])]}",
                     *row[4:6], *dates, str(s)] for row, dates, s in zip(rows, days, slack)]
         same(f"the table by {rule}", seen_table(browser, "#table"), wanted)
-    browser.type("#best [name=budget]", "200000")
     submit(browser, "best")
-    wanted = as_printed([("best", "200000")], given, ["shop"])
+    wanted = as_printed([("solve",)], given, ["shop"])
     days = [str(day) for day in worked_days(datetime.date(2024, 3, 1), "1111100", wanted["makespan"])]
     for row in wanted["rows"]:
         works = row["start"] < row["end"]
         row |= {"first": days[row["start"]] if works else None, "last": days[row["end"] - 1] if works else None}
+        row |= {"first_day": row["first"], "last_day": row["last"]}
     wanted |= {"desk": DESK, "plan": 13, "schedule": "best", "title": "orders"}
     name, text = downloaded(browser, office, "json")
     same("the JSON of the best", (name, text), (f"{DESK}-plan-13-best.json", one_line(wanted)))
@@ -1156,8 +1187,8 @@ def visit_orders(browser, office):
         rows = rows_of(printed("shop", rule, "-", "shop", given=given))
         starts_are(browser, " ".join(row[4] for row in rows), "active")
     # worked out by hand: a step too early, the saw twice, a feasible schedule, and the press later
-    starts_are(browser, "0 0 0 0 0 0 0 0 0", "step 2 of job 1 starts before step 1 of job 1 ends")
-    starts_are(browser, "0 3 5 1 7 8 12 16 19", "at time 1 machine 0 has two steps")
+    starts_are(browser, "0 0 0 0 0 0 0 0 0", "step 2 of job 1 starts before step 1 ends")
+    starts_are(browser, "0 3 5 1 7 8 12 16 19", "at time 1 more than one step is on machine 0")
     starts_are(browser, "0 3 5 3 7 8 12 16 19", "active")
     starts_are(browser, "0 3 5 3 7 8 13 17 20", "step 1 of job 3 can start earlier")
     wait_text(browser, "#told", "Job 3 order 4713, step 1, machine 1 press: 13 to 17")
@@ -1166,6 +1197,62 @@ def visit_orders(browser, office):
     drop(browser, "solved.txt", "\n".join([*lines, ""]))
     wait_text(browser, "#check-answer", f"Makespan {makespan_of(lines)}.")
     wait_text(browser, "#check-answer p", "Feasible")
+
+
+def hard_project():
+    """A project that no search solves in a minute."""
+    sys.path.insert(1, os.path.join(TOP, "bench"))
+    from files import project
+    from progen import made
+    return project(*made(60, 1.8, 0.75, 0.2, 1))
+
+
+def visit_cancel(browser):
+    """A search shows its progress, and is cancelled: then nothing of it is kept. One that ends by its
+    time limit has a bound."""
+    drop(browser, "hard.sm", hard_project())
+    wait_plan(browser, 14)
+    browser.type("#best [name=seconds]", "600")
+    browser.click("#best button:not([type])")
+    browser.wait("its progress", "return /^best \\d+, lower bound \\d+, /.test("
+                 "document.getElementById('best-answer').textContent)")
+    browser.click("#cancel")
+    wait_text(browser, "#best-answer .refusal", "The search was cancelled. Nothing of it is kept.")
+    wait_idle(browser)
+    same("its button", browser.run("return document.getElementById('cancel').hidden"), True)
+    same("the schedules", len(texts(browser, "#drawn label")), len(RULES))
+    browser.type("#best [name=seconds]", "1")
+    submit(browser, "best")
+    wait_text(browser, "#best-answer", "the shortest that was found; no schedule is shorter than")
+    told, total = seen(browser, "#best-answer").split(":")[0].split()
+    bound = int(seen(browser, "#best-answer").split("shorter than ")[1].split(".")[0])
+    same("the search", (told, bound < int(total)), ("between", True))
+
+
+def visit_module(browser):
+    """A module of another digest is refused; the page goes on without slack."""
+    state = lambda script: browser.call("POST", "/execute/async", {"script": script, "args": []})
+    found = state("""
+        const done = arguments[0];
+        (async () => {
+            const { load } = await import("/engine/runtime.js");
+            const { DIGEST } = await import("/digest.js");
+            const bytes = new Uint8Array(await (await fetch("plan.wasm")).arrayBuffer());
+            bytes[bytes.length - 1] ^= 1;
+            return load(bytes, DIGEST);
+        })().then(() => done("loaded"), (fault) => done(fault.message));
+    """)
+    same("another module", "is another module" in found, True)
+    found = state("""
+        const done = arguments[0];
+        try {
+            new Worker("plan.js");
+            done("made");
+        } catch (fault) {
+            done(fault.name);
+        }
+    """)
+    same("another worker", found, "TypeError")
 
 
 def visit_quiet(browser):
@@ -1285,5 +1372,5 @@ VISIT = [
     visit_names, visit_other,
     visit_shop, visit_colours, visit_links, visit_focus, visit_closed, visit_refused, visit_keys, visit_delete,
     visit_lost, visit_found, visit_waiting, visit_sizes, visit_senses, visit_paper, visit_orders,
-    visit_quiet, visit_pictures,
+    visit_cancel, visit_quiet, visit_module, visit_pictures,
 ]

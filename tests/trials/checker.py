@@ -2,6 +2,7 @@
 
 import importlib.machinery
 import importlib.util
+import io
 import os
 
 TOP = os.path.dirname(os.path.dirname(os.path.dirname(os.path.abspath(__file__))))
@@ -15,9 +16,9 @@ Refused = module.Refused
 
 def shown(text, log):
     """What a log shows of the project in a text, as a line. Refuses a log that doesn't follow."""
-    return module.check(module.project(text), log.splitlines(True))
+    return module.check(module.project(text), io.StringIO(log, newline="\n"))
 
 
 def shown_of_shop(text, instance, log):
     """The same for an instance in the text of a job shop file."""
-    return module.check(module.shop(text, instance), log.splitlines(True))
+    return module.check(module.shop(text, instance), io.StringIO(log, newline="\n"))

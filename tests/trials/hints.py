@@ -60,8 +60,11 @@ RESOURCEAVAILABILITIES:
 R 1
 1
 """
+NEEDY = PROJECT.replace("2 1 2 1", "2 1 2 2")
 FILES = {
     "p.sm": PROJECT,
+    "needy.sm": NEEDY,
+    "named.sm": NEEDY + "PROJECT INFORMATION:\nname 2 Dig \x07 deep\nresource 1 crew\n",
     "shops.txt": "2 2\n0 4 1 1\n0 1 1 3\n",
     "list.csv": "id,name,duration\nA,Dig,2\n",
     "orders.csv": "order,machine,time\nA,saw,2\n",
@@ -71,6 +74,8 @@ FILES = {
     "days.txt": "2024-13-01\n",
 }
 
+BEST = "no such priority rule; --solve finds the best schedule"
+
 # The words of a command, the code of its error, and what its hint says before the code.
 SUBJECTS = [
     ("schedule fast p.sm", "S3", "fast: no such priority rule"),
@@ -78,11 +83,24 @@ SUBJECTS = [
     ("chart fast p.sm", "S3", "fast: no such priority rule"),
     ("chart --svg fast p.sm", "S3", "fast: no such priority rule"),
     ("report --rule fast p.sm", "S3", "fast: no such priority rule"),
+    ("schedule best p.sm", "S3", "best: no such priority rule"),
+    ("chart best p.sm", "S3", f"best: {BEST}"),
+    ("chart --svg best p.sm", "S3", f"best: {BEST}"),
+    ("chart best shops.txt -", "S3", f"best: {BEST}"),
+    ("report --rule best p.sm", "S3", f"best: {BEST}"),
+    ("days best 2024-03-01 1111100 p.sm", "S3", f"best: {BEST}"),
+    ("days --format ics best 2024-03-01 1111100 p.sm", "S3", f"best: {BEST}"),
     ("days fast 2024-03-01 1111100 p.sm", "S3", "fast: no such priority rule"),
     ("best 0 shops.txt -", "S6", "0: the budget is invalid"),
     ("best-project 0 p.sm", "S6", "0: the budget is invalid"),
     ("prove 0 shops.txt -", "S7", "0: the number of nodes is invalid"),
-    ("schedule --capacity X=1 lft p.sm", "S8", "--capacity: the project has no such resource"),
+    ("schedule --capacity X=1 lft p.sm", "S8", "--capacity: the only resource is 1"),
+    ("schedule --capacity R2=1 lft p.sm", "S8", "--capacity: the only resource is 1"),
+    ("schedule --capacity X=1 lft named.sm", "S8", "--capacity: the only resource is crew"),
+    ("schedule lft needy.sm", "S1", "needy.sm: activity 2 needs 2 of resource 1, which has 1"),
+    ("chart --svg lft needy.sm", "S1", "needy.sm: activity 2 needs 2 of resource 1, which has 1"),
+    ("solve named.sm", "S1", "named.sm: Dig ? deep needs 2 of crew, which has 1"),
+    ("schedule --capacity crew=0 lft named.sm", "S1", "named.sm: Dig ? deep needs 2 of crew, which has 0"),
     ("import --capacity X=1 list.csv", "T14", "--capacity: no such resource in the list"),
     ("days lft 1.3.2024 1111100 p.sm", "G1", "1.3.2024: the first date is invalid"),
     ("days lft 2024-03-01 weekdays p.sm", "G2", "weekdays: the weekday marks are invalid"),
@@ -234,7 +252,7 @@ def try_check_status(room):
         same(f"plan check of {starts}", found[:2], (min(status, 1) if out == b"" else 0, out))
     late = os.path.join(room, "late.sm")
     with open(late, "w", encoding="ascii") as file:
-        file.write(PROJECT.replace("2 1 2 1", "2 1 2 2"))
+        file.write(NEEDY)
     same("a need above the capacity", plan("check", "--status", late, path)[0], 1)
     same("no starts", plan("check", "--status", late)[0], 2)
     for starts, status in ((b"0 4 4 5", 0), (b"0 4 4 6", 3), (b"0 3 4 5", 3)):

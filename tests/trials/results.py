@@ -1,7 +1,7 @@
 #!/usr/bin/env python3
-"""Compares the results of drawn projects with plain models in Python: JSON and CSV with the modules
-json and csv, working days with the module datetime, the slack and the chain of a schedule with a
-search over all start times.
+"""Compares the results of drawn projects with plain models in Python: JSON and CSV, also of slacks and
+charts, with the modules json and csv, working days with the module datetime, the slack and the chain
+of a schedule with a search over all start times.
 
     tests/trials/results.py [--projects 1000] [--seed 1]
 
@@ -107,6 +107,26 @@ class Model:
 
 # ---- what the program prints
 
+# The words of docs/formats.md for the names of columns.
+WORDS = {
+    "act": "activity",
+    "mach": "machine",
+    "d": "duration",
+    "ES": "earliest_start",
+    "EF": "earliest_finish",
+    "LS": "latest_start",
+    "LF": "latest_finish",
+    "TF": "total_float",
+    "FF": "free_float",
+    "first": "first_day",
+    "last": "last_day",
+}
+
+
+def worded(row):
+    """A row of JSON, which has a cell also under the word for its column."""
+    return {**row, **{WORDS[name]: value for name, value in row.items() if name in WORDS}}
+
 
 def text_of(what, answer):
     status, output, errors = answer
@@ -126,7 +146,7 @@ def try_forms(what, words, columns, others, model):
     rows, _ = table_of(text_of(what, plan(*words)))
     named = any(model.names)
     names = [name if name else None for name in model.names]
-    wanted = [dict(zip(columns, row)) for row in rows]
+    wanted = [worded(dict(zip(columns, row))) for row in rows]
     if named:
         wanted = [{**row, "name": name} for row, name in zip(wanted, names)]
     output = text_of(what, plan(words[0], "--format", "json", *words[1:]))
@@ -149,8 +169,40 @@ def try_dates(what, file, model):
     value = json.loads(text_of(what, plan("cpm", "--format", "json", file)))
     same(f"{what}: critical", [row.pop("critical") for row in value["rows"]], stars)
     names = [{"name": name or None} if any(model.names) else {} for name in model.names]
-    same(f"{what}: the dates", value["rows"], [{**dict(zip(columns, row)), **name} for row, name in zip(rows, names)])
-    same(f"{what}: T", last, [f"T {value['T']}"])
+    wanted = [{**worded(dict(zip(columns, row))), **name} for row, name in zip(rows, names)]
+    same(f"{what}: the dates", value["rows"], wanted)
+    same(f"{what}: T", (last, value["project_duration"]), ([f"T {value['T']}"], value["T"]))
+
+
+def try_slack_forms(what, file, path, model, rows, last):
+    """The JSON and the CSV of slacks: a row for each activity, and the chain of the text."""
+    columns = ["act", "d", "start", "end", "slack", "critical"]
+    value = json.loads(text_of(what, plan("slack", "--format", "json", file, path)))
+    names = [{"name": name or None} if any(model.names) else {} for name in model.names]
+    wanted = [{**worded(dict(zip(columns, [*row, row[4] == 0]))), **name} for row, name in zip(rows, names)]
+    chain = None if last == ["no chain"] else [int(word) for word in last[0].split()[1:]]
+    same(f"{what}: the slacks as JSON", value, {"chain": chain, "rows": wanted})
+    output = text_of(what, plan("slack", "--format", "csv", file, path))
+    cells = [[*map(str, row), "true" if row[4] == 0 else "false"] for row in rows]
+    more = [[name] if any(model.names) else [] for name in model.names]
+    wanted = [columns + ["name"] * any(model.names), *(row + own for row, own in zip(cells, more))]
+    same(f"{what}: the slacks as CSV", list(csv.reader(io.StringIO(output.decode(), newline=""))), wanted)
+
+
+def try_chart_forms(what, file, rule, model, starts):
+    """The JSON and the CSV of a chart: one bar for each activity."""
+    value = json.loads(text_of(what, plan("chart", "--format", "json", rule, file)))
+    bars = [(start, start + duration) for start, duration in zip(starts, model.durations)]
+    unit = text_of(what, plan("chart", rule, file)).split(b"\n")[0].decode()
+    rows = [{"activity": j + 1, "bars": [{"start": a, "end": b}]} for j, (a, b) in enumerate(bars)]
+    names = [{"name": name or None} if any(model.names) else {} for name in model.names]
+    wanted = {"makespan": model.makespan(starts), "rows": [{**row, **name} for row, name in zip(rows, names)]}
+    same(f"{what}: the chart as JSON", {**value, "unit": f"unit {value['unit']}"}, {**wanted, "unit": unit})
+    output = text_of(what, plan("chart", "--format", "csv", rule, file))
+    more = [[name] if any(model.names) else [] for name in model.names]
+    cells = [[str(j + 1), str(a), str(b)] + own for j, ((a, b), own) in enumerate(zip(bars, more))]
+    heads = ["activity", "start", "end"] + ["name"] * any(model.names)
+    same(f"{what}: the chart as CSV", list(csv.reader(io.StringIO(output.decode(), newline=""))), [heads, *cells])
 
 
 def try_slack(what, file, folder, model, starts):
@@ -162,6 +214,7 @@ def try_slack(what, file, folder, model, starts):
     slacks = [model.slack(starts, j) for j in range(len(starts))]
     wanted = [[j + 1, d, s, s + d, slack] for j, (d, s, slack) in enumerate(zip(model.durations, starts, slacks))]
     same(f"{what}: the slacks of {starts}", rows, wanted)
+    try_slack_forms(what, file, path, model, wanted, last)
     if last == ["no chain"]:
         same(f"{what}: a chain of {starts}", model.has_chain(starts, slacks), False)
         return
@@ -191,6 +244,7 @@ def try_days(what, draw, file, model, starts, rule):
         row = {"act": j + 1, "first": None, "last": None}
         if duration:
             row.update(first=str(days[start]), last=str(days[start + duration - 1]))
+        row = worded(row)
         rows.append({**row, "name": name or None} if any(model.names) else row)
     output = text_of(what, plan("days", "--format", "json", rule, str(first), marks, file))
     same(f"{what}: the days from {first} with {marks}", json.loads(output), {"rows": rows})
@@ -218,6 +272,7 @@ def try_project(draw, folder, what):
     starts = [row[2] for row in rows]
     same(f"{what}: the schedule is feasible", model.is_feasible(starts), True)
     try_dates(what, file, model)
+    try_chart_forms(what, file, rule, model, starts)
     try_slack(what, file, folder, model, starts)
     try_slack(what, file, folder, model, later(draw, model, starts))
     try_days(what, draw, file, model, starts, rule)

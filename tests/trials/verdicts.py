@@ -1,5 +1,6 @@
 """Logs of `plan solve --log`, as `plan verify` and share/plan-check-log judge them: what they show of
-drawn projects and job shops, and damaged logs, whose verdicts have to be true.
+drawn projects and job shops, and damaged logs, whose verdicts have to be true. certificates.py tries
+named instances, and damages that make a line false.
 
     tests/trials/run verdicts          logs that are whole
     tests/trials/run damaged_logs      damaged ones
@@ -18,7 +19,7 @@ from exchanges import file_of
 from programs import Wrong, plan, same
 
 PROJECTS, SHOPS, DAMAGED = 12, 6, 25
-REFUSAL = re.compile(rb"V[12] line (\d+)\n")
+REFUSAL, VERDICT = re.compile(rb"V[12] line (\d+)\n"), re.compile(rb"verified (at least )?\d+\n")
 
 
 def drawn_project(seed):
@@ -149,21 +150,52 @@ DAMAGES = (other_number, without_line, line_twice, lines_swapped, cut, torn, oth
 DAMAGES += (greater_bound, refuted_at_once)
 
 
-def judge_damaged(room, path, instance, least, log, draw):
-    """A damaged log is refused, or its verdict is true: the least makespan, or at most that."""
+def by_checker(text, instance, log):
+    """What share/plan-check-log shows: a line, or None if it refuses the log."""
+    try:
+        if instance:
+            return checker.shown_of_shop(text, *instance, log.decode("latin-1"))
+        return checker.shown(text, log.decode("latin-1"))
+    except checker.Refused:
+        return None
+
+
+def by_program(room, path, instance, log):
+    """What `plan verify` shows: a line, or None and the code of its refusal."""
+    status, out, err = plan("verify", path, put(room, "judged", log), *instance)
+    if status == 1 and out == b"" and REFUSAL.fullmatch(err):
+        return None, err[:2]
+    if status or err or not VERDICT.fullmatch(out):
+        raise Wrong(f"plan verify gave {status} {out!r} {err!r}")
+    return out.decode().strip(), None
+
+
+def judged(room, path, text, instance, log):
+    """What both show. A line that only the program can't read (V2) may say nothing to the other."""
+    told, code = by_program(room, path, instance, log)
+    other = by_checker(text, instance, log)
+    if told != other and code != b"V2":
+        raise Wrong(f"plan verify shows {told}, plan-check-log {other}")
+    return told, other
+
+
+def is_true(line, least):
+    """Whether `verified L` names the least makespan, or `verified at least L` a lower bound."""
+    bound = int(line.split()[-1])
+    return bound <= least if "least" in line else bound == least
+
+
+def judge_damaged(room, path, text, instance, least, log, draw):
+    """A damaged log is refused, or its verdict is true: the least makespan, or at most that. Both
+    checkers agree."""
     lines = log.split(b"\n")[:-1]
     names = [damage.__name__ for damage in draw.sample(DAMAGES, draw.randint(1, 2))]
     for name in names:
         globals()[name](lines, draw)
     damaged = b"\n".join(lines) + draw.choice((b"\n", b"\n", b"\n", b"", b"\n\n"))
-    status, out, err = plan("verify", path, put(room, "damaged", damaged), *instance)
-    if status == 1 and out == b"" and REFUSAL.fullmatch(err):
-        return
-    words = out.decode().split()
-    exact = status == 0 and words[:-1] == ["verified"] and int(words[-1]) == least
-    below = status == 0 and words[:-1] == ["verified", "at", "least"] and int(words[-1]) <= least
-    if err or not (exact or below):
-        raise Wrong(f"the verdict of a log with {' and '.join(names)}: {status} {out!r} {err!r}")
+    for line in judged(room, path, text, instance, damaged):
+        if line and not is_true(line, least):
+            raise Wrong(f"the verdict of a log with {' and '.join(names)}: {line}, but {least} is the least")
 
 
 def try_damaged_logs(room):
@@ -175,6 +207,6 @@ def try_damaged_logs(room):
         same("a small problem", words[0], "optimal")
         draw = random.Random(seed)
         for _ in range(DAMAGED):
-            judge_damaged(room, path, instance, int(words[1]), log, draw)
-        judge_damaged(room, path, instance, int(words[1]), other, draw)
+            judge_damaged(room, path, text, instance, int(words[1]), log, draw)
+        judge_damaged(room, path, text, instance, int(words[1]), other, draw)
         other = log

@@ -1,7 +1,7 @@
 //! The errors of the commands on offices, and their hints.
 
-use plan_cli::{hint, masked};
 use plan_copies::CopyFault;
+use plan_errors::{Code, Subject, code_hint, masked};
 use plan_orders::OfficeOrder;
 use plan_program::{Status, has_hints, print_hint};
 use plan_serve::{ServeFault, Target};
@@ -21,7 +21,33 @@ fn target_of<'a>(order: &OfficeOrder<'_>, database: &'a str) -> Target<'a> {
     }
 }
 
-// Returns the hint for the error of an order on an office: its cause, or the hint for its line if
+// Returns the code of an error of an office.
+fn code_of(fault: ServeFault) -> Code {
+    match fault {
+        ServeFault::Memory => Code::NoMemory,
+        ServeFault::Store | ServeFault::Locked | ServeFault::Missing | ServeFault::Denied => {
+            Code::StoreRefused
+        }
+        ServeFault::NotOurs | ServeFault::Taken => Code::NotOurs,
+        ServeFault::Version => Code::Version,
+        ServeFault::Key => Code::NoKey,
+        ServeFault::Input => Code::Input,
+        ServeFault::Socket | ServeFault::PortTaken | ServeFault::PortDenied => Code::Socket,
+        ServeFault::Output => Code::Output,
+    }
+}
+
+// Returns the hint for the code of an error of an office. Some codes are about its database.
+fn hint_for(alloc: Global, database: Option<&str>, code: Code) -> Result<String, AllocError> {
+    match code {
+        Code::NotOurs | Code::Version | Code::NoKey | Code::StoreRefused => {
+            code_hint(alloc, Subject::Office, database, code)
+        }
+        _ => code_hint(alloc, Subject::Other, None, code),
+    }
+}
+
+// Returns the hint for the error of an order on an office: its cause, or the hint for its code if
 // the line names the cause.
 fn office_hint(
     alloc: Global,
@@ -37,7 +63,7 @@ fn office_hint(
     if let Some(text) = target_of(order, database).hint(alloc, fault)? {
         return Ok(Some(text));
     }
-    hint(alloc, context, fault.line())
+    Ok(Some(hint_for(alloc, context.office, code_of(fault))?))
 }
 
 /// Prints the error of an order on an office and, if hints are printed, its hint. A line that names

@@ -8,7 +8,7 @@ use plan_copies::{
 use plan_io::StdSink;
 use plan_orders::OfficeOrder;
 use plan_program::{Misuse, Offices, Status, asked_hints};
-use plan_serve::{Service, init_on_file, replay_on_files, serve_on_port};
+use plan_serve::{ServeFault, Service, init_on_file, replay_on_files, serve_on_port};
 use std::io::{self, IsTerminal};
 
 /// The offices in files of the system.
@@ -111,7 +111,19 @@ fn do_office_order(rt: &HostRuntime, order: OfficeOrder<'_>) -> Result<(), CopyF
 // Returns whether a fault is a refusal of the files of an office.
 fn is_refusal(fault: &CopyFault) -> bool {
     match fault {
-        CopyFault::Office(fault) => fault.line().starts_with('K') || fault.line() == "E91 store",
+        CopyFault::Office(fault) => {
+            matches!(
+                fault,
+                ServeFault::Store
+                    | ServeFault::Locked
+                    | ServeFault::Missing
+                    | ServeFault::Denied
+                    | ServeFault::NotOurs
+                    | ServeFault::Taken
+                    | ServeFault::Version
+                    | ServeFault::Key
+            )
+        }
         CopyFault::Line(_) => true,
     }
 }

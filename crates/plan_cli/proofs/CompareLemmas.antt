@@ -1,22 +1,37 @@
 -- Comparisons of two schedules.
-use Rattle.std.proofs.Common.{◌≡◌, inl, inr, ℕ, List, sym, subst, codes}
-use Rattle.std.specs.Prelude.{string_bytes}
+use Rattle.std.proofs.Common.{◌≡◌, inl, inr, ℕ, List, [], ◌∷◌, ◌++◌, sym, ap, ◌∙◌, subst, append_assoc, codes}
+use denote.Ref.{Bor}
 use Rattle.plan_report.specs.Sheet.{Sheet}
 use Rattle.plan_report.specs.StartsText.{SaysStarts}
+use Rattle.plan_errors.specs.Codes.{name_of}
+use Rattle.plan_errors.specs.Faults.{refusal_line}
 use Rattle.plan_errors.specs.Output.{Refuses}
+use Rattle.plan_errors.specs.Parts.{parts_text}
+use Rattle.plan_errors.specs.declared.codes.Code.{Code}
 use Rattle.plan_errors.specs.declared.fault.CliFault.{CliFault}
 use Rattle.plan_errors.specs.declared.fault.CliFault.TheVariants as cli
+use Rattle.plan_errors.specs.declared.parts.Part.{Part}
+use Rattle.plan_errors.specs.declared.parts.Part.TheVariants as part
+use Rattle.plan_errors.proofs.PartLemmas.{parts_push}
 use Rattle.plan_cli.specs.CompareRun.{named_line, IsNamedFault, TellsNoStartsOf, TellsNoPair}
 use Rattle.plan_cli.specs.Starts.{TellsNoStarts}
 use Rattle.plan_cli.proofs.RunLemmas.{refuses_as}
+
+-- the line of a refusal with one more part, the name of a schedule
+pub named_parts : (code : Code) (parts : List Part) (name : Bor (List ℕ))
+    → name_of code ++ parts_text (parts ++ part.Words name ∷ []) ≡ named_line name.now (name_of code ++ parts_text parts)
+named_parts code parts name =
+    ap (λ (tail : List ℕ). name_of code ++ tail) (parts_push parts (part.Words name))
+    ∙ sym (append_assoc (name_of code) (parts_text parts) (codes " " ++ name.now))
+    ∙ sym (append_assoc (name_of code ++ parts_text parts) (codes " ") name.now)
 
 -- the error of starts with the name of their schedule
 pub named_refuses : (name : List ℕ) (sheet : Sheet) (text : List ℕ) (e named : CliFault)
     → Refuses (TellsNoStarts sheet text) e → IsNamedFault name e named
     → Refuses (TellsNoStartsOf name sheet text) named
-named_refuses name sheet text (cli.Refused line) named told is =
-    refuses_as (λ said. said ≡ named_line name (string_bytes line)) (TellsNoStartsOf name sheet text) named
-    (λ said same. (string_bytes line, told, same)) is
+named_refuses name sheet text (cli.Refused refusal) named told is =
+    refuses_as (λ said. said ≡ named_line name (refusal_line refusal)) (TellsNoStartsOf name sheet text) named
+    (λ said same. (refusal_line refusal, told, same)) is
 named_refuses name sheet text cli.Memory named told is =
     subst (λ (f : CliFault). Refuses (TellsNoStartsOf name sheet text) f) (sym is) tt
 named_refuses name sheet text cli.Input named told is = absurd told

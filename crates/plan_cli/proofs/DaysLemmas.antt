@@ -9,16 +9,8 @@ use Rattle.plan_cli.specs.declared.origins.Origin.{Origin}
 use Rattle.plan_cli.specs.Scheduled.{IsMadeFrom}
 use Rattle.plan_cli.specs.declared.calendars.Dates.{Dates}
 use Rattle.plan_cli.specs.Calendars.{IsDated, TellsNoCalendar}
-use Rattle.plan_cli.specs.DaysRun.{TellsBeyond, IsDaysFrom, IsDaysTable, HasDayBeyond, TellsNoDaysFrom}
+use Rattle.plan_cli.specs.DaysRun.{TellsBeyond, HasDayBeyond, TellsNoDaysFrom}
 use Rattle.plan_cli.proofs.RunLemmas.{refuses_as}
-
-pub days_shown : (from : Origin) (dates : Dates) (p : Plan) (m : Scheduled) (c : Workdays) (text : List ℕ)
-    → IsMadeFrom from p m → IsDated dates c → IsDaysTable p m.schedule.starts.items c text → IsDaysFrom from dates p text
-days_shown from dates p m c text made is shown = record {
-  starts = m.schedule.starts.items;
-  schedule = made.starts;
-  shown = (c, is, shown);
-}
 
 pub no_calendar : (from : Origin) (dates : Dates) (p : Plan) (m : Scheduled) (e : CliFault) → IsMadeFrom from p m
     → Refuses (TellsNoCalendar dates) e → Refuses (TellsNoDaysFrom from dates p) e

@@ -8,20 +8,39 @@ use Rattle.plan_cli.specs.declared.documents.Subject.TheVariants as subject
 use Rattle.plan_cli.specs.declared.documents.Document.{Document}
 use Rattle.plan_cli.specs.declared.documents.Document.TheVariants as document
 use Rattle.plan_cli.specs.declared.documents.Plan.{Plan}
+use Rattle.plan_psplib.specs.Project.{Project, SaysProject}
+use Rattle.plan_table.specs.Names.{Name}
+use Rattle.plan_cli.specs.Capacities.{TellsUnknown}
+use Rattle.plan_cli.specs.Plans.{resources_in}
+use Rattle.plan_cli.specs.declared.capacities.Capacity.{Capacity}
+use denote.Ref.{Bor}
 use Rattle.plan_cli.proofs.RunLemmas.{refuses_as}
 
-of_document : (s : Subject) (file : List ℕ) (d : Document) (IsText : Plan → List ℕ → Type 0) (text : List ℕ)
+of_document : {X : Type 0} (s : Subject) (file : List ℕ) (d : Document) (IsText : Plan → X → Type 0) (text : X)
     → IsDocumentOf s file d → HasFit (plan_in d) → IsText (plan_in d) text → IsOfSubject s IsText file text
 of_document (subject.Project given) file (document.Project p capacities) IsText text is fit made = (p, is.0, (capacities.items, is.1, (fit, made)))
 of_document (subject.Project given) file (document.Shop doc) IsText text is fit made = absurd is
 of_document (subject.Shop instance) file (document.Project p capacities) IsText text is fit made = absurd is
 of_document (subject.Shop instance) file (document.Shop doc) IsText text is fit made = (doc, is, made)
 
--- a text for the plan of a document is one for the file of the document
-pub of_subject : (s : Subject) (file : List ℕ) (d : Document) (p : Plan) (IsText : Plan → List ℕ → Type 0) (text : List ℕ)
+-- a text or a value for the plan of a document is one for the file of the document
+pub of_subject : {X : Type 0} (s : Subject) (file : List ℕ) (d : Document) (p : Plan) (IsText : Plan → X → Type 0) (text : X)
     → IsDocumentOf s file d → p ≡ plan_in d → HasFit p → IsText p text → IsOfSubject s IsText file text
 of_subject s file d p IsText text is same fit made =
     of_document s file d IsText text is (subst HasFit same fit) (subst (λ (q : Plan). IsText q text) same made)
+
+-- a capacity of a resource that a project lacks refuses its document
+pub unknown_document : (given : Bor (List Capacity)) (file : List ℕ) (names : List Name) (p : Project) (list : List ℕ) (e : CliFault)
+    → SaysProject file p → names ≡ resources_in file → list ≡ p.available
+    → Refuses (TellsUnknown names given.now list) e → Refuses (TellsNoDocument (subject.Project given) file) e
+unknown_document given file names p list e says named same told =
+    refuses_as (TellsUnknown names given.now list) (TellsNoDocument (subject.Project given) file) e
+    (λ line tells. inr (
+      p,
+      says,
+      subst (λ (n : List Name). TellsUnknown n given.now p.available line) named
+          (subst (λ (l : List ℕ). TellsUnknown names given.now l line) same tells),
+    )) told
 
 no_document_line : (s : Subject) (file : List ℕ) (IsLine : Plan → List ℕ → Type 0) (line : List ℕ)
     → TellsNoDocument s file line → RefusesSubject s IsLine file line

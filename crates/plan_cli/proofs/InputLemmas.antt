@@ -70,7 +70,7 @@ unknown_with bytes (Ok x) D E f (text, short, read, does) = (text, short, tt, f 
 unknown_with bytes (Err cli.Memory) D E f does = tt
 unknown_with bytes (Err cli.Input) D E f does = tt
 unknown_with bytes (Err cli.Output) D E f (text, short, read, does) = (text, short, tt, f text does)
-unknown_with bytes (Err (cli.Refused line)) D E f (text, short, read, does) = (text, short, tt, f text does)
+unknown_with bytes (Err (cli.Refused refusal)) D E f (text, short, read, does) = (text, short, tt, f text does)
 
 -- the same for a file and texts
 pub unknown_texts : (behind : List ℕ → Option (List ℕ)) (task : Task) (rows : Rows) (texts : List NamedText)

@@ -1,5 +1,9 @@
 pub mod CapacityLemmas
 pub mod RunLemmas
+pub mod RefusalLemmas
+pub mod RuleLemmas
+pub mod ContentsLemmas
+pub mod DetailLemmas
 pub mod PlanLemmas
 pub mod SlackLemmas
 pub mod CompareLemmas
@@ -12,3 +16,8 @@ pub mod DaysLemmas
 pub mod DocumentLemmas
 pub mod InputLemmas
 pub mod ImportLemmas
+pub mod ViewTextLemmas
+pub mod CheckLemmas
+pub mod ViewLemmas
+pub mod SearchLemmas
+pub mod InfeasibleLemmas

@@ -5,6 +5,7 @@ use Rattle.plan_sgs.specs.Problem.{IsActive, NeedsFit, makespan}
 use Rattle.plan_sgs.specs.Instances.{Planned, planned, problem_of}
 use Rattle.plan_shop.specs.Shop.{JobShop}
 use Rattle.plan_shop.specs.Shop as shops
+use Rattle.plan_table.specs.Names.{Name}
 use Rattle.plan_gantt.specs.FirstFaults.{TellsFirstFailing}
 use Rattle.plan_gantt.specs.ScheduleText.{IsScheduleTextOf, TellsRefusal}
 use Rattle.plan_gantt.specs.ShopTable.{shop_table_text}
@@ -15,7 +16,7 @@ use Rattle.plan_cli.specs.ScheduleRun.{as_available, IsScheduleTableOf, TellsWhy
 use Rattle.plan_cli.specs.Scheduled.{TellsNoRuleOf}
 use Rattle.plan_cli.specs.ShopRun.{IsShopTableOf}
 use Rattle.plan_cli.specs.Tables.{IsTableBy}
-use Rattle.plan_cli.specs.Plans.{PlannedWith, IsOfProject, IsOfShop, RefusesFile}
+use Rattle.plan_cli.specs.Plans.{PlannedWith, IsOfProject, IsOfShop, RefusesFile, resources_in}
 use Rattle.plan_cli.specs.declared.capacities.Capacity.{Capacity}
 use Rattle.plan_cli.specs.declared.documents.Plan.{Plan}
 use Rattle.plan_cli.specs.declared.documents.Plan.TheVariants as plan
@@ -26,13 +27,13 @@ use Rattle.plan_cli.specs.declared.tasks.Task.TheVariants as task
 use denote.Ref.{Bor}
 
 -- the capacities are those of the file
-as_in_file : (p : Project) (Holds : Planned → Type 0) → PlannedWith [] p Holds → Holds (as_available p)
-as_in_file p Holds (capacities, same, holds) = subst (λ (c : List ℕ). Holds (planned p c)) same holds
+as_in_file : (names : List Name) (p : Project) (Holds : Planned → Type 0) → PlannedWith names [] p Holds → Holds (as_available p)
+as_in_file names p Holds (capacities, same, holds) = subst (λ (c : List ℕ). Holds (planned p c)) same holds
 
 -- a text for the project in a file
 of_file : (IsText : Planned → List ℕ → Type 0) (file text : List ℕ) → IsOfProject [] IsText file text
     → (p : Project) × SaysProject file p × IsText (as_available p) text
-of_file IsText file text (p, says, with_none) = (p, says, as_in_file p (λ i. IsText i text) with_none)
+of_file IsText file text (p, says, with_none) = (p, says, as_in_file (resources_in file) p (λ i. IsText i text) with_none)
 
 -- no capacity
 abbrev IsNone : Option Capacity → Type 0
@@ -44,7 +45,7 @@ refused_file : (IsLine : Planned → List ℕ → Type 0) (file line : List ℕ)
     → TellsFirstFailing file line ⊎ ((p : Project) × SaysProject file p × IsLine (as_available p) line)
 refused_file IsLine file line (inl first) = inl first
 refused_file IsLine file line (inr (p, says, inl (k, first, between, at, replaced, no_name, told))) = absurd (subst IsNone at tt)
-refused_file IsLine file line (inr (p, says, inr with_none)) = inr (p, says, as_in_file p (λ i. IsLine i line) with_none)
+refused_file IsLine file line (inr (p, says, inr with_none)) = inr (p, says, as_in_file (resources_in file) p (λ i. IsLine i line) with_none)
 
 -- a text for the plan of a project whose needs are within its capacities
 abbrev pub Fitting : (Plan → List ℕ → Type 0) → Planned → List ℕ → Type 0

@@ -1,6 +1,6 @@
 -- The text or line for the first bytes of a file is that for the whole file.
 use Rattle.std.proofs.Common.{◌≡◌, ◌⊎◌, inl, inr, ℕ, ◌+◌, ◌≤◌, ◌<◌, List, [], Option, Some, None, Result, Ok, Err, length, take, map, refl, sym, ap, ◌∙◌, subst, arith}
-use Rattle.std.specs.Prelude.{IfSome, IfOk, IfErr, string_bytes}
+use Rattle.std.specs.Prelude.{IfSome, IfOk, IfErr}
 use Rattle.std.specs.Io.KnownBytes.{Consumes}
 use Rattle.std.proofs.lemmas.Bool.{lt-leb, cases_lt}
 use Rattle.std.proofs.lemmas.List.{length-take, take_all}
@@ -57,13 +57,17 @@ use Rattle.plan_cli.specs.declared.tasks.Task.TheVariants as task
 use Rattle.plan_cli.specs.ScheduleRun.{TellsNeed}
 use Rattle.plan_errors.specs.declared.fault.CliFault.{CliFault}
 use Rattle.plan_errors.specs.declared.fault.CliFault.TheVariants as cli
+use Rattle.plan_errors.specs.Faults.{refusal_line}
 use Rattle.plan_errors.specs.Output.{Writes, Refuses, Sends}
 use Rattle.plan_cli.specs.Run.{IsDateTableOf, JudgesFront, ReadsFront, Tells}
+use Rattle.plan_cli.specs.TaskViews.{IsViewOf}
+use Rattle.plan_cli.specs.Views.{View, plain_text}
+use Rattle.plan_cli.proofs.ViewTextLemmas.{view_text}
 
 -- a refusal by lines of one kind is one by lines of another kind that has them too
 pub refuses_as : (IsLine IsOther : List ℕ → Type 0) (e : CliFault)
     → ((line : List ℕ) → IsLine line → IsOther line) → Refuses IsLine e → Refuses IsOther e
-refuses_as IsLine IsOther (cli.Refused line) same r = same (string_bytes line) r
+refuses_as IsLine IsOther (cli.Refused refusal) same r = same (refusal_line refusal) r
 refuses_as IsLine IsOther cli.Memory same r = tt
 refuses_as IsLine IsOther cli.Input same r = absurd r
 refuses_as IsLine IsOther cli.Output same r = absurd r
@@ -138,7 +142,7 @@ writes_front : (IsText IsLine : List ℕ → List ℕ → Type 0) (file : List �
     → Writes (IsText (take (longest_text + 1) file)) (IsLine (take (longest_text + 1) file)) taken after r
     → Writes (IsText file) (IsLine file) taken after r
 writes_front IsText IsLine file taken after (Ok u) texts lines (text, is, took) = (text, texts file text is, took)
-writes_front IsText IsLine file taken after (Err (cli.Refused line)) texts lines (is, same) = (lines file (string_bytes line) is, same)
+writes_front IsText IsLine file taken after (Err (cli.Refused refusal)) texts lines (is, same) = (lines file (refusal_line refusal) is, same)
 writes_front IsText IsLine file taken after (Err cli.Memory) texts lines same = same
 writes_front IsText IsLine file taken after (Err cli.Input) texts lines same = same
 writes_front IsText IsLine file taken after (Err cli.Output) texts lines (text, n, is, part, took) = (text, n, texts file text is, part, took)
@@ -167,8 +171,8 @@ pub reads_front : (IsText IsLine : List ℕ → List ℕ → Type 0) (known rest
     → Writes (IsText front) (IsLine front) taken after r → ReadsFront IsText IsLine known rest taken after r
 reads_front IsText IsLine known rest read front taken after (Ok u) same short e used w =
     judges_front known rest read front (λ bytes. Writes (IsText bytes) (IsLine bytes) taken after (Ok u)) same short e used w
-reads_front IsText IsLine known rest read front taken after (Err (cli.Refused line)) same short e used w =
-    judges_front known rest read front (λ bytes. Writes (IsText bytes) (IsLine bytes) taken after (Err (cli.Refused line))) same short e used w
+reads_front IsText IsLine known rest read front taken after (Err (cli.Refused refusal)) same short e used w =
+    judges_front known rest read front (λ bytes. Writes (IsText bytes) (IsLine bytes) taken after (Err (cli.Refused refusal))) same short e used w
 reads_front IsText IsLine known rest read front taken after (Err cli.Memory) same short e used w = tt
 reads_front IsText IsLine known rest read front taken after (Err cli.Input) same short e used w = tt
 reads_front IsText IsLine known rest read front taken after (Err cli.Output) same short e used w =
@@ -180,14 +184,14 @@ pub sent_writes : (IsText IsLine : List ℕ → Type 0) (text : List ℕ) (taken
     → IsText text → Sends text taken after r → Writes IsText IsLine taken after r
 sent_writes IsText IsLine text taken after (Ok u) is sent = (text, is, sent)
 sent_writes IsText IsLine text taken after (Err cli.Output) is (n, part, took) = (text, n, is, part, took)
-sent_writes IsText IsLine text taken after (Err (cli.Refused line)) is sent = absurd sent
+sent_writes IsText IsLine text taken after (Err (cli.Refused refusal)) is sent = absurd sent
 sent_writes IsText IsLine text taken after (Err cli.Memory) is sent = absurd sent
 sent_writes IsText IsLine text taken after (Err cli.Input) is sent = absurd sent
 
 -- nothing is written for a file that is refused
 pub refused_writes : (IsText IsLine : List ℕ → Type 0) (taken : Option (List ℕ)) (e : CliFault)
     → Refuses IsLine e → Writes IsText IsLine taken taken (Err e)
-refused_writes IsText IsLine taken (cli.Refused line) refuses = (refuses, refl)
+refused_writes IsText IsLine taken (cli.Refused refusal) refuses = (refuses, refl)
 refused_writes IsText IsLine taken cli.Memory refuses = refl
 refused_writes IsText IsLine taken cli.Input refuses = absurd refuses
 refused_writes IsText IsLine taken cli.Output refuses = absurd refuses
@@ -197,7 +201,7 @@ pub judged_bytes : (IsText IsLine : List ℕ → List ℕ → Type 0) (known res
     (taken after : Option (List ℕ)) (r : Result (Unit {0}) CliFault)
     → ReadsFront IsText IsLine known rest taken after r → ReadsFront IsText IsLine None None taken after r
 judged_bytes IsText IsLine known rest taken after (Ok u) (front, short, e, used, does) = (front, short, tt, tt, does)
-judged_bytes IsText IsLine known rest taken after (Err (cli.Refused line)) (front, short, e, used, does) = (front, short, tt, tt, does)
+judged_bytes IsText IsLine known rest taken after (Err (cli.Refused refusal)) (front, short, e, used, does) = (front, short, tt, tt, does)
 judged_bytes IsText IsLine known rest taken after (Err cli.Memory) w = tt
 judged_bytes IsText IsLine known rest taken after (Err cli.Input) w = tt
 judged_bytes IsText IsLine known rest taken after (Err cli.Output) (front, short, e, used, does) = (front, short, tt, tt, does)
@@ -208,7 +212,7 @@ writes_as : (IsText IsOther IsLine IsOtherLine : List ℕ → Type 0) (taken aft
     → ((text : List ℕ) → IsText text → IsOther text) → ((line : List ℕ) → IsLine line → IsOtherLine line)
     → Writes IsText IsLine taken after r → Writes IsOther IsOtherLine taken after r
 writes_as IsText IsOther IsLine IsOtherLine taken after (Ok u) texts lines (text, is, took) = (text, texts text is, took)
-writes_as IsText IsOther IsLine IsOtherLine taken after (Err (cli.Refused line)) texts lines (is, same) = (lines (string_bytes line) is, same)
+writes_as IsText IsOther IsLine IsOtherLine taken after (Err (cli.Refused refusal)) texts lines (is, same) = (lines (refusal_line refusal) is, same)
 writes_as IsText IsOther IsLine IsOtherLine taken after (Err cli.Memory) texts lines same = same
 writes_as IsText IsOther IsLine IsOtherLine taken after (Err cli.Input) texts lines same = same
 writes_as IsText IsOther IsLine IsOtherLine taken after (Err cli.Output) texts lines (text, n, is, part, took) = (text, n, texts text is, part, took)
@@ -230,21 +234,37 @@ pub front_as : (IsText IsOther IsLine IsOtherLine : List ℕ → List ℕ → Ty
     → ReadsFront IsText IsLine known rest taken after r → ReadsFront IsOther IsOtherLine known rest taken after r
 front_as IsText IsOther IsLine IsOtherLine known rest taken after (Ok u) texts lines (front, short, e, used, does) =
     (front, short, e, used, writes_as (IsText front) (IsOther front) (IsLine front) (IsOtherLine front) taken after (Ok u) (texts front) (lines front) does)
-front_as IsText IsOther IsLine IsOtherLine known rest taken after (Err (cli.Refused line)) texts lines (front, short, e, used, does) =
-    (front, short, e, used, writes_as (IsText front) (IsOther front) (IsLine front) (IsOtherLine front) taken after (Err (cli.Refused line)) (texts front) (lines front) does)
+front_as IsText IsOther IsLine IsOtherLine known rest taken after (Err (cli.Refused refusal)) texts lines (front, short, e, used, does) =
+    (front, short, e, used, writes_as (IsText front) (IsOther front) (IsLine front) (IsOtherLine front) taken after (Err (cli.Refused refusal)) (texts front) (lines front) does)
 front_as IsText IsOther IsLine IsOtherLine known rest taken after (Err cli.Memory) texts lines w = tt
 front_as IsText IsOther IsLine IsOtherLine known rest taken after (Err cli.Input) texts lines w = tt
 front_as IsText IsOther IsLine IsOtherLine known rest taken after (Err cli.Output) texts lines (front, short, e, used, does) =
     (front, short, e, used, writes_as (IsText front) (IsOther front) (IsLine front) (IsOtherLine front) taken after (Err cli.Output) (texts front) (lines front) does)
 
+-- a file that says a project isn't too long
+project_short : (file : List ℕ) (p : Project) → SaysProject file p → length file ≤ longest_text
+project_short file p (d, says, same, project) = says.short
+
+-- a front that isn't too long is the whole file
+whole_front : (file : List ℕ) → length (take (longest_text + 1) file) ≤ longest_text → take (longest_text + 1) file ≡ file
+whole_front file few = by_length (cases_lt longest_text (length file))
+  where
+    by_length : (longest_text < length file) ⊎ (length file ≤ longest_text) → take (longest_text + 1) file ≡ file
+    by_length (inr short) = take_all (longest_text + 1) file (omega (arith, short))
+    by_length (inl long) =
+        let m = length-take (longest_text + 1) file in
+        absurd (omega (arith, m, few, long))
+
 -- the text for the project in the front of a file is that for the file
 of_project_front : (given : List Capacity) (IsText : Planned → List ℕ → Type 0) → HoldsByFront (IsOfProject given IsText)
-of_project_front given IsText file text (p, says, shown) = (p, project_front file p says, shown)
+of_project_front given IsText file text (p, says, shown) =
+    subst (λ (bytes : List ℕ). IsOfProject given IsText bytes text) (whole_front file (project_short (take (longest_text + 1) file) p says)) (p, says, shown)
 
 -- the line that refuses the front of a file is that for the file
 refuses_file_front : (given : List Capacity) (IsLine : Planned → List ℕ → Type 0) → HoldsByFront (RefusesFile given IsLine)
 refuses_file_front given IsLine file line (inl first) = inl (line_front file line first)
-refuses_file_front given IsLine file line (inr (p, says, tells)) = inr (p, project_front file p says, tells)
+refuses_file_front given IsLine file line (inr (p, says, tells)) =
+    subst (λ (bytes : List ℕ). RefusesFile given IsLine bytes line) (whole_front file (project_short (take (longest_text + 1) file) p says)) (inr (p, says, tells))
 
 -- a shop file that is too long fails its first check
 long_shop : (instance file : List ℕ) → longest_text < length file
@@ -460,10 +480,6 @@ task_line_front (task.Solve conflicts subject) = refuses_subject_front subject T
 task_line_front (task.Import given) = no_import_front (map override_of given.now)
 task_line_front task.ImportShop = no_shop_import_front
 
--- a file that says a project isn't too long
-project_short : (file : List ℕ) (p : Project) → SaysProject file p → length file ≤ longest_text
-project_short file p (d, says, same, project) = says.short
-
 -- a file that says a job shop isn't too long
 shop_short : (instance file : List ℕ) (doc : docs.Shop) → ShopSays instance file doc → length file ≤ longest_text
 shop_short instance file doc says = plain_short file says.readable
@@ -491,29 +507,19 @@ file_short (task.Import given) file text (t, read, shown) =
 file_short task.ImportShop file text (t, read, shown) =
     rows_short file (was_read (rows_read file) (λ found. shop_in (filled_from found)) t read)
 
+-- a file for which a task shows something isn't too long
+view_short : (task : Task) (file : List ℕ) (view : View) → IsViewOf task file view → length file ≤ longest_text
+view_short task file view is = file_short task file (plain_text view) (view_text task file view is)
+
 -- the text of a task with names for the front of a file is that for the file
 named_front : (task : Task) → HoldsByFront (ShowsTask rows.Named task)
-named_front task file text (unnamed, is, named) = by_length (cases_lt longest_text (length file))
-  where
-    by_length : (longest_text < length file) ⊎ (length file ≤ longest_text) → ShowsTask rows.Named task file text
-    by_length (inr short) =
-        subst (λ front. ShowsTask rows.Named task front text) (take_all (longest_text + 1) file (omega (arith, short))) (unnamed, is, named)
-    by_length (inl long) =
-        let m = length-take (longest_text + 1) file in
-        let few = file_short task (take (longest_text + 1) file) unnamed is in
-        absurd (omega (arith, m, few, long))
+named_front task file text (view, is, named) =
+    subst (λ (bytes : List ℕ). ShowsTask rows.Named task bytes text) (whole_front file (view_short task (take (longest_text + 1) file) view is)) (view, is, named)
 
 -- the text of a task in a format for the front of a file is that for the file
 formatted_front : (task : Task) (format : Format) → HoldsByFront (ShowsTask (rows.In format) task)
-formatted_front task format file text (plain, is, made) = by_length (cases_lt longest_text (length file))
-  where
-    by_length : (longest_text < length file) ⊎ (length file ≤ longest_text) → ShowsTask (rows.In format) task file text
-    by_length (inr short) =
-        subst (λ front. ShowsTask (rows.In format) task front text) (take_all (longest_text + 1) file (omega (arith, short))) (plain, is, made)
-    by_length (inl long) =
-        let m = length-take (longest_text + 1) file in
-        let few = file_short task (take (longest_text + 1) file) plain is in
-        absurd (omega (arith, m, few, long))
+formatted_front task format file text (view, is, made) =
+    subst (λ (bytes : List ℕ). ShowsTask (rows.In format) task bytes text) (whole_front file (view_short task (take (longest_text + 1) file) view is)) (view, is, made)
 
 -- the text of a task for the front of a file, with these rows, is that for the file
 pub shown_front : (task : Task) (names : Rows) → HoldsByFront (ShowsTask names task)

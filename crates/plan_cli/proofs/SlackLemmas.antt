@@ -5,12 +5,15 @@ use Rattle.plan_net.specs.Network.{Net}
 use Rattle.plan_sgs.specs.Problem.{NeedsFit}
 use Rattle.plan_sgs.specs.Instances.{Planned, problem_of}
 use Rattle.plan_report.specs.Slack.{RefusesSlack}
-use Rattle.plan_report.specs.SlackText.{IsSlackText}
 use Rattle.plan_report.specs.StartsText.{SaysStarts, activity_sheet}
 use Rattle.plan_report.specs.declared.slack.SlackFault.{SlackFault}
 use Rattle.plan_errors.specs.declared.fault.CliFault.{CliFault}
 use Rattle.plan_errors.specs.Output.{Refuses}
-use Rattle.plan_cli.specs.SlackRun.{IsSlackOf, TellsBadStarts, TellsSlackFault, TellsBadSlack, TellsNoSlack}
+use Rattle.plan_psplib.specs.Project.{Project, SaysProject}
+use Rattle.plan_table.specs.Names.{Name}
+use Rattle.plan_cli.specs.Plans.{RefusesFile, RefusesWith, resources_in}
+use Rattle.plan_cli.specs.declared.capacities.Capacity.{Capacity}
+use Rattle.plan_cli.specs.SlackRun.{TellsBadStarts, TellsSlackFault, TellsBadSlack, TellsNoSlack}
 use Rattle.plan_cli.specs.Starts.{TellsNoStarts}
 use Rattle.plan_cli.proofs.RunLemmas.{refuses_as}
 
@@ -23,13 +26,9 @@ bad_starts listed i net e fit same t =
     (λ line tells. (fit, subst (λ (n : Net). TellsNoStarts (activity_sheet n) listed line) same tells)) t
 
 -- the starts of a network in a text are those of an instance with that network
-said_of : (listed starts : List ℕ) (i : Planned) (net : Net) → net ≡ i.project.network
+pub said_of : (listed starts : List ℕ) (i : Planned) (net : Net) → net ≡ i.project.network
     → SaysStarts (activity_sheet net) listed starts → SaysStarts (activity_sheet i.project.network) listed starts
 said_of listed starts i net same said = subst (λ (n : Net). SaysStarts (activity_sheet n) listed starts) same said
-
-pub slack_shown : (listed : List ℕ) (i : Planned) (net : Net) (starts text : List ℕ) → net ≡ i.project.network
-    → SaysStarts (activity_sheet net) listed starts → IsSlackText i starts text → IsSlackOf listed i text
-slack_shown listed i net starts text same said shown = (starts, said_of listed starts i net same said, shown)
 
 pub slack_refused : (listed : List ℕ) (i : Planned) (net : Net) (starts : List ℕ) (first : SlackFault) (e : CliFault)
     → net ≡ i.project.network → SaysStarts (activity_sheet net) listed starts → RefusesSlack (problem_of i) starts first
@@ -45,3 +44,11 @@ no_slack listed i made (Ok text) same t = tt
 no_slack listed i made (Err e) same t =
     refuses_as (TellsBadSlack listed made) (TellsNoSlack listed i) e
     (λ line tells. inr (subst (λ (p : Planned). TellsBadSlack listed p line) same tells)) t
+
+-- what refuses the project in a file with given capacities refuses the file
+pub file_refused : (listed file : List ℕ) (names : List Name) (given : List Capacity) (p : Project) (e : CliFault)
+    → SaysProject file p → names ≡ resources_in file → Refuses (RefusesWith names given p (TellsNoSlack listed)) e
+    → Refuses (RefusesFile given (TellsNoSlack listed) file) e
+file_refused listed file names given p e says same t =
+    refuses_as (RefusesWith names given p (TellsNoSlack listed)) (RefusesFile given (TellsNoSlack listed) file) e
+    (λ line tells. inr (p, says, subst (λ (ns : List Name). RefusesWith ns given p (TellsNoSlack listed) line) same tells)) t

@@ -1,5 +1,5 @@
 -- The output of `plan check` for the bytes that it reads (docs/definitions.md, "Runs").
-use Rattle.std.specs.Prelude.{◌≡◌, ℕ, List, ◌++◌, codes}
+use Rattle.std.specs.Prelude.{◌≡◌, ℕ, List, [], ◌++◌, codes}
 use Rattle.plan_sgs.specs.Problem.{IsFeasible}
 use Rattle.plan_sgs.specs.Verdicts.{IsFirstVerdict}
 use Rattle.plan_sgs.specs.declared.verdict.Verdict.{Verdict}
@@ -8,6 +8,9 @@ use Rattle.plan_report.specs.VerdictText as verdicts
 use Rattle.plan_cli.specs.Documents.{problem_of, sheet_of}
 use Rattle.plan_cli.specs.Starts.{TellsNoStarts}
 use Rattle.plan_cli.specs.VerdictText.{infeasible_line}
+use Rattle.plan_cli.specs.Views.{View, named_text, plain_text, text_in}
+use Rattle.plan_cli.specs.declared.tasks.Rows.{Rows}
+use Rattle.plan_cli.specs.declared.tasks.Rows.TheVariants as rows
 use Rattle.plan_cli.specs.declared.documents.Plan.{Plan}
 use Rattle.plan_cli.specs.declared.documents.Plan.TheVariants as plan
 
@@ -15,6 +18,18 @@ use Rattle.plan_cli.specs.declared.documents.Plan.TheVariants as plan
 abbrev pub sentence_of : Plan → Verdict → List ℕ
 sentence_of (plan.Project i) verdict = verdicts.sentence_of verdict
 sentence_of (plan.Shop s) verdict = verdicts.shop_sentence_of s verdict
+
+-- the first verdict on the starts in a text
+pub record IsVerdictOn (listed : List ℕ) (p : Plan) (verdict : Verdict) : Type 0 where
+  pub starts : List ℕ
+  pub said : SaysStarts (sheet_of p) listed starts
+  pub first : IsFirstVerdict (problem_of p) starts verdict
+
+-- the text of a verdict with these rows, which have no names
+abbrev pub rows_text : Rows → View → List ℕ
+rows_text rows.Plain view = plain_text view
+rows_text rows.Named view = named_text [] view
+rows_text (rows.In format) view = text_in format [] view
 
 -- a text gives the first verdict on starts
 pub record TellsVerdict (p : Plan) (starts text : List ℕ) : Type 0 where

@@ -1,26 +1,27 @@
--- The texts and lines of a command for a plan, for private clauses only.
+-- What a command shows for a plan, and its lines, for private clauses only.
 use Rattle.std.specs.Prelude.{ℕ, List}
-use Rattle.plan_cli.specs.BestRun.{IsBestOf, TellsNoBestOf}
-use Rattle.plan_cli.specs.ChartRun.{IsChartFrom}
-use Rattle.plan_cli.specs.CheckRun.{TellsVerdictOn, TellsBadStarts}
-use Rattle.plan_cli.specs.CompareRun.{IsCompared, TellsNotCompared}
-use Rattle.plan_cli.specs.DaysRun.{IsDaysFrom, TellsNoDaysFrom}
+use Rattle.plan_cli.specs.BestRun.{TellsNoBestOf}
+use Rattle.plan_cli.specs.CheckRun.{TellsBadStarts}
+use Rattle.plan_cli.specs.CompareRun.{TellsNotCompared}
+use Rattle.plan_cli.specs.DaysRun.{TellsNoDaysFrom}
 use Rattle.plan_cli.specs.Scheduled.{TellsNoRuleOf, TellsNotMade}
-use Rattle.plan_cli.specs.SolveRun.{IsSolvedBy, TellsNoSolution}
-use Rattle.plan_cli.specs.Tables.{IsTableBy}
+use Rattle.plan_cli.specs.SolveRun.{TellsNoSolution}
+use Rattle.plan_cli.specs.TaskViews.{IsBestViewOf, IsChartViewFrom, IsComparedView}
+use Rattle.plan_cli.specs.TaskViews.{IsDaysViewFrom, IsSolvedViewBy, IsTableViewBy, IsVerdictView}
+use Rattle.plan_cli.specs.Views.{View}
 use Rattle.plan_cli.specs.declared.commands.Command.{Command}
 use Rattle.plan_cli.specs.declared.commands.Command.TheVariants as command
 use Rattle.plan_cli.specs.declared.documents.Plan.{Plan}
 
--- the texts that a command writes for a plan
-abbrev pub IsPlanText : Command → Plan → List ℕ → Type 0
-IsPlanText (command.Schedule rule) = IsTableBy rule.now
-IsPlanText (command.Chart from) = IsChartFrom from
-IsPlanText (command.Days from dates) = IsDaysFrom from dates
-IsPlanText (command.Check starts) = TellsVerdictOn starts.now
-IsPlanText (command.Compare starts) = IsCompared starts.a.now starts.b.now
-IsPlanText (command.Best budget) = IsBestOf budget.now
-IsPlanText (command.Solve conflicts) = IsSolvedBy
+-- what a command shows for a plan
+abbrev pub IsPlanView : Command → Plan → View → Type 0
+IsPlanView (command.Schedule rule) = IsTableViewBy rule.now
+IsPlanView (command.Chart from) = IsChartViewFrom from
+IsPlanView (command.Days from dates) = IsDaysViewFrom from dates
+IsPlanView (command.Check starts) = IsVerdictView starts.now
+IsPlanView (command.Compare starts) = IsComparedView starts.a.now starts.b.now
+IsPlanView (command.Best budget) = IsBestViewOf budget.now
+IsPlanView (command.Solve conflicts) = IsSolvedViewBy
 
 -- the lines with which a command refuses a plan
 abbrev pub IsPlanLine : Command → Plan → List ℕ → Type 0

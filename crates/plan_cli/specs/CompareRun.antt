@@ -1,10 +1,13 @@
 -- The output of `plan compare` for the bytes that it reads (docs/definitions.md, "Runs").
-use Rattle.std.specs.Prelude.{◌≡◌, ◌⊎◌, ◌++◌, ℕ, List, codes, string_bytes}
+use Rattle.std.specs.Prelude.{◌≡◌, ◌⊎◌, ◌++◌, ℕ, List, if◌then◌else◌, bytes_eq, codes}
 use Rattle.plan_report.specs.Comparison.{IsComparison}
 use Rattle.plan_report.specs.Sheet.{Sheet}
 use Rattle.plan_report.specs.ShopComparison.{IsShopComparison}
 use Rattle.plan_report.specs.StartsText.{SaysStarts}
+use Rattle.plan_errors.specs.Faults.{refusal_line}
 use Rattle.plan_errors.specs.Output.{Refuses}
+use Rattle.plan_errors.specs.declared.context.Subject.{Subject}
+use Rattle.plan_errors.specs.declared.context.Subject.TheVariants as subject
 use Rattle.plan_errors.specs.declared.fault.CliFault.{CliFault}
 use Rattle.plan_errors.specs.declared.fault.CliFault.TheVariants as fault
 use Rattle.plan_cli.specs.Documents.{sheet_of}
@@ -18,11 +21,16 @@ named_line name line = line ++ codes " " ++ name
 
 -- the same for an error: only a line gets the name, and memory can run out for it
 abbrev pub IsNamedFault : List ℕ → CliFault → CliFault → Type 0
-IsNamedFault name (fault.Refused line) named =
-    Refuses (λ told. told ≡ named_line name (string_bytes line)) named
+IsNamedFault name (fault.Refused refusal) named =
+    Refuses (λ told. told ≡ named_line name (refusal_line refusal)) named
 IsNamedFault name fault.Memory named = named ≡ fault.Memory
 IsNamedFault name fault.Input named = named ≡ fault.Input
 IsNamedFault name fault.Output named = named ≡ fault.Output
+
+-- the argument with the starts of the schedule with this name
+abbrev pub subject_of : List ℕ → Subject
+subject_of name =
+    if bytes_eq name (codes "A") then subject.StartsA else subject.StartsB
 
 -- a line gives the first check that the starts of the schedule with this name fail
 abbrev pub TellsNoStartsOf : List ℕ → Sheet → List ℕ → List ℕ → Type 0

@@ -16,7 +16,7 @@ use Rattle.plan_report.specs.StartsText.{activity_sheet, step_sheet}
 use Rattle.plan_table.specs.Names.{Name, names_behind, activity_key}
 use Rattle.plan_table.specs.ShopNames.{instance_names, machine_key, order_key}
 use Rattle.plan_cli.specs.Capacities.{Replaces, TellsUnknown}
-use Rattle.plan_cli.specs.Plans.{IsOfProject, RefusesFile, IsOfShop, RefusesShop}
+use Rattle.plan_cli.specs.Plans.{IsOfProject, RefusesFile, IsOfShop, RefusesShop, resources_in}
 use Rattle.plan_cli.specs.ScheduleRun.{TellsNeed}
 use Rattle.plan_cli.specs.declared.documents.Subject.{Subject}
 use Rattle.plan_cli.specs.declared.documents.Subject.TheVariants as subject
@@ -49,7 +49,8 @@ HasFit (plan.Shop s) = Unit {0}
 -- or that of an instance in a job shop file
 abbrev pub IsDocumentOf : Subject → List ℕ → Document → Type 0
 IsDocumentOf (subject.Project given) file (document.Project p capacities) =
-    SaysProject file p × Replaces given.now p.available capacities.items
+    SaysProject file p
+    × Replaces (resources_in file) given.now p.available capacities.items
 IsDocumentOf (subject.Shop instance) file (document.Shop doc) = Says instance.now file doc
 IsDocumentOf _ file _ = ⊥
 
@@ -57,7 +58,8 @@ IsDocumentOf _ file _ = ⊥
 -- that its project lacks
 abbrev pub TellsNoDocument : Subject → List ℕ → List ℕ → Type 0
 TellsNoDocument (subject.Project given) file line = TellsFirstFailing file line
-    ⊎ ((p : Project) × SaysProject file p × TellsUnknown given.now p.available line)
+    ⊎ ((p : Project) × SaysProject file p
+    × TellsUnknown (resources_in file) given.now p.available line)
 TellsNoDocument (subject.Shop instance) file line = TellsFirstShopFault instance.now file line
 
 -- a document has a capacity for each resource of its project
@@ -75,9 +77,9 @@ abbrev pub TellsNoPlan : Document → List ℕ → Type 0
 TellsNoPlan (document.Project p capacities) line = TellsNeed (planned p capacities.items) line
 TellsNoPlan (document.Shop doc) line = ⊥
 
--- a text is one for the project or the job shop in a file; no need of a project is above its
--- capacity
-abbrev pub IsOfSubject : Subject → (Plan → List ℕ → Type 0) → List ℕ → List ℕ → Type 0
+-- a text or a value is one for the project or the job shop in a file; no need of a project is above
+-- its capacity
+abbrev pub IsOfSubject : {X : Type 0} → Subject → (Plan → X → Type 0) → List ℕ → X → Type 0
 IsOfSubject (subject.Project given) IsText = IsOfProject given.now
     (λ i text. NeedsFit (projects.problem_of i) × IsText (plan.Project i) text)
 IsOfSubject (subject.Shop instance) IsText =

@@ -10,6 +10,8 @@ pub use Rattle.plan_net.specs.Network
 pub use Rattle.plan_cpm.specs.Dates
 pub use Rattle.plan_io.specs.Devices
 pub use Rattle.plan_errors.specs.Faults
+pub use Rattle.plan_errors.specs.Parts
+pub use Rattle.plan_errors.specs.Subjects
 pub use Rattle.plan_errors.specs.Output
 pub use Rattle.plan_errors.specs.Codes
 pub use Rattle.plan_errors.specs.ExplainRun
@@ -44,11 +46,14 @@ pub mod VerdictText
 pub mod CheckRun
 pub mod SlackRun
 pub mod CompareRun
-pub mod FormattedText
+pub mod Views
+pub mod TaskViews
 pub mod ExplainedText
 pub mod TableFaultText
+pub mod Refusals
+pub mod Contents
+pub mod Details
 pub mod ImportRun
 pub mod Commands
-pub mod RowNames
 pub mod TemplateRun
 pub use Rattle.plan_table.specs.Names

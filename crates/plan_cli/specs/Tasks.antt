@@ -13,7 +13,6 @@ use Rattle.plan_cli.specs.ChartRun.{IsChartFrom}
 use Rattle.plan_cli.specs.DaysRun.{IsDaysFrom, TellsNoDaysFrom}
 use Rattle.plan_cli.specs.SlackRun.{IsSlackOf, TellsNoSlack}
 use Rattle.plan_cli.specs.CompareRun.{IsCompared, TellsNotCompared}
-use Rattle.plan_cli.specs.FormattedText.{formatted}
 use Rattle.plan_formats.specs.declared.format.Format.{Format}
 use Rattle.plan_cli.specs.NamesRun.{AreNamesOf, TellsNotPlain}
 use Rattle.plan_cli.specs.CheckRun.{TellsVerdictOn, TellsBadStarts}
@@ -21,7 +20,8 @@ use Rattle.plan_cli.specs.BestRun.{IsBestOf, TellsNoBestOf}
 use Rattle.plan_cli.specs.ProveRun.{IsProofTableOf, TellsWhyNoProof}
 use Rattle.plan_cli.specs.SolveRun.{IsSolvedBy, TellsNoSolution}
 use Rattle.plan_cli.specs.ImportRun.{IsImportOf, TellsNoImport, IsShopImportOf, TellsNoShopImport}
-use Rattle.plan_cli.specs.RowNames.{with_names}
+use Rattle.plan_cli.specs.TaskViews.{IsViewOf}
+use Rattle.plan_cli.specs.Views.{View, named_text, text_in}
 use Rattle.plan_table.specs.Names.{Name, names_behind, activity_key}
 use Rattle.plan_table.specs.Overrides.{override_of}
 use Rattle.plan_table.specs.ShopNames.{instance_names, order_key}
@@ -81,15 +81,15 @@ names_for (task.Prove nodes instance) file = instance_names order_key instance.n
 names_for (task.Solve conflicts subject) file = names_of_rows subject file
 names_for _ file = []
 
--- a text is the text of a task for a file, each row with its name
+-- a text is the text of what a task shows for a file, each row with its name
 abbrev pub IsNamedText : Task → List ℕ → List ℕ → Type 0
-IsNamedText t file text = (plain : List ℕ) × IsTextOf t file plain
-    × (text ≡ with_names (names_for t file) plain)
+IsNamedText t file text = (view : View) × IsViewOf t file view
+    × (text ≡ named_text (names_for t file) view)
 
--- a text is the text of a task for a file in a format, with the names of the rows
+-- a text is what a task shows for a file in a format, with the names of the rows
 abbrev pub IsFormattedText : Format → Task → List ℕ → List ℕ → Type 0
-IsFormattedText format t file text = (plain : List ℕ) × IsTextOf t file plain
-    × (text ≡ formatted t format (names_for t file) plain)
+IsFormattedText format t file text = (view : View) × IsViewOf t file view
+    × (text ≡ text_in format (names_for t file) view)
 
 -- the texts that a task writes for a file, with these rows
 abbrev pub ShowsTask : Rows → Task → List ℕ → List ℕ → Type 0

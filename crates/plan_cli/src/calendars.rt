@@ -38,7 +38,10 @@ fn with_holidays(alloc: Global, calendar: Calendar, text: &[u8]) -> Result<Calen
     if text.len() > LONGEST_TEXT {
         return Err(holiday_refusal(alloc, HolidayFault::TooMany));
     }
-    with_holidays_in(alloc, calendar, text).map_err(|fault| holiday_refusal(alloc, fault))
+    match with_holidays_in(alloc, calendar, text) {
+        Ok(calendar) => Ok(calendar),
+        Err(fault) => Err(holiday_refusal(alloc, fault)),
+    }
 }
 
 /// Returns the calendar of these texts. The first error is that of the date, of the marks, or of

@@ -1,45 +1,47 @@
 //! `plan chart`: the Gantt charts of schedules.
 
-ghost use Rattle.std.specs.Prelude.{◌≡◌, IfOk, IfErr, string_bytes};
+ghost use Rattle.std.specs.Prelude.{◌≡◌, IfOk, IfErr};
 ghost use Rattle.plan_errors.specs.Output.{Refuses};
-ghost use Rattle.plan_cli.specs.Run.{IfText};
+ghost use Rattle.plan_views.specs.Charts as charts;
 ghost use Rattle.plan_cli.specs.Documents.{count_of};
 ghost use Rattle.plan_cli.specs.Scheduled.{CanBeShown, TellsNotMade};
-ghost use Rattle.plan_cli.specs.ChartRun as spec;
+ghost use Rattle.plan_cli.specs.TaskViews as spec;
+ghost use Rattle.plan_cli.specs.Views.{IfView};
 
 use crate::documents::Plan;
 use crate::origins::Origin;
 use crate::schedules::schedule_from;
+use crate::views::View;
 use crate::watchers::{Log, ProofWatcher, SolveWatcher};
 use plan_errors::CliFault;
-use plan_gantt::{chart, shop_chart};
 use plan_sgs::Schedule;
+use plan_views::{Chart, chart_view, shop_chart_view};
 use std::alloc::{AllocError, Global};
 
 // Returns the chart of a plan's schedule.
-fn chart_of(alloc: Global, plan: &Plan<'_>, schedule: &Schedule) -> Result<String, AllocError>
+fn chart_of(alloc: Global, plan: &Plan<'_>, schedule: &Schedule) -> Result<Chart, AllocError>
     requires { CanBeShown (count_of plan.now) schedule.now }
-    ensures { IfOk result (λ text. string_bytes text
+    ensures { IfOk result (λ chart. charts.chart_of chart
         ≡ spec.chart_of plan.now schedule.now.starts.items schedule.now.makespan) }
 {
     let (starts, makespan) = (&schedule.starts, schedule.makespan);
     match plan {
-        Plan::Project(instance) => chart(alloc, instance.network(), starts, makespan),
-        Plan::Shop(shop) => shop_chart(alloc, shop, starts, makespan),
+        Plan::Project(instance) => chart_view(alloc, instance.network(), starts, makespan),
+        Plan::Shop(shop) => shop_chart_view(alloc, shop, starts, makespan),
     }
 }
 
 /// Returns the chart of a plan.
-pub(crate) fn chart_text<V: ProofWatcher + SolveWatcher, L: Log>(
+pub(crate) fn chart_from<V: ProofWatcher + SolveWatcher, L: Log>(
     alloc: Global,
     origin: Origin<'_>,
     plan: &Plan<'_>,
     watcher: &mut V,
     log: &mut L,
-) -> Result<String, CliFault>
-    ensures made { IfText result (spec.IsChartFrom origin.entry plan.now) }
+) -> Result<View, CliFault>
+    ensures made { IfView result (spec.IsChartViewFrom origin.entry plan.now) }
     ensures refused { IfErr result (Refuses (TellsNotMade origin.entry plan.now)) }
 {
     let made = schedule_from(alloc, origin, plan, watcher, log)?;
-    Ok(chart_of(alloc, plan, &made.schedule)?)
+    Ok(View::Chart(chart_of(alloc, plan, &made.schedule)?))
 }

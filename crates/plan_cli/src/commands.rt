@@ -2,20 +2,21 @@
 
 ghost use Rattle.std.specs.Prelude.{IfOk, IfErr};
 ghost use Rattle.plan_errors.specs.Output.{Refuses};
-ghost use Rattle.plan_cli.specs.Run.{IfText};
 ghost use Rattle.plan_cli.specs.Documents.{IsOfSubject, RefusesSubject, HasFit};
 ghost use Rattle.plan_cli.specs.Commands as spec;
+ghost use Rattle.plan_cli.specs.Views.{IfView};
 
 use crate::calendars::Dates;
-use crate::charts::chart_text;
-use crate::comparisons::{Pair, comparison_text};
-use crate::days::days_text;
+use crate::charts::chart_from;
+use crate::comparisons::{Pair, comparison_of};
+use crate::days::days_from;
 use crate::documents::{Plan, Subject, plan_of, read_document};
 use crate::origins::Origin;
-use crate::solutions::best_text;
-use crate::solver::solution_text;
-use crate::tables::schedule_text;
-use crate::verdicts::check_text;
+use crate::solutions::best_of;
+use crate::solver::solution_view;
+use crate::tables::schedule_of;
+use crate::verdicts::verdict_on;
+use crate::views::View;
 use crate::watchers::{Log, ProofWatcher, SolveWatcher};
 use plan_errors::CliFault;
 use std::alloc::Global;
@@ -32,43 +33,43 @@ pub(crate) enum Command<'a> {
     Solve(u64),
 }
 
-// Returns the text of a command for a plan.
-fn plan_text<V: ProofWatcher + SolveWatcher, L: Log>(
+// Returns what a command shows for a plan.
+fn plan_view<V: ProofWatcher + SolveWatcher, L: Log>(
     alloc: Global,
     command: Command<'_>,
     plan: &Plan<'_>,
     watcher: &mut V,
     log: &mut L,
-) -> Result<String, CliFault>
-    ensures made { IfText result (spec.IsPlanText command.entry plan.now) }
+) -> Result<View, CliFault>
+    ensures made { IfView result (spec.IsPlanView command.entry plan.now) }
     ensures refused { IfErr result (Refuses (spec.IsPlanLine command.entry plan.now)) }
 {
     match command {
-        Command::Schedule(rule) => schedule_text(alloc, rule, plan),
-        Command::Chart(origin) => chart_text(alloc, origin, plan, watcher, log),
-        Command::Days(origin, dates) => { days_text(alloc, origin, dates, plan, watcher, log) },
-        Command::Check(starts) => check_text(alloc, starts, plan),
-        Command::Compare(starts) => comparison_text(alloc, starts, plan),
-        Command::Best(budget) => best_text(alloc, budget, plan),
-        Command::Solve(conflicts) => solution_text(alloc, conflicts, plan, watcher, log),
+        Command::Schedule(rule) => schedule_of(alloc, rule, plan),
+        Command::Chart(origin) => chart_from(alloc, origin, plan, watcher, log),
+        Command::Days(origin, dates) => { days_from(alloc, origin, dates, plan, watcher, log) }
+        Command::Check(starts) => verdict_on(alloc, starts, plan),
+        Command::Compare(starts) => comparison_of(alloc, starts, plan),
+        Command::Best(budget) => best_of(alloc, budget, plan),
+        Command::Solve(conflicts) => solution_view(alloc, conflicts, plan, watcher, log),
     }
 }
 
-/// Returns the text of a command for the project or the job shop in a file.
-pub(crate) fn subject_text<V: ProofWatcher + SolveWatcher, L: Log>(
+/// Returns what a command shows for the project or the job shop in a file.
+pub(crate) fn subject_view<V: ProofWatcher + SolveWatcher, L: Log>(
     alloc: Global,
     command: Command<'_>,
     subject: Subject<'_>,
     file: &[u8],
     watcher: &mut V,
     log: &mut L,
-) -> Result<Vec<u8>, CliFault>
-    ensures made { IfOk result (λ text.
-        IsOfSubject subject.entry (spec.IsPlanText command.entry) file.now text.items) }
+) -> Result<View, CliFault>
+    ensures made { IfView result
+        (IsOfSubject subject.entry (spec.IsPlanView command.entry) file.now) }
     ensures refused { IfErr result (Refuses
         (RefusesSubject subject.entry (spec.IsPlanLine command.entry) file.now)) }
 {
     let document = read_document(alloc, subject, file)?;
-    let plan = plan_of(alloc, &document)?;
-    Ok(plan_text(alloc, command, &plan, watcher, log)?.into_bytes())
+    let plan = plan_of(alloc, &document, file)?;
+    plan_view(alloc, command, &plan, watcher, log)
 }

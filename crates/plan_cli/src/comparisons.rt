@@ -3,15 +3,20 @@
 ghost use Rattle.std.specs.Prelude.{◌≡◌, All, IfOk, IfErr, length, string_bytes};
 ghost use Rattle.plan_profile.specs.Usage.{IsInTime};
 ghost use Rattle.plan_report.specs.StartsText.{SaysStarts};
+ghost use Rattle.plan_errors.specs.Faults.{IsAbout, refusal_line};
 ghost use Rattle.plan_errors.specs.Output.{Refuses};
-ghost use Rattle.plan_cli.specs.Run.{IfText};
+ghost use Rattle.plan_formats.specs.Tables.{table_of};
+ghost use Rattle.plan_cli.specs.TaskViews as views;
+ghost use Rattle.plan_cli.specs.Views.{IfView};
 ghost use Rattle.plan_cli.specs.Documents.{count_of, sheet_of};
 ghost use Rattle.plan_cli.specs.CompareRun as spec;
 
 use crate::documents::Plan;
 use crate::starts::starts_of;
-use plan_errors::{CliFault, refusal_by};
-use plan_report::{compare_text, shop_compare_text};
+use crate::views::View;
+use plan_errors::{CliFault, Part, Refusal, Subject};
+use plan_formats::Table;
+use plan_views::{comparison_view, shop_comparison_view};
 use std::alloc::{AllocError, Global};
 
 /// The texts of the starts of two schedules, A and B.
@@ -21,22 +26,37 @@ pub struct Pair<'a> {
     pub b: &'a [u8],
 }
 
-// Returns a line with the name of a schedule behind it.
-fn named_line(alloc: Global, line: &str, name: &str) -> Result<String, AllocError>
-    ensures { IfOk result (λ text. string_bytes text ≡ spec.named_line name.now line.now) }
+// Returns the argument with the starts of a schedule.
+fn subject_of(name: &str) -> Subject
+    ensures { result ≡ spec.subject_of name.now }
 {
-    let mut text = line.to_string(alloc)?;
-    text.push_str(" ")?;
-    text.push_str(name)?;
-    Ok(text)
+    if name == "A" {
+        Subject::StartsA
+    } else {
+        Subject::StartsB
+    }
 }
 
 // Returns the error of a text of starts with the name of its schedule.
-fn named_fault(alloc: Global, fault: CliFault, name: &str) -> CliFault
+#[tactic(auto, using(crate::proofs::CompareLemmas::named_parts))]
+fn named_refusal(mut refusal: Refusal, name: &'static str) -> CliFault
+    ensures told { Refuses
+        (λ told. told ≡ spec.named_line name.now (refusal_line refusal)) result }
+    ensures about { IsAbout (spec.subject_of name.now) result }
+{
+    if refusal.parts.push(Part::Words(name)).is_err() {
+        return CliFault::Memory;
+    }
+    refusal.about = subject_of(name);
+    CliFault::Refused(refusal)
+}
+
+// Returns the error of a text of starts with the name of its schedule.
+fn named_fault(fault: CliFault, name: &'static str) -> CliFault
     ensures { spec.IsNamedFault name.now fault result }
 {
     match fault {
-        CliFault::Refused(line) => refusal_by(named_line(alloc, line.as_str(), name)),
+        CliFault::Refused(refusal) => named_refusal(refusal, name),
         CliFault::Memory => CliFault::Memory,
         CliFault::Input => CliFault::Input,
         CliFault::Output => CliFault::Output,
@@ -48,7 +68,7 @@ fn named_starts(
     alloc: Global,
     plan: &Plan<'_>,
     text: &[u8],
-    name: &str,
+    name: &'static str,
 ) -> Result<Vec<u64>, CliFault>
     ensures said { IfOk result (λ starts.
         SaysStarts (sheet_of plan.now) text.now starts.items) }
@@ -57,35 +77,40 @@ fn named_starts(
     ensures refused { IfErr result (Refuses
         (spec.TellsNoStartsOf name.now (sheet_of plan.now) text.now)) }
 {
-    starts_of(alloc, plan, text).map_err(|fault| named_fault(alloc, fault, name))
+    starts_of(alloc, plan, text).map_err(|fault| named_fault(fault, name))
 }
 
 // Returns the comparison of two schedules of a plan.
-fn compared(alloc: Global, plan: &Plan<'_>, a: &[u64], b: &[u64]) -> Result<String, AllocError>
+fn compared(
+    alloc: Global,
+    plan: &Plan<'_>,
+    a: &[u64],
+    b: &[u64],
+) -> Result<Table<'static>, AllocError>
     requires whole_a { length a.now ≡ count_of plan.now }
     requires limit_a { All IsInTime a.now }
     requires whole_b { length b.now ≡ count_of plan.now }
     requires limit_b { All IsInTime b.now }
-    ensures { IfOk result (λ text. spec.Compares plan.now a.now b.now (string_bytes text)) }
+    ensures { IfOk result (λ table. views.ComparesIn plan.now a.now b.now (table_of table)) }
 {
     match plan {
-        Plan::Project(instance) => compare_text(alloc, instance, a, b),
-        Plan::Shop(shop) => shop_compare_text(alloc, shop, a, b),
+        Plan::Project(instance) => comparison_view(alloc, instance, a, b),
+        Plan::Shop(shop) => shop_comparison_view(alloc, shop, a, b),
     }
 }
 
 /// Returns the comparison of the schedules with the starts in two texts.
-pub(crate) fn comparison_text(
+pub(crate) fn comparison_of(
     alloc: Global,
     pair: Pair<'_>,
     plan: &Plan<'_>,
-) -> Result<String, CliFault>
-    ensures made { IfText result
-        (spec.IsCompared pair.entry.a.now pair.entry.b.now plan.now) }
+) -> Result<View, CliFault>
+    ensures made { IfView result
+        (views.IsComparedView pair.entry.a.now pair.entry.b.now plan.now) }
     ensures refused { IfErr result (Refuses
         (spec.TellsNotCompared pair.entry.a.now pair.entry.b.now plan.now)) }
 {
     let a = named_starts(alloc, plan, pair.a, "A")?;
     let b = named_starts(alloc, plan, pair.b, "B")?;
-    Ok(compared(alloc, plan, &a, &b)?)
+    Ok(View::Table(compared(alloc, plan, &a, &b)?))
 }

@@ -1,21 +1,26 @@
 //! `plan days`: the working days of schedules.
 
-ghost use Rattle.std.specs.Prelude.{◌≡◌, IfOk, IfErr, IsErrOf, string_bytes};
+ghost use Rattle.std.specs.Prelude.{◌≡◌, IfOk, IfErr, IsErrOf};
 ghost use Rattle.plan_errors.specs.Output.{Refuses};
-ghost use Rattle.plan_cli.specs.Run.{IfText};
+ghost use Rattle.plan_formats.specs.Tables.{table_of};
+ghost use Rattle.plan_cli.specs.DaysRun as days;
 ghost use Rattle.plan_cli.specs.Documents.{count_of};
 ghost use Rattle.plan_cli.specs.Scheduled.{CanBeShown};
-ghost use Rattle.plan_cli.specs.DaysRun as spec;
+ghost use Rattle.plan_cli.specs.TaskViews as spec;
+ghost use Rattle.plan_cli.specs.Views.{IfView};
 
 use crate::calendars::{Dates, calendar_of};
 use crate::documents::Plan;
 use crate::origins::Origin;
 use crate::refusals::days_refusal;
 use crate::schedules::schedule_from;
+use crate::views::View;
 use crate::watchers::{Log, ProofWatcher, SolveWatcher};
 use plan_errors::CliFault;
-use plan_gantt::{Calendar, DaysFault, calendar_table, shop_calendar_table};
+use plan_formats::Table;
+use plan_gantt::{Calendar, DaysFault};
 use plan_sgs::Schedule;
+use plan_views::{days_view, shop_days_view};
 use std::alloc::Global;
 
 // Returns the table of the working days of a plan's schedule, or its error.
@@ -24,17 +29,17 @@ fn days_table(
     plan: &Plan<'_>,
     schedule: &Schedule,
     calendar: &Calendar,
-) -> Result<String, DaysFault>
+) -> Result<Table<'static>, DaysFault>
     requires { CanBeShown (count_of plan.now) schedule.now }
-    ensures text { IfOk result (λ text. spec.IsDaysTable plan.now schedule.now.starts.items
-        calendar.now (string_bytes text)) }
+    ensures days { IfOk result (λ table. spec.AreDaysOf plan.now schedule.now.starts.items
+        calendar.now (table_of table)) }
     ensures beyond { IsErrOf result DaysFault.BeyondCalendar →
-        spec.HasDayBeyond plan.now schedule.now.starts.items calendar.now }
+        days.HasDayBeyond plan.now schedule.now.starts.items calendar.now }
 {
     let starts = &schedule.starts;
     match plan {
-        Plan::Project(instance) => calendar_table(alloc, instance.network(), starts, calendar),
-        Plan::Shop(shop) => shop_calendar_table(alloc, shop, starts, calendar),
+        Plan::Project(instance) => days_view(alloc, instance.network(), starts, calendar),
+        Plan::Shop(shop) => shop_days_view(alloc, shop, starts, calendar),
     }
 }
 
@@ -44,30 +49,31 @@ fn schedule_days(
     plan: &Plan<'_>,
     schedule: &Schedule,
     calendar: &Calendar,
-) -> Result<String, CliFault>
+) -> Result<Table<'static>, CliFault>
     requires { CanBeShown (count_of plan.now) schedule.now }
-    ensures made { IfText result
-        (spec.IsDaysTable plan.now schedule.now.starts.items calendar.now) }
-    ensures refused { IfErr result (Refuses (spec.TellsBeyond
-        (spec.HasDayBeyond plan.now schedule.now.starts.items calendar.now))) }
+    ensures made { IfOk result (λ table. spec.AreDaysOf plan.now schedule.now.starts.items
+        calendar.now (table_of table)) }
+    ensures refused { IfErr result (Refuses (days.TellsBeyond
+        (days.HasDayBeyond plan.now schedule.now.starts.items calendar.now))) }
 {
     days_table(alloc, plan, schedule, calendar).map_err(|fault| days_refusal(alloc, fault))
 }
 
 /// Returns the working days of a plan.
-pub(crate) fn days_text<V: ProofWatcher + SolveWatcher, L: Log>(
+pub(crate) fn days_from<V: ProofWatcher + SolveWatcher, L: Log>(
     alloc: Global,
     origin: Origin<'_>,
     dates: Dates<'_>,
     plan: &Plan<'_>,
     watcher: &mut V,
     log: &mut L,
-) -> Result<String, CliFault>
-    ensures made { IfText result (spec.IsDaysFrom origin.entry dates.entry plan.now) }
+) -> Result<View, CliFault>
+    ensures made { IfView result (spec.IsDaysViewFrom origin.entry dates.entry plan.now) }
     ensures refused { IfErr result (Refuses
-        (spec.TellsNoDaysFrom origin.entry dates.entry plan.now)) }
+        (days.TellsNoDaysFrom origin.entry dates.entry plan.now)) }
 {
     let made = schedule_from(alloc, origin, plan, watcher, log)?;
     let calendar = calendar_of(alloc, dates)?;
-    schedule_days(alloc, plan, &made.schedule, &calendar)
+    let table = schedule_days(alloc, plan, &made.schedule, &calendar)?;
+    Ok(View::Table(table))
 }

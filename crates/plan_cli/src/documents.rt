@@ -13,10 +13,10 @@ use plan_orlib::ShopDoc;
 use plan_psplib::ProjectDoc;
 use plan_sgs::Instance;
 use plan_shop::Shop;
-use plan_table::{NameLine, activity_names, machine_names, order_names};
+use plan_table::{NameLine, activity_names, machine_names, order_names, resource_names};
 use std::alloc::{AllocError, Global};
 
-/// What has the schedule.
+/// The project or the job shop of a command.
 #[derive(Clone, Copy, Debug, Drop)]
 pub enum Subject<'a> {
     /// The project in a file, with these capacities in place of those of the file.
@@ -52,7 +52,8 @@ fn project_document(
         (spec.TellsNoDocument (Subject.Project given.entry) file.now)) }
 {
     let project = read_project(alloc, file)?;
-    let capacities = replaced(alloc, given, project.avail())?;
+    let names = resource_names(alloc, file)?;
+    let capacities = replaced(alloc, &names, given, project.avail())?;
     Ok(Document::Project(project, capacities))
 }
 
@@ -68,8 +69,8 @@ pub fn read_document(alloc: Global, subject: Subject<'_>, file: &[u8]) -> Result
     }
 }
 
-/// Returns the plan of a document.
-pub fn plan_of(alloc: Global, document: &Document) -> Result<Plan<'_>, CliFault>
+/// Returns the plan of the document in a file.
+pub fn plan_of<'a>(alloc: Global, document: &'a Document, file: &[u8]) -> Result<Plan<'a>, CliFault>
     requires { spec.IsWhole document.now }
     ensures plan { IfOk result (λ plan. plan ≡ spec.plan_in document.now) }
     ensures fit { IfOk result spec.HasFit }
@@ -77,7 +78,7 @@ pub fn plan_of(alloc: Global, document: &Document) -> Result<Plan<'_>, CliFault>
 {
     match document {
         Document::Project(project, capacities) => {
-            let instance = instance_with(alloc, project, capacities)?;
+            let instance = instance_with(alloc, project, capacities, file)?;
             // The proof needs the instance's invariant, which this call states.
             let _network = instance.network();
             Ok(Plan::Project(instance))
@@ -92,7 +93,8 @@ pub fn names_of_rows<'a>(
     subject: Subject<'_>,
     file: &'a [u8],
 ) -> Result<Vec<NameLine<'a>>, AllocError>
-    ensures { IfOk result (λ names. map name_of names.items ≡ spec.names_of_rows subject.entry file.now) }
+    ensures { IfOk result (λ names.
+        map name_of names.items ≡ spec.names_of_rows subject.entry file.now) }
 {
     match subject {
         Subject::Project(_) => activity_names(alloc, file),
@@ -106,7 +108,8 @@ pub fn names_of_lines<'a>(
     subject: Subject<'_>,
     file: &'a [u8],
 ) -> Result<Vec<NameLine<'a>>, AllocError>
-    ensures { IfOk result (λ names. map name_of names.items ≡ spec.names_of_lines subject.entry file.now) }
+    ensures { IfOk result (λ names.
+        map name_of names.items ≡ spec.names_of_lines subject.entry file.now) }
 {
     match subject {
         Subject::Project(_) => activity_names(alloc, file),

@@ -11,26 +11,19 @@ ghost use Rattle.plan_errors.specs.Output.{Refuses};
 ghost use Rattle.plan_cli.specs.Run.{IfText};
 ghost use Rattle.plan_cli.specs.ImportRun as spec;
 
-use crate::table_faults::table_fault_text;
-use plan_errors::{CliFault, refusal_by};
+use crate::table_faults::table_refusal;
+use plan_errors::{CliFault, Code, Subject, refuse_words};
 use plan_table::{
-    Override, ReadError, ShopTable, Table, TableFault, TextFault, project_text, read_shop_table,
+    Override, ReadError, ShopTable, Table, TextFault, project_text, read_shop_table,
     read_table_with, shop_text,
 };
 use std::alloc::Global;
-
-// Returns the error of a table.
-fn table_refusal(alloc: Global, fault: &TableFault) -> CliFault
-    ensures { Refuses (spec.TellsTable fault.now) result }
-{
-    refusal_by(table_fault_text(alloc, fault))
-}
 
 // Returns the error of a file that is too long.
 fn long_refusal(alloc: Global) -> CliFault
     ensures { Refuses (λ line. line ≡ codes "T1 too long") result }
 {
-    refusal_by("T1 too long".to_string(alloc))
+    refuse_words(alloc, Code::LongTable, Subject::List, "too long")
 }
 
 // Reads a table, with capacities that are given.
@@ -44,7 +37,7 @@ fn table_of(alloc: Global, given: &[Override<'_>], file: &[u8]) -> Result<Table,
     match read_table_with(alloc, given, file) {
         Ok(table) => Ok(table),
         Err(ReadError::Memory) => Err(CliFault::Memory),
-        Err(ReadError::Fault(fault)) => Err(table_refusal(alloc, &fault)),
+        Err(ReadError::Fault(fault)) => Err(table_refusal(alloc, &fault, file)),
     }
 }
 
@@ -83,7 +76,7 @@ fn orders_of(alloc: Global, file: &[u8]) -> Result<ShopTable, CliFault>
     match read_shop_table(alloc, file) {
         Ok(table) => Ok(table),
         Err(ReadError::Memory) => Err(CliFault::Memory),
-        Err(ReadError::Fault(fault)) => Err(table_refusal(alloc, &fault)),
+        Err(ReadError::Fault(fault)) => Err(table_refusal(alloc, &fault, file)),
     }
 }
 

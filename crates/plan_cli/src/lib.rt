@@ -4,14 +4,17 @@
 mod calendars;
 mod capacities;
 mod charts;
+mod checks;
 mod commands;
 mod comparisons;
+mod contents;
 mod days;
+mod details;
 mod documents;
 mod explanations;
 mod files;
-mod formatted;
 mod imports;
+mod infeasible;
 mod inputs;
 mod named_texts;
 mod names;
@@ -19,7 +22,6 @@ mod origins;
 mod projects;
 mod proof;
 mod refusals;
-mod row_names;
 mod runs;
 mod schedules;
 mod shops;
@@ -32,10 +34,12 @@ mod tables;
 mod tasks;
 mod templates;
 mod verdicts;
+mod views;
 mod watchers;
 
 pub use calendars::{Dates, calendar_of};
 pub use capacities::{Capacity, replaced};
+pub use checks::{Checked, check_text};
 pub use comparisons::Pair;
 pub use documents::{
     Document, Plan, Subject, names_of_lines, names_of_rows, plan_of, read_document,
@@ -45,9 +49,9 @@ pub use files::{read_named, run_on_file, run_on_files, run_on_named, run_on_text
 pub use inputs::{Inputs, SystemInputs};
 pub use named_texts::{NamedText, Role};
 pub use origins::Origin;
-pub use plan_errors::{CliFault, Contents, Context, explain_run, hint, masked};
+pub use plan_errors::{CliFault, Code, Context, code_hint, error_json, explain_run, hint, masked};
 pub use projects::{instance_with, read_project};
-pub use refusals::days_refusal;
+pub use refusals::{days_refusal, file_refusal, need_refusal};
 pub use runs::{best_project_run, best_run, cpm_run, run_task, schedule_run, shop_run};
 pub use schedules::{Scheduled, schedule_from};
 pub use shops::read_instance;

@@ -6,14 +6,16 @@ ghost use Rattle.plan_sgs.specs.Instances.{planned};
 ghost use Rattle.plan_gantt.specs.FirstFaults.{TellsFirstFailing};
 ghost use Rattle.plan_gantt.specs.ScheduleText.{IsSchedule};
 ghost use Rattle.plan_errors.specs.Output.{Refuses};
+ghost use Rattle.plan_cli.specs.Details.{NamesNeed};
 ghost use Rattle.plan_cli.specs.ScheduleRun.{TellsNeed};
 ghost use Rattle.plan_cli.specs.Scheduled.{IsScheduleBy, IsShowable, TellsNoRuleOf};
 
+use crate::details::need_fault;
 use crate::documents::Plan;
-use crate::refusals::{file_refusal, schedule_refusal};
+use crate::refusals::{file_refusal, rule_refusal};
 use plan_errors::CliFault;
 use plan_psplib::{ProjectDoc, read_sm};
-use plan_sgs::{Instance, Rule, Schedule, serial};
+use plan_sgs::{Instance, Rule, Schedule, SgsFault, serial};
 use std::alloc::Global;
 
 /// Reads the project in a file.
@@ -21,20 +23,28 @@ pub fn read_project(alloc: Global, file: &[u8]) -> Result<ProjectDoc, CliFault>
     ensures said { IfOk result (SaysProject file.now) }
     ensures refused { IfErr result (Refuses (TellsFirstFailing file.now)) }
 {
-    read_sm(alloc, file).map_err(|fault| file_refusal(alloc, &fault))
+    read_sm(alloc, file).map_err(|fault| file_refusal(alloc, &fault, file))
 }
 
-/// Returns the instance of a project with these capacities.
+/// Returns the instance of the project in a file, with these capacities.
 pub fn instance_with<'a>(
     alloc: Global,
     project: &'a ProjectDoc,
     capacities: &'a [u64],
+    file: &[u8],
 ) -> Result<Instance<'a>, CliFault>
     requires { length capacities.now ≡ length project.now.available }
     ensures ok { IfOk result (λ instance. instance ≡ planned project.now capacities.now) }
     ensures refused { IfErr result (Refuses (TellsNeed (planned project.now capacities.now))) }
+    ensures detail { IfErr result (NamesNeed file.now (planned project.now capacities.now)) }
 {
-    Instance::of_project(project, capacities).map_err(|fault| schedule_refusal(alloc, &fault))
+    match Instance::of_project(project, capacities) {
+        Ok(instance) => Ok(instance),
+        Err(SgsFault::NeedsTooMuch { act, res }) => {
+            Err(need_fault(alloc, file, project, capacities, act, res))
+        }
+        Err(_) => unreachable!(),
+    }
 }
 
 // Returns the schedule of an instance by a rule.
@@ -56,6 +66,8 @@ pub(crate) fn project_schedule_by(
     ensures showable { IfOk result (IsShowable (Plan.Project instance.now)) }
     ensures refused { IfErr result (Refuses (TellsNoRuleOf name.now (Plan.Project instance.now))) }
 {
-    let rule = Rule::parse(name).map_err(|fault| schedule_refusal(alloc, &fault))?;
-    schedule_by_rule(alloc, instance, rule)
+    match Rule::parse(name) {
+        Ok(rule) => schedule_by_rule(alloc, instance, rule),
+        Err(_) => Err(rule_refusal(alloc)),
+    }
 }

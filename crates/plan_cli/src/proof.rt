@@ -1,68 +1,54 @@
 //! `plan prove`: a schedule of a job shop and a lower bound of its least makespan.
 
-ghost use Rattle.std.specs.Prelude.{◌≡◌, ◌≤◌, IfOk, IfErr, length, slice_index, EachIndex};
-ghost use Rattle.std.specs.Prelude.{string_bytes, codes};
+ghost use Rattle.std.specs.Prelude.{◌≡◌, ◌≤◌, IfOk, IfErr, codes, length, slice_index};
+ghost use Rattle.std.specs.Prelude.{EachIndex};
 ghost use Rattle.plan_shop.specs.Shop.{count_steps};
 ghost use Rattle.plan_shop.specs.Docs.{shop_of};
 ghost use Rattle.plan_prove.specs.Proofs.{IsNodeLimit};
 ghost use Rattle.plan_gantt.specs.Limits.{latest_start};
 ghost use Rattle.plan_errors.specs.Output.{Refuses};
-ghost use Rattle.plan_cli.specs.Run.{IfText};
-ghost use Rattle.plan_cli.specs.ProofText.{IsBoundLine, ShowsProof};
+ghost use Rattle.plan_formats.specs.Tables.{table_of};
 ghost use Rattle.plan_cli.specs.ProveRun as spec;
+ghost use Rattle.plan_cli.specs.TaskViews as views;
+ghost use Rattle.plan_cli.specs.Views.{IfView};
 
+use crate::documents::Plan;
 use crate::shops::{open_shop, read_instance};
-use plan_errors::{CliFault, refusal_by};
-use plan_gantt::shop_table;
+use crate::views::View;
+use plan_errors::{CliFault, Code, Subject, refuse_words};
+use plan_formats::Table;
 use plan_orlib::ShopDoc;
 use plan_prove::{Proof, ProveFault, Watcher, parse_nodes, prove_watched};
 use plan_shop::Shop;
+use plan_views::{bound_line, shop_view, with_line};
 use std::alloc::{AllocError, Global};
-use std::fmt::Write;
 
-/// Returns the line with the lower bound and the makespan, or with the makespan alone if they are
-/// equal.
-pub(crate) fn bound_line(alloc: Global, lower: u64, makespan: u64) -> Result<String, AllocError>
-    requires { lower ≤ makespan }
-    ensures { IfOk result (λ line. IsBoundLine lower makespan (string_bytes line)) }
-{
-    let mut line = String::new(alloc);
-    if lower < makespan {
-        writeln!(line, "between {lower} {makespan}")?;
-    } else {
-        writeln!(line, "optimal {makespan}")?;
-    }
-    Ok(line)
-}
-
-/// Returns that line and the table of the schedule.
-pub(crate) fn proof_table(alloc: Global, shop: &Shop, proof: &Proof) -> Result<String, AllocError>
+// Returns the table of a proof.
+fn proof_table(alloc: Global, shop: &Shop, proof: &Proof) -> Result<Table<'static>, AllocError>
     requires starts { length proof.now.schedule.starts.items ≡ count_steps shop.now }
     requires limit { EachIndex proof.now.schedule.starts.items (λ k.
         slice_index proof.now.schedule.starts.items k ≤ latest_start) }
-    requires below { proof.now.lower ≤ proof.now.schedule.makespan }
-    ensures { IfOk result (λ text. ShowsProof shop.now proof.now (string_bytes text)) }
+    ensures { IfOk result (λ table. table_of table ≡ views.bounded_of (Plan.Shop shop.now)
+        proof.now.lower proof.now.schedule.starts.items proof.now.schedule.makespan) }
 {
     let schedule = &proof.schedule;
-    let mut text = bound_line(alloc, proof.lower, schedule.makespan)?;
-    let table = shop_table(alloc, shop, &schedule.starts, schedule.makespan)?;
-    text.push_str(&table)?;
-    Ok(text)
+    let table = shop_view(alloc, shop, &schedule.starts, schedule.makespan)?;
+    with_line(bound_line(proof.lower, schedule.makespan), table)
 }
 
-// Returns the text of the proof for a job shop, found by a search of at most `nodes` nodes.
-fn proved_text<V: Watcher>(
+// Returns the proof for a job shop, found by a search of at most `nodes` nodes.
+fn proved<V: Watcher>(
     alloc: Global,
     nodes: u64,
     shop: &Shop,
     watcher: &mut V,
-) -> Result<String, CliFault>
+) -> Result<View, CliFault>
     requires { IsNodeLimit nodes }
-    ensures made { IfText result (spec.IsProvedOf nodes shop.now) }
+    ensures made { IfView result (views.IsProvedViewOf nodes shop.now) }
     ensures refused { IfErr result (λ e. e ≡ CliFault.Memory) }
 {
     match prove_watched(alloc, shop, nodes, watcher) {
-        Ok(proof) => Ok(proof_table(alloc, shop, &proof)?),
+        Ok(proof) => Ok(View::Table(proof_table(alloc, shop, &proof)?)),
         Err(ProveFault::NoMemory) => Err(CliFault::Memory),
         Err(ProveFault::BadNodes) => unreachable!(),
     }
@@ -72,37 +58,36 @@ fn proved_text<V: Watcher>(
 fn no_nodes(alloc: Global) -> CliFault
     ensures { Refuses (λ line. line ≡ codes "S7 nodes") result }
 {
-    refusal_by("S7 nodes".to_string(alloc))
+    refuse_words(alloc, Code::BadNodes, Subject::Limit, "nodes")
 }
 
-// Returns the text of the proof for a file's job shop.
-fn doc_text<V: Watcher>(
+// Returns the proof for a file's job shop.
+fn doc_proof<V: Watcher>(
     alloc: Global,
     nodes: &str,
     doc: &ShopDoc,
     watcher: &mut V,
-) -> Result<String, CliFault>
-    ensures made { IfText result (spec.IsProofTextOf nodes.now (shop_of doc.now)) }
+) -> Result<View, CliFault>
+    ensures made { IfView result (views.IsProofViewBy nodes.now (shop_of doc.now)) }
     ensures refused { IfErr result (Refuses (spec.TellsNoNodes nodes.now)) }
 {
     let shop = open_shop(alloc, doc)?;
     let nodes = parse_nodes(nodes).map_err(|_| no_nodes(alloc))?;
-    proved_text(alloc, nodes, &shop, watcher)
+    proved(alloc, nodes, &shop, watcher)
 }
 
-/// Returns the text of the proof for an instance in a job shop file. The watcher is called during
-/// the search.
-pub(crate) fn proof_text<V: Watcher>(
+/// Returns the proof for an instance in a job shop file. The watcher is called during the search.
+pub(crate) fn proof_view<V: Watcher>(
     alloc: Global,
     nodes: &str,
     instance: &str,
     file: &[u8],
     watcher: &mut V,
-) -> Result<String, CliFault>
-    ensures made { IfText result (spec.IsProofTableOf nodes.now instance.now file.now) }
+) -> Result<View, CliFault>
+    ensures made { IfView result (views.IsProofViewOf nodes.now instance.now file.now) }
     ensures refused { IfErr result (Refuses
         (spec.TellsWhyNoProof nodes.now instance.now file.now)) }
 {
     let doc = read_instance(alloc, instance, file)?;
-    doc_text(alloc, nodes, &doc, watcher)
+    doc_proof(alloc, nodes, &doc, watcher)
 }

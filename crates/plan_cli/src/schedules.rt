@@ -25,7 +25,8 @@ use std::alloc::Global;
 #[derive(Debug, Drop)]
 pub struct Scheduled {
     pub schedule: Schedule,
-    /// A lower bound of the makespans of all feasible schedules, if a search has found the schedule.
+    /// A lower bound of the makespans of all feasible schedules, if a search has found the
+    /// schedule.
     pub lower: Option<u64>,
 }
 

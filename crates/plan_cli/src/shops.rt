@@ -11,7 +11,7 @@ ghost use Rattle.plan_errors.specs.Output.{Refuses};
 ghost use Rattle.plan_cli.specs.Scheduled.{IsShopScheduleBy, IsShowable};
 
 use crate::documents::Plan;
-use crate::refusals::{file_refusal, shop_refusal};
+use crate::refusals::{file_refusal, rule_refusal};
 use plan_errors::CliFault;
 use plan_orlib::{ShopDoc, read_shop};
 use plan_sgs::Schedule;
@@ -23,7 +23,7 @@ pub fn read_instance(alloc: Global, instance: &str, file: &[u8]) -> Result<ShopD
     ensures said { IfOk result (Says instance.now file.now) }
     ensures refused { IfErr result (Refuses (TellsFirstShopFault instance.now file.now)) }
 {
-    read_shop(alloc, file, instance.as_bytes()).map_err(|fault| file_refusal(alloc, &fault))
+    read_shop(alloc, file, instance.as_bytes()).map_err(|fault| file_refusal(alloc, &fault, file))
 }
 
 /// Returns the job shop of a file with all machines open, so that no closed machine refuses it.
@@ -57,6 +57,8 @@ pub(crate) fn shop_schedule_by(alloc: Global, name: &str, shop: &Shop) -> Result
     ensures showable { IfOk result (IsShowable (Plan.Shop shop.now)) }
     ensures refused { IfErr result (Refuses (TellsNoRule name.now)) }
 {
-    let rule = ShopRule::parse(name).map_err(|fault| shop_refusal(alloc, &fault))?;
-    shop_schedule_by_rule(alloc, shop, rule)
+    match ShopRule::parse(name) {
+        Ok(rule) => shop_schedule_by_rule(alloc, shop, rule),
+        Err(_) => Err(rule_refusal(alloc)),
+    }
 }

@@ -1,20 +1,24 @@
 //! `plan solve`: a schedule of a project or a job shop and a lower bound of its least makespan.
 
-ghost use Rattle.std.specs.Prelude.{◌≡◌, IfOk, IfErr, string_bytes};
+ghost use Rattle.std.specs.Prelude.{◌≡◌, IfOk, IfErr};
 ghost use Rattle.plan_solve.specs.Solutions.{IsConflictLimit};
 ghost use Rattle.plan_errors.specs.Output.{Refuses};
-ghost use Rattle.plan_cli.specs.Run.{IfText};
+ghost use Rattle.plan_formats.specs.Tables.{table_of};
+ghost use Rattle.plan_cli.specs.TaskViews as views;
+ghost use Rattle.plan_cli.specs.Views.{IfView};
 ghost use Rattle.plan_cli.specs.SolveRun as spec;
 
 use crate::documents::Plan;
-use crate::proof::bound_line;
-use crate::tables::table_of;
+use crate::tables::schedule_table;
+use crate::views::View;
 use crate::watchers::{ProofWatcher, SolveWatcher};
 use plan_errors::CliFault;
+use plan_formats::Table;
 use plan_sgs::Instance;
 use plan_shop::Shop;
 use plan_solve::{Log, MOST_CONFLICTS, SolveFault, Solved, solve_logged};
 use plan_turns::search_in_turns;
+use plan_views::{bound_line, with_line};
 use std::alloc::{AllocError, Global};
 
 // Returns the solution of an instance that a search of at most so many conflicts finds.
@@ -83,30 +87,32 @@ pub(crate) fn solution_of<V: ProofWatcher + SolveWatcher, L: Log>(
     }
 }
 
-// Returns the line with the lower bound and the makespan, and the table of the schedule.
-fn solution_table(alloc: Global, plan: &Plan<'_>, solved: &Solved) -> Result<String, AllocError>
+// Returns the table of a solution.
+fn solution_table(
+    alloc: Global,
+    plan: &Plan<'_>,
+    solved: &Solved,
+) -> Result<Table<'static>, AllocError>
     requires { spec.IsSolution plan.now solved.now }
-    ensures { IfOk result (λ text. spec.ShowsSolution plan.now solved.now.lower
-        solved.now.schedule.starts.items solved.now.schedule.makespan (string_bytes text)) }
+    ensures { IfOk result (λ table. table_of table ≡ views.bounded_of plan.now solved.now.lower
+        solved.now.schedule.starts.items solved.now.schedule.makespan) }
 {
     let schedule = &solved.schedule;
-    let mut text = bound_line(alloc, solved.lower, schedule.makespan)?;
-    let table = table_of(alloc, plan, schedule)?;
-    text.push_str(&table)?;
-    Ok(text)
+    let table = schedule_table(alloc, plan, schedule)?;
+    with_line(bound_line(solved.lower, schedule.makespan), table)
 }
 
-/// Returns the text of a plan's solution.
-pub(crate) fn solution_text<V: ProofWatcher + SolveWatcher, L: Log>(
+/// Returns a plan's solution.
+pub(crate) fn solution_view<V: ProofWatcher + SolveWatcher, L: Log>(
     alloc: Global,
     conflicts: u64,
     plan: &Plan<'_>,
     watcher: &mut V,
     log: &mut L,
-) -> Result<String, CliFault>
-    ensures made { IfText result (spec.IsSolvedBy plan.now) }
+) -> Result<View, CliFault>
+    ensures made { IfView result (views.IsSolvedViewBy plan.now) }
     ensures refused { IfErr result (Refuses (spec.TellsNoSolution plan.now)) }
 {
     let solved = solution_of(alloc, conflicts, plan, watcher, log)?;
-    Ok(solution_table(alloc, plan, &solved)?)
+    Ok(View::Table(solution_table(alloc, plan, &solved)?))
 }

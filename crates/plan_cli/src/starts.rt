@@ -1,40 +1,49 @@
 //! Texts of starts, and their errors.
 
-ghost use Rattle.std.specs.Prelude.{◌≡◌, All, IfOk, IfErr, length, string_bytes};
+ghost use Rattle.std.specs.Prelude.{◌≡◌, ◌++◌, All, IfOk, IfErr, codes, length};
 ghost use Rattle.plan_net.specs.Network.{count_of};
 ghost use Rattle.plan_profile.specs.Usage.{IsInTime};
 ghost use Rattle.plan_shop.specs.Shop.{count_steps};
 ghost use Rattle.plan_report.specs.StartsText.{SaysStarts, activity_sheet, step_sheet};
+ghost use Rattle.plan_errors.specs.Faults.{IsAbout};
 ghost use Rattle.plan_errors.specs.Output.{Refuses};
+ghost use Rattle.plan_errors.specs.Parts.{parts_text};
 ghost use Rattle.plan_cli.specs.Documents.{count_of as plan_count, sheet_of};
+ghost use Rattle.plan_cli.specs.Refusals.{place_of};
 ghost use Rattle.plan_cli.specs.Starts as spec;
 
 use crate::documents::Plan;
-use plan_errors::{CliFault, refusal_by};
-use plan_gantt::file_fault_text;
+use crate::refusals::{file_code, place_parts};
+use plan_errors::{CliFault, Part, Subject, refuse};
 use plan_net::Network;
 use plan_psplib::{FileCode, FileFault, ReadError};
 use plan_report::{read_shop_starts_text, read_starts_text};
 use plan_shop::Shop;
 use std::alloc::{AllocError, Global};
 
-// Returns the line of an error of a text of starts.
-fn starts_fault_text(alloc: Global, fault: &FileFault) -> Result<String, AllocError>
-    ensures { IfOk result (λ text. string_bytes text ≡ spec.starts_fault_text_of fault.now) }
+// Returns the place of an error in a text of starts.
+fn starts_parts(alloc: Global, fault: &FileFault) -> Result<Vec<Part>, AllocError>
+    ensures { IfOk result (λ list.
+        parts_text list.items ≡ place_of fault.now ++ codes " of the starts") }
 {
-    let mut text = file_fault_text(alloc, fault)?;
-    text.push_str(" of the starts")?;
-    Ok(text)
+    let mut parts = place_parts(alloc, fault)?;
+    parts.push(Part::Words("of the starts"))?;
+    Ok(parts)
 }
 
 // Returns the error of a text of starts.
 fn starts_refusal(alloc: Global, fault: &FileFault) -> CliFault
-    ensures { Refuses (spec.TellsStarts fault.now) result }
+    ensures told { Refuses (spec.TellsStarts fault.now) result }
+    ensures about { IsAbout Subject.Starts result }
 {
     if fault.code == FileCode::Memory {
         return CliFault::Memory;
     }
-    refusal_by(starts_fault_text(alloc, fault))
+    refuse(
+        file_code(fault.code),
+        Subject::Starts,
+        starts_parts(alloc, fault),
+    )
 }
 
 // Returns the error of a text of starts that can't be read.

@@ -3,21 +3,23 @@
 ghost use Rattle.std.specs.Prelude.{◌≡◌, map, IfOk, IfErr};
 ghost use Rattle.plan_table.specs.Names.{name_of};
 ghost use Rattle.plan_errors.specs.Output.{Refuses};
-ghost use Rattle.plan_cli.specs.Tasks.{IsFormattedText, IsTextOf, IsLineOf, ShowsTask, names_for};
+ghost use Rattle.plan_cli.specs.Tasks.{IsFormattedText, IsLineOf, IsNamedText, IsTextOf};
+ghost use Rattle.plan_cli.specs.Tasks.{ShowsTask, names_for};
+ghost use Rattle.plan_cli.specs.TaskViews.{IsViewOf};
+ghost use Rattle.plan_cli.specs.Views.{IfView};
 
 use crate::calendars::Dates;
 use crate::capacities::Capacity;
-use crate::commands::{Command, subject_text};
+use crate::commands::{Command, subject_view};
 use crate::comparisons::Pair;
 use crate::documents::{Subject, names_of_lines, names_of_rows};
-use crate::formatted::formatted;
 use crate::imports::{import_text, shop_import_text};
-use crate::names::names_text;
+use crate::names::names_in;
 use crate::origins::Origin;
-use crate::proof::proof_text;
-use crate::row_names::with_names;
-use crate::slacks::slacks_text;
-use crate::tables::date_text;
+use crate::proof::proof_view;
+use crate::slacks::slacks_of;
+use crate::tables::dates_of;
+use crate::views::{View, named_text, plain_text, text_in};
 use crate::watchers::{Log, ProofWatcher, SolveWatcher};
 use plan_errors::CliFault;
 use plan_formats::Format;
@@ -33,11 +35,11 @@ use std::alloc::{AllocError, Global};
 pub enum Task<'a> {
     /// The date table of a project (critical path method, Kelley and Walker 1959).
     Dates,
-    /// The schedule table by a rule. The rules of a project are `lft`, `slk`, `spt`, `mts` and `num`
-    /// (serial schedule generation, Kelley 1963; rules, Kolisch 1996), those of a job shop `spt`,
-    /// `mwkr` and `fcfs` (Giffler and Thompson 1960). Errors of the schedule: `S1` (a need above the
-    /// capacity), `S3` (unknown rule). The given capacities of a subject replace those of the file.
-    /// Their error is `S8` (no such resource), before the others.
+    /// The schedule table by a rule. The rules of a project are `lft`, `slk`, `spt`, `mts` and
+    /// `num` (serial schedule generation, Kelley 1963; rules, Kolisch 1996), those of a job shop
+    /// `spt`, `mwkr` and `fcfs` (Giffler and Thompson 1960). Errors of the schedule: `S1` (a need
+    /// above the capacity), `S3` (unknown rule). The given capacities of a subject replace those of
+    /// the file. Their error is `S8` (no such resource), before the others.
     Schedule {
         rule: &'a str,
         subject: Subject<'a>,
@@ -49,9 +51,9 @@ pub enum Task<'a> {
         origin: Origin<'a>,
         subject: Subject<'a>,
     },
-    /// The working days of a schedule, those of the first and of the last time unit of each activity
-    /// or step. A time unit is a working day. Errors of the calendar: `G1` (the date), `G2` (the
-    /// marks), `G5` and `G6` (the holidays), `G3` (a day after 9999-12-31).
+    /// The working days of a schedule, those of the first and of the last time unit of each
+    /// activity or step. A time unit is a working day. Errors of the calendar: `G1` (the date),
+    /// `G2` (the marks), `G5` and `G6` (the holidays), `G3` (a day after 9999-12-31).
     Days {
         origin: Origin<'a>,
         dates: Dates<'a>,
@@ -64,9 +66,9 @@ pub enum Task<'a> {
     /// The first fault in starts, in a sentence, or `active`. The faults in order: a broken arc, a
     /// capacity that is exceeded, an activity that can start earlier by itself. For a job shop: a
     /// step that starts before the one before it in the job ends, two steps at a time on a machine,
-    /// a step that can start earlier by itself. The starts are a text of one number for each activity
-    /// or step in order, 0–10,000,000. Errors: `S1`, then those of the starts (`F1`, `F2`, `F6`,
-    /// `F9`, `F10`), whose line ends with `of the starts`.
+    /// a step that can start earlier by itself. The starts are a text of one number for each
+    /// activity or step in order, 0–10,000,000. Errors: `S1`, then those of the starts (`F1`, `F2`,
+    /// `F6`, `F9`, `F10`), whose line ends with `of the starts`.
     Check {
         starts: &'a [u8],
         subject: Subject<'a>,
@@ -104,8 +106,8 @@ pub enum Task<'a> {
         instance: &'a str,
     },
     /// A schedule and a lower bound of the least makespan, which a search of at most this many
-    /// conflicts finds (for a project lazy clause generation, Ohrimenko, Stuckey and Codish 2009). A
-    /// number outside 1–1,000,000,000 counts as the nearest one inside. The text is like that of
+    /// conflicts finds (for a project lazy clause generation, Ohrimenko, Stuckey and Codish 2009).
+    /// A number outside 1–1,000,000,000 counts as the nearest one inside. The text is like that of
     /// [`Task::Prove`]. Error: `S1`.
     Solve {
         conflicts: u64,
@@ -128,39 +130,35 @@ pub enum Rows {
     Plain,
     /// With the names of activities, orders or machines that the file contains.
     Named,
-    /// As JSON or CSV, with these names. A text that is no table stays as it is.
+    /// As JSON or CSV, with these names. A file that a task makes stays as it is.
     In(Format),
 }
 
-// Returns the text of a task for a file, without names.
-fn text_of<V: ProofWatcher + SolveWatcher, L: Log>(
+// Returns what a task shows for a file.
+fn view_of<V: ProofWatcher + SolveWatcher, L: Log>(
     alloc: Global,
     task: Task<'_>,
     file: &[u8],
     watcher: &mut V,
     log: &mut L,
-) -> Result<Vec<u8>, CliFault>
-    ensures made { IfOk result (λ text. IsTextOf task.entry file.now text.items) }
+) -> Result<View, CliFault>
+    ensures made { IfView result (IsViewOf task.entry file.now) }
     ensures refused { IfErr result (Refuses (IsLineOf task.entry file.now)) }
 {
     match task {
-        Task::Dates => Ok(date_text(alloc, file)?.into_bytes()),
-        Task::Names => names_text(alloc, file),
-        Task::Slack { starts, capacities } => Ok(slacks_text(
-            alloc, starts, capacities, file,
-        )?.into_bytes()),
-        Task::Prove { nodes, instance } => Ok(proof_text(
-            alloc, nodes, instance, file, watcher,
-        )?.into_bytes()),
-        Task::Import { given } => Ok(import_text(alloc, given, file)?.into_bytes()),
-        Task::ImportShop => Ok(shop_import_text(alloc, file)?.into_bytes()),
+        Task::Dates => dates_of(alloc, file),
+        Task::Names => names_in(alloc, file),
+        Task::Slack { starts, capacities } => slacks_of(alloc, starts, capacities, file),
+        Task::Prove { nodes, instance } => proof_view(alloc, nodes, instance, file, watcher),
+        Task::Import { given } => Ok(View::Text(import_text(alloc, given, file)?.into_bytes())),
+        Task::ImportShop => Ok(View::Text(shop_import_text(alloc, file)?.into_bytes())),
         Task::Schedule { rule, subject } => {
             let command = Command::Schedule(rule);
-            subject_text(alloc, command, subject, file, watcher, log)
+            subject_view(alloc, command, subject, file, watcher, log)
         }
         Task::Chart { origin, subject } => {
             let command = Command::Chart(origin);
-            subject_text(alloc, command, subject, file, watcher, log)
+            subject_view(alloc, command, subject, file, watcher, log)
         }
         Task::Days {
             origin,
@@ -168,23 +166,23 @@ fn text_of<V: ProofWatcher + SolveWatcher, L: Log>(
             subject,
         } => {
             let command = Command::Days(origin, dates);
-            subject_text(alloc, command, subject, file, watcher, log)
+            subject_view(alloc, command, subject, file, watcher, log)
         }
         Task::Check { starts, subject } => {
             let command = Command::Check(starts);
-            subject_text(alloc, command, subject, file, watcher, log)
+            subject_view(alloc, command, subject, file, watcher, log)
         }
         Task::Compare { starts, subject } => {
             let command = Command::Compare(starts);
-            subject_text(alloc, command, subject, file, watcher, log)
+            subject_view(alloc, command, subject, file, watcher, log)
         }
         Task::Best { budget, subject } => {
             let command = Command::Best(budget);
-            subject_text(alloc, command, subject, file, watcher, log)
+            subject_view(alloc, command, subject, file, watcher, log)
         }
         Task::Solve { conflicts, subject } => {
             let command = Command::Solve(conflicts);
-            subject_text(alloc, command, subject, file, watcher, log)
+            subject_view(alloc, command, subject, file, watcher, log)
         }
     }
 }
@@ -210,23 +208,38 @@ fn names_for<'a>(
     }
 }
 
-// Returns the text of a task for a file, with names.
-fn named_text<V: ProofWatcher + SolveWatcher, L: Log>(
+// Returns the text of what a task shows for a file, without names.
+fn text_of<V: ProofWatcher + SolveWatcher, L: Log>(
     alloc: Global,
     task: Task<'_>,
     file: &[u8],
     watcher: &mut V,
     log: &mut L,
 ) -> Result<Vec<u8>, CliFault>
-    ensures made { IfOk result (λ text. ShowsTask Rows.Named task.entry file.now text.items) }
+    ensures made { IfOk result (λ text. IsTextOf task.entry file.now text.items) }
     ensures refused { IfErr result (Refuses (IsLineOf task.entry file.now)) }
 {
-    let text = text_of(alloc, task, file, watcher, log)?;
-    let names = names_for(alloc, task, file)?;
-    Ok(with_names(alloc, &names, &text)?)
+    let view = view_of(alloc, task, file, watcher, log)?;
+    Ok(plain_text(alloc, view)?)
 }
 
-// Returns the text of a task for a file in a format.
+// Returns the text of what a task shows for a file, with names.
+fn named_text_of<V: ProofWatcher + SolveWatcher, L: Log>(
+    alloc: Global,
+    task: Task<'_>,
+    file: &[u8],
+    watcher: &mut V,
+    log: &mut L,
+) -> Result<Vec<u8>, CliFault>
+    ensures made { IfOk result (λ text. IsNamedText task.entry file.now text.items) }
+    ensures refused { IfErr result (Refuses (IsLineOf task.entry file.now)) }
+{
+    let view = view_of(alloc, task, file, watcher, log)?;
+    let names = names_for(alloc, task, file)?;
+    Ok(named_text(alloc, view, &names)?)
+}
+
+// Returns what a task shows for a file in a format.
 fn formatted_text<V: ProofWatcher + SolveWatcher, L: Log>(
     alloc: Global,
     task: Task<'_>,
@@ -238,9 +251,9 @@ fn formatted_text<V: ProofWatcher + SolveWatcher, L: Log>(
     ensures made { IfOk result (λ text. IsFormattedText format task.entry file.now text.items) }
     ensures refused { IfErr result (Refuses (IsLineOf task.entry file.now)) }
 {
-    let text = text_of(alloc, task, file, watcher, log)?;
+    let view = view_of(alloc, task, file, watcher, log)?;
     let names = names_for(alloc, task, file)?;
-    Ok(formatted(alloc, task, format, &names, text)?)
+    Ok(text_in(alloc, format, view, &names)?)
 }
 
 /// Returns the text of a task for a file, with these rows. The watcher is called during a search of
@@ -258,7 +271,7 @@ pub(crate) fn shown_text<V: ProofWatcher + SolveWatcher, L: Log>(
 {
     match rows {
         Rows::Plain => text_of(alloc, task, file, watcher, log),
-        Rows::Named => named_text(alloc, task, file, watcher, log),
+        Rows::Named => named_text_of(alloc, task, file, watcher, log),
         Rows::In(format) => formatted_text(alloc, task, format, file, watcher, log),
     }
 }

@@ -1,56 +1,37 @@
 //! `plan check`: the first fault in a list of starts, or that they are active.
 
-ghost use Rattle.std.specs.Prelude.{◌≡◌, ◌++◌, All, IfOk, IfErr, OnOk, codes, length};
+ghost use Rattle.std.specs.Prelude.{◌≡◌, ◌++◌, All, IfOk, IfErr, OnOk, length};
 ghost use Rattle.std.specs.Prelude.{string_bytes};
 ghost use Rattle.plan_profile.specs.Usage.{IsInTime};
 ghost use Rattle.plan_sgs.specs.Problem.{IsFeasible};
 ghost use Rattle.plan_sgs.specs.Verdicts.{IsFirstVerdict};
 ghost use Rattle.plan_errors.specs.Output.{Refuses};
-ghost use Rattle.plan_cli.specs.Run.{IfText};
+ghost use Rattle.plan_cli.specs.TaskViews.{IsVerdictView};
+ghost use Rattle.plan_cli.specs.Views.{IfView, table, view_of};
+ghost use Rattle.plan_views.specs.LineLists.{verdict_view_of};
 ghost use Rattle.plan_cli.specs.Documents.{count_of, problem_of};
 ghost use Rattle.plan_report.specs.VerdictText.{sentence_of, shop_sentence_of};
 ghost use Rattle.plan_cli.specs.VerdictText.{infeasible_line};
 ghost use Rattle.plan_cli.specs.CheckRun as spec;
 
 use crate::documents::Plan;
+use crate::infeasible::{infeasible_refusal, shop_infeasible_refusal};
 use crate::starts::starts_of;
-use plan_errors::{CliFault, refusal_by};
+use crate::views::View;
+use plan_errors::CliFault;
 use plan_report::{push_sentence, push_shop_sentence};
 use plan_sgs::{Verdict, check};
 use plan_shop::{self, Shop};
 use std::alloc::{AllocError, Global};
 
-/// Returns the error line of infeasible starts of a project, for their verdict.
-pub(crate) fn infeasible_text(alloc: Global, verdict: Verdict) -> Result<String, AllocError>
-    ensures { IfOk result (λ text. string_bytes text ≡ infeasible_line (sentence_of verdict)) }
-{
-    let mut text = "S10 ".to_string(alloc)?;
-    push_sentence(&mut text, verdict)?;
-    Ok(text)
-}
-
-// Returns the error line of infeasible starts of a job shop, for their verdict.
-fn shop_infeasible_text(alloc: Global, shop: &Shop, verdict: Verdict) -> Result<String, AllocError>
-    ensures { IfOk result (λ text.
-        string_bytes text ≡ infeasible_line (shop_sentence_of shop.now verdict)) }
-{
-    let mut text = "S10 ".to_string(alloc)?;
-    push_shop_sentence(&mut text, shop, verdict)?;
-    Ok(text)
-}
-
-// Returns the error line of infeasible starts of a plan, for their verdict.
-fn plan_infeasible_text(
-    alloc: Global,
-    plan: &Plan<'_>,
-    verdict: Verdict,
-) -> Result<String, AllocError>
-    ensures { IfOk result (λ text.
-        string_bytes text ≡ infeasible_line (spec.sentence_of plan.now verdict)) }
+// Returns the error of infeasible starts of a plan, for their verdict.
+fn plan_infeasible(alloc: Global, plan: &Plan<'_>, verdict: Verdict) -> CliFault
+    ensures told { Refuses
+        (λ line. line ≡ infeasible_line (spec.sentence_of plan.now verdict)) result }
 {
     match plan {
-        Plan::Project(_) => infeasible_text(alloc, verdict),
-        Plan::Shop(shop) => shop_infeasible_text(alloc, shop, verdict),
+        Plan::Project(_) => infeasible_refusal(alloc, verdict),
+        Plan::Shop(shop) => shop_infeasible_refusal(alloc, shop, verdict),
     }
 }
 
@@ -65,14 +46,12 @@ fn push_verdict(text: &mut String, plan: &Plan<'_>, verdict: Verdict) -> Result<
     }
 }
 
-// Returns the sentence of a verdict, with its end of line.
-fn verdict_text(alloc: Global, plan: &Plan<'_>, verdict: Verdict) -> Result<String, AllocError>
-    ensures { IfOk result (λ text.
-        string_bytes text ≡ spec.sentence_of plan.now verdict ++ codes "\n") }
+// Returns the sentence of a verdict.
+fn sentence(alloc: Global, plan: &Plan<'_>, verdict: Verdict) -> Result<String, AllocError>
+    ensures { IfOk result (λ text. string_bytes text ≡ spec.sentence_of plan.now verdict) }
 {
     let mut text = String::new(alloc);
     push_verdict(&mut text, plan, verdict)?;
-    text.push_str("\n")?;
     Ok(text)
 }
 
@@ -98,19 +77,38 @@ pub(crate) fn check_feasible(alloc: Global, plan: &Plan<'_>, starts: &[u64]) -> 
 {
     let verdict = first_verdict(alloc, plan, starts)?;
     match verdict {
-        Verdict::Arc(_, _) | Verdict::Over(_, _) => Err(refusal_by(plan_infeasible_text(
-            alloc, plan, verdict,
-        ))),
+        Verdict::Arc(_, _) | Verdict::Over(_, _) => Err(plan_infeasible(alloc, plan, verdict)),
         Verdict::Shift(_) | Verdict::Active => Ok(()),
     }
 }
 
-/// Returns the verdict on the starts in a text.
-pub(crate) fn check_text(alloc: Global, listed: &[u8], plan: &Plan<'_>) -> Result<String, CliFault>
-    ensures made { IfText result (spec.TellsVerdictOn listed.now plan.now) }
+/// Returns the first verdict on the starts in a text.
+pub(crate) fn verdict_of(alloc: Global, listed: &[u8], plan: &Plan<'_>) -> Result<Verdict, CliFault>
+    ensures made { IfOk result (spec.IsVerdictOn listed.now plan.now) }
     ensures refused { IfErr result (Refuses (spec.TellsBadStarts listed.now plan.now)) }
 {
     let starts = starts_of(alloc, plan, listed)?;
-    let verdict = first_verdict(alloc, plan, &starts)?;
-    Ok(verdict_text(alloc, plan, verdict)?)
+    first_verdict(alloc, plan, &starts)
+}
+
+/// Returns what `check` shows for a verdict on the starts of a plan.
+pub(crate) fn shown_verdict(
+    alloc: Global,
+    plan: &Plan<'_>,
+    verdict: Verdict,
+) -> Result<View, AllocError>
+    ensures { IfOk result (λ view.
+        view_of view ≡ table (verdict_view_of (spec.sentence_of plan.now verdict))) }
+{
+    Ok(View::Verdict(sentence(alloc, plan, verdict)?))
+}
+
+/// Returns what `check` shows for the starts in a text.
+#[tactic(auto, using(crate::proofs::CheckLemmas::verdict_shown))]
+pub(crate) fn verdict_on(alloc: Global, listed: &[u8], plan: &Plan<'_>) -> Result<View, CliFault>
+    ensures made { IfView result (IsVerdictView listed.now plan.now) }
+    ensures refused { IfErr result (Refuses (spec.TellsBadStarts listed.now plan.now)) }
+{
+    let verdict = verdict_of(alloc, listed, plan)?;
+    Ok(shown_verdict(alloc, plan, verdict)?)
 }

@@ -34,11 +34,15 @@ abbrev pub explanation : Code → Option Code → List ℕ
 explanation code None = entry_of code
 explanation code (Some carried) = entry_of code ++ (codes "\n" ++ entry_of carried)
 
+-- an error line with these tokens starts with a code, and carries the error of another one or none
+abbrev pub NamesCodes : List (List ℕ) → Code → Option Code → Type 0
+NamesCodes tokens code carried =
+    StartsWithCode tokens (Some code) × CarriesCode code (drop 1 tokens) carried
+
 -- a text explains an error line with these tokens
 abbrev pub ExplainsTokens : List (List ℕ) → List ℕ → Type 0
 ExplainsTokens tokens text = (code : Code) × (carried : Option Code)
-    × StartsWithCode tokens (Some code) × CarriesCode code (drop 1 tokens) carried
-    × (text ≡ explanation code carried)
+    × NamesCodes tokens code carried × (text ≡ explanation code carried)
 
 -- a text explains an error line
 abbrev pub Explains : List ℕ → List ℕ → Type 0

@@ -1,9 +1,12 @@
+pub mod Parts
 pub mod Faults
 pub mod Output
 pub mod Codes
 pub mod ExplainRun
 pub mod Subjects
 pub mod HintText
+pub mod ErrorData
 pub use Rattle.plan_io.specs.Devices
 pub use Rattle.plan_psplib.specs.Lines
 pub use Rattle.plan_psplib.specs.Plain
+pub use Rattle.plan_formats.specs.JsonText

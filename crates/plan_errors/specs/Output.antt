@@ -1,9 +1,9 @@
 -- The output of a command: a text, or the line of an error (docs/definitions.md, "Runs").
 use Rattle.std.specs.Prelude.{◌≡◌, ℕ, ◌<◌, List, Option, Result, Ok, Err, length, take}
-use Rattle.std.specs.Prelude.{string_bytes}
 use Rattle.std.specs.Io.KnownBytes.{Appends}
 use Rattle.plan_io.specs.declared.traits.Sink as sinks
 use Rattle.plan_io.specs.Devices.{HasFailed}
+use Rattle.plan_errors.specs.Faults.{refusal_line}
 use Rattle.plan_errors.specs.declared.fault.CliFault.{CliFault}
 use Rattle.plan_errors.specs.declared.fault.CliFault.TheVariants as fault
 
@@ -13,16 +13,16 @@ use Rattle.plan_errors.specs.declared.fault.CliFault.TheVariants as fault
 abbrev pub Writes : (List ℕ → Type 0) → (List ℕ → Type 0) → Option (List ℕ) → Option (List ℕ)
     → Result (Unit {0}) CliFault → Type 0
 Writes IsText IsLine taken after (Ok _) = (text : List ℕ) × IsText text × Appends taken after text
-Writes IsText IsLine taken after (Err (fault.Refused line)) =
-    IsLine (string_bytes line) × (after ≡ taken)
+Writes IsText IsLine taken after (Err (fault.Refused refusal)) =
+    IsLine (refusal_line refusal) × (after ≡ taken)
 Writes IsText IsLine taken after (Err fault.Memory) = after ≡ taken
 Writes IsText IsLine taken after (Err fault.Input) = after ≡ taken
 Writes IsText IsLine taken after (Err fault.Output) =
     (text : List ℕ) × (n : ℕ) × IsText text × (n < length text) × Appends taken after (take n text)
 
--- a command refuses a file by such a line, or memory runs out
+-- a command refuses a file with such a line, or memory runs out
 abbrev pub Refuses : (List ℕ → Type 0) → CliFault → Type 0
-Refuses IsLine (fault.Refused line) = IsLine (string_bytes line)
+Refuses IsLine (fault.Refused refusal) = IsLine (refusal_line refusal)
 Refuses IsLine fault.Memory = Unit {0}
 Refuses IsLine fault.Input = ⊥
 Refuses IsLine fault.Output = ⊥

@@ -1,7 +1,6 @@
 -- What an error is about, and its likely cause (docs/definitions.md, "Runs").
-use Rattle.std.specs.Prelude.{ℕ, List, Option, None, if◌then◌else◌, codes}
-use Rattle.std.specs.List.{ends_with}
-use lib.Dec.{eqb}
+use Rattle.std.specs.Prelude.{ℕ, Bool, true, false, ◌&&◌, if◌then◌else◌, List, Option, None}
+use Rattle.std.specs.Prelude.{bytes_eq, codes}
 use denote.Ref.{Bor}
 use Rattle.plan_errors.specs.Codes.{cause_of}
 use Rattle.plan_errors.specs.declared.codes.Code.{Code}
@@ -29,62 +28,20 @@ argument_of context subject.Office = context.office
 argument_of context subject.Unread = context.unread
 argument_of context subject.Other = None
 
--- what the errors of a code are about, if their lines name no starts
-abbrev pub usual_subject : Code → Subject
-usual_subject code.LongTable = subject.List
-usual_subject code.NoTableText = subject.List
-usual_subject code.NoDurations = subject.List
-usual_subject code.ColumnTwice = subject.List
-usual_subject code.BadDuration = subject.List
-usual_subject code.BadId = subject.List
-usual_subject code.IdTwice = subject.List
-usual_subject code.NoPredecessor = subject.List
-usual_subject code.BadNeed = subject.List
-usual_subject code.NoCapacity = subject.List
-usual_subject code.TableCycle = subject.List
-usual_subject code.TableLimit = subject.List
-usual_subject code.BadCells = subject.List
-usual_subject code.ManySteps = subject.List
-usual_subject code.LateEnd = subject.Starts
-usual_subject code.Infeasible = subject.Starts
-usual_subject code.BadHoliday = subject.Holidays
-usual_subject code.ManyHolidays = subject.Holidays
-usual_subject code.UnknownRule = subject.Rule
-usual_subject code.BadBudget = subject.Limit
-usual_subject code.BadNodes = subject.Limit
-usual_subject code.BadDate = subject.FirstDate
-usual_subject code.BadDays = subject.Weekdays
-usual_subject code.NoResource = subject.Capacity
-usual_subject code.NoListResource = subject.Capacity
-usual_subject code.NotOurs = subject.Office
-usual_subject code.Version = subject.Office
-usual_subject code.NoKey = subject.Office
-usual_subject code.StoreRefused = subject.Office
-usual_subject code.Input = subject.Unread
-usual_subject code.DoesNotFollow = subject.Other
-usual_subject code.BadLogLine = subject.Other
-usual_subject code.UnknownCode = subject.Other
-usual_subject code.NoMemory = subject.Other
-usual_subject code.Socket = subject.Other
-usual_subject code.Output = subject.Other
-usual_subject _ = subject.Plan
+-- whether a subject is a file
+abbrev pub is_file : Subject → Bool
+is_file subject.Rule = false
+is_file subject.Limit = false
+is_file subject.FirstDate = false
+is_file subject.Weekdays = false
+is_file subject.Capacity = false
+is_file subject.Other = false
+is_file _ = true
 
--- the file that the end of a line about a file names: a file of starts, or else the plan's
-abbrev pub named_file : List ℕ → Subject
-named_file line =
-    if ends_with eqb line (codes " of the starts") then subject.Starts
-    else if ends_with eqb line (codes " of the starts A") then subject.StartsA
-    else if ends_with eqb line (codes " of the starts B") then subject.StartsB
-    else subject.Plan
-
--- a subject, or the file that a line names if the subject is the plan
-abbrev pub narrowed : List ℕ → Subject → Subject
-narrowed line subject.Plan = named_file line
-narrowed line about = about
-
--- what an error line with this code is about
-abbrev pub subject_in : List ℕ → Code → Subject
-subject_in line code = narrowed line (usual_subject code)
+-- an argument as hints print it: a file with the name `-` is standard input
+abbrev pub shown_as : Subject → List ℕ → List ℕ
+shown_as about argument =
+    if is_file about && bytes_eq argument (codes "-") then codes "standard input" else argument
 
 -- the likely cause of an error of a project or a job shop whose file has these contents
 abbrev pub plan_cause : Contents → Code → List ℕ

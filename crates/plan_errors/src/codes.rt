@@ -2,12 +2,13 @@
 //! docs/entries from docs/errors.md.
 
 ghost use Rattle.std.specs.Prelude.{◌≡◌, IfSome, IfNone};
-ghost use Rattle.plan_errors.specs.Codes.{name_of, cause_of, entry_of, carries_error};
+ghost use Rattle.plan_errors.specs.Codes.{name_of, cause_of, carries_error};
+ghost use Rattle.plan_errors.specs.Codes.{form_of, meaning_of, remedy_of};
 ghost use Rattle.plan_errors.specs.declared.codes.Code.{Code};
 
 /// The code of an error line.
 #[derive(Clone, Copy, Debug, PartialEq, Eq)]
-pub(crate) enum Code {
+pub enum Code {
     TooLong,
     NotText,
     MissingHead,
@@ -166,7 +167,7 @@ impl Code {
     }
 
     /// Returns its name, such as `F9`.
-    pub(crate) fn name(self) -> &'static str
+    pub fn name(self) -> &'static str
         ensures { result.now ≡ name_of self }
     {
         match self {
@@ -332,226 +333,366 @@ impl Code {
         matches!(self, Code::BadFile | Code::NoSchedule | Code::BadCalendar)
     }
 
-    /// Returns the form of its line, the meaning and what to do.
-    pub(crate) fn entry(self) -> &'static str
-        ensures { result.now ≡ entry_of self }
+    /// Returns the form of its line, such as `F9 line N`.
+    pub fn form(self) -> &'static str
+        ensures { result.now ≡ form_of self }
     {
         match self {
-            Code::TooLong => {
-                "F1 line 0\nThe file is larger than 1,048,576 bytes.\nDelete comments and blank lines, or split the project.\n"
-            }
-            Code::NotText => {
-                "F2 line N\nLine N contains a zero byte, so the file isn't text.\nSave it as plain text (UTF-8 or ASCII, not UTF-16).\n"
-            }
+            Code::TooLong => "F1 line 0",
+            Code::NotText => "F2 line N",
+            Code::MissingHead => "F3 line N",
+            Code::Unsupported => "F4 line N",
+            Code::MissingSection => "F5 line N",
+            Code::BadNumber => "F6 line N",
+            Code::JobOrder => "F7 line N",
+            Code::Modes => "F8 line N",
+            Code::Count => "F9 line N",
+            Code::Limit => "F10 line N",
+            Code::Double => "F11 line N",
+            Code::Cycle => "F12 line N cycle A B ..",
+            Code::NoInstance => "F13 line N",
+            Code::BadMachine => "F14 line N",
+            Code::LongTable => "T1 too long",
+            Code::NoTableText => "T2 not text line N",
+            Code::NoDurations => "T3 no column NAME",
+            Code::ColumnTwice => "T4 column NAME twice",
+            Code::BadDuration => "T5 line N duration",
+            Code::BadId => "T6 line N id",
+            Code::IdTwice => "T7 line N id ID twice",
+            Code::NoPredecessor => "T8 line N predecessor ID",
+            Code::BadNeed => "T9 line N need RESOURCE",
+            Code::NoCapacity => "T10 no capacity RESOURCE",
+            Code::TableCycle => "T11 cycle A B ..",
+            Code::TableLimit => "T12 limit line N",
+            Code::BadCells => "T13 line N cells",
+            Code::NoListResource => "T14 no resource NAME",
+            Code::ManySteps => "T15 steps ORDER",
+            Code::NeedsTooMuch => "S1 activity A resource R",
+            Code::UnknownRule => "S3 unknown rule",
+            Code::MachineClosed => "S4 machine M closed",
+            Code::TooLarge => "S5 too large",
+            Code::BadBudget => "S6 budget",
+            Code::BadNodes => "S7 nodes",
+            Code::NoResource => "S8 no resource NAME",
+            Code::LateEnd => "S9 late",
+            Code::Infeasible => "S10 VERDICT",
+            Code::BadDate => "G1 date",
+            Code::BadDays => "G2 days",
+            Code::BeyondCalendar => "G3 beyond calendar",
+            Code::NoCalendar => "G4 no calendar",
+            Code::BadHoliday => "G5 line N date",
+            Code::ManyHolidays => "G6 holidays",
+            Code::DoesNotFollow => "V1 line N",
+            Code::BadLogLine => "V2 line N",
+            Code::UnknownCode => "C1 unknown code",
+            Code::BadMessage => "H1 message",
+            Code::LargeBody => "H2 too large",
+            Code::Coding => "H3 coding",
+            Code::NoRoute => "H4 route",
+            Code::OtherMethod => "H5 method",
+            Code::WrongKey => "E01 key",
+            Code::NotFound => "E02 not found",
+            Code::BadBody => "E03 body",
+            Code::DeskExists => "E04 desk exists",
+            Code::NotPublished => "E05 code not published",
+            Code::KindDiffers => "E06 kind differs",
+            Code::OtherPlan => "E07 other kind of plan",
+            Code::ManyPlans => "E08 100 plans",
+            Code::NumbersSpent => "E09 numbers spent",
+            Code::BadFile => "E10 ..",
+            Code::NoSchedule => "E11 ..",
+            Code::BadCalendar => "E12 ..",
+            Code::NotOurs => "K1 not ours",
+            Code::Version => "K2 version",
+            Code::NoKey => "K3 key",
+            Code::NoMemory => "E90 memory",
+            Code::StoreRefused => "E91 store",
+            Code::Input => "I1 file",
+            Code::Socket => "I2 socket",
+            Code::Output => "I3 output",
+        }
+    }
+
+    /// Returns what it means.
+    pub fn meaning(self) -> &'static str
+        ensures { result.now ≡ meaning_of self }
+    {
+        match self {
+            Code::TooLong => "The file is larger than 1,048,576 bytes.",
+            Code::NotText => "Line N contains a zero byte, so the file isn't text.",
             Code::MissingHead => {
-                "F3 line N\nThe header lacks a key: projects, jobs, - renewable, - nonrenewable or - doubly constrained. N is the last line.\nAdd the line before the first section title, for example jobs : 6.\n"
+                "The header lacks a key: projects, jobs, - renewable, - nonrenewable or - doubly constrained. N is the last line."
             }
             Code::Unsupported => {
-                "F4 line N\nLine N declares a kind of project that isn't supported: a number of projects other than 1, or nonrenewable or doubly constrained resources.\nDeclare 1 project, and 0 resources of both kinds.\n"
+                "Line N declares a kind of project that isn't supported: a number of projects other than 1, or nonrenewable or doubly constrained resources."
             }
             Code::MissingSection => {
-                "F5 line N\nA section title is missing: PRECEDENCE RELATIONS, REQUESTS/DURATIONS or RESOURCEAVAILABILITIES. N is the last line.\nAdd the section. Its title starts a line, in capitals.\n"
+                "A section title is missing: PRECEDENCE RELATIONS, REQUESTS/DURATIONS or RESOURCEAVAILABILITIES. N is the last line."
             }
             Code::BadNumber => {
-                "F6 line N\nLine N lacks a required number (one to nine digits, no sign); or a key of the header has no colon or no value.\nCorrect the number, or complete the header line.\n"
+                "Line N lacks a required number (one to nine digits, no sign); or a key of the header has no colon or no value."
             }
-            Code::JobOrder => {
-                "F7 line N\nA job number in line N is out of order, or no job has this number.\nNumber the jobs 1, 2, 3 and so on; name only jobs of the file as successors.\n"
-            }
-            Code::Modes => {
-                "F8 line N\nThe number of modes, or the mode, in line N isn't 1.\nGive each job one mode.\n"
-            }
+            Code::JobOrder => "A job number in line N is out of order, or no job has this number.",
+            Code::Modes => "The number of modes, or the mode, in line N isn't 1.",
             Code::Count => {
-                "F9 line N\nA token is missing or extra. If it is missing, N is the line of the last token (of the title or the instance line if there is none), else of the first extra token.\nCompare the counts in the file with its rows.\n"
+                "A token is missing or extra. If it is missing, N is the line of the last token (of the title or the instance line if there is none), else of the first extra token."
             }
             Code::Limit => {
-                "F10 line N\nA number in line N is out of range. Projects: 2 to 502 jobs, 1 to 16 resources. Shops: 1 to 50 jobs, 1 to 20 machines. Durations and amounts: up to 10,000; all durations together up to 1,000,000. Starts: up to 10,000,000.\nChoose a coarser time unit, or split the project.\n"
+                "A number in line N is out of range. Projects: 2 to 502 jobs, 1 to 16 resources. Shops: 1 to 50 jobs, 1 to 20 machines. Durations and amounts: up to 10,000; all durations together up to 1,000,000. Starts: up to 10,000,000."
             }
-            Code::Double => {
-                "F11 line N\nA row names a successor twice. N is the line of the second one.\nDelete one, and lower the count of successors.\n"
-            }
+            Code::Double => "A row names a successor twice. N is the line of the second one.",
             Code::Cycle => {
-                "F12 line N cycle A B ..\nThe activities A, B, .. form a cycle: each precedes the next, and the last precedes A. N is the line of the title PRECEDENCE RELATIONS.\nDelete one arc of the cycle.\n"
+                "The activities A, B, .. form a cycle: each precedes the next, and the last precedes A. N is the line of the title PRECEDENCE RELATIONS."
             }
-            Code::NoInstance => {
-                "F13 line N\nThe file has no instance of this name. N is the last line.\nList the names with plan names. A file that starts with its two numbers has one instance, named -.\n"
-            }
+            Code::NoInstance => "The file has no instance of this name. N is the last line.",
             Code::BadMachine => {
-                "F14 line N\nA machine number in line N is too large. Machines are numbered from 0 to one less than their count.\nCorrect the number.\n"
+                "A machine number in line N is too large. Machines are numbered from 0 to one less than their count."
             }
             Code::LongTable => {
-                "T1 too long\nThe table, or the project file that it becomes, is larger than 1,048,576 bytes.\nDelete rows, or split the project.\n"
+                "The table, or the project file that it becomes, is larger than 1,048,576 bytes."
             }
             Code::NoTableText => {
-                "T2 not text line N\nLine N isn't UTF-8, or a name or a predecessor in it contains a control character.\nSave the table as CSV UTF-8, and delete line breaks in names.\n"
+                "Line N isn't UTF-8, or a name or a predecessor in it contains a control character."
             }
             Code::NoDurations => {
-                "T3 no column NAME\nNo column has the header duration (with --shop: order, machine or time); or the table is empty.\nAdd a header line with this column.\n"
+                "No column has the header duration (with --shop: order, machine or time); or the table is empty."
             }
             Code::ColumnTwice => {
-                "T4 column NAME twice\nTwo columns have the same header, or two words for one column: name and task, or predecessors, after and depends on.\nRename or delete one.\n"
+                "Two columns have the same header, or two words for one column: name and task, or predecessors, after and depends on."
             }
             Code::BadDuration => {
-                "T5 line N duration\nThe duration or time in line N isn't a number: one to nine digits, no sign, no fraction.\nCorrect the duration. For fractions use a finer time unit, for example hours.\n"
+                "The duration or time in line N isn't a number: one to nine digits, no sign, no fraction."
             }
             Code::BadId => {
-                "T6 line N id\nThe id in line N is empty, has more than 32 characters, or contains a blank, a comma, a semicolon or a control character. With --shop: the name of an order or a machine is empty.\nShorten the id, or replace its blanks.\n"
+                "The id in line N is empty, has more than 32 characters, or contains a blank, a comma, a semicolon or a control character. With --shop: the name of an order or a machine is empty."
             }
-            Code::IdTwice => {
-                "T7 line N id ID twice\nThe id in line N is the id of an earlier row.\nGive each row its own id.\n"
-            }
-            Code::NoPredecessor => {
-                "T8 line N predecessor ID\nA predecessor in line N is the id of no row.\nCorrect the predecessor, or add its row.\n"
-            }
+            Code::IdTwice => "The id in line N is the id of an earlier row.",
+            Code::NoPredecessor => "A predecessor in line N is the id of no row.",
             Code::BadNeed => {
-                "T9 line N need RESOURCE\nThe need of this resource in line N, or its capacity, isn't a number: one to nine digits, no sign, no fraction.\nCorrect the cell. If the column isn't a resource, delete it or its header.\n"
+                "The need of this resource in line N, or its capacity, isn't a number: one to nine digits, no sign, no fraction."
             }
-            Code::NoCapacity => {
-                "T10 no capacity RESOURCE\nThe resource has no capacity.\nAdd a row with the id capacity and the amounts, or the option --capacity NAME=N. If the column isn't a resource, delete it or its header.\n"
-            }
+            Code::NoCapacity => "The resource has no capacity.",
             Code::TableCycle => {
-                "T11 cycle A B ..\nThe rows with these ids form a cycle: each precedes the next, and the last precedes A.\nDelete one of these predecessors.\n"
+                "The rows with these ids form a cycle: each precedes the next, and the last precedes A."
             }
             Code::TableLimit => {
-                "T12 limit line N\nA limit is exceeded in line N: 1 to 500 rows, 16 resources, durations and amounts up to 10,000, all durations together up to 1,000,000, names up to 200 bytes. With --shop: 1 to 50 orders and 1 to 20 machines. Line 0 is the whole list.\nChoose a coarser time unit, or split the project.\n"
+                "A limit is exceeded in line N: 1 to 500 rows, 16 resources, durations and amounts up to 10,000, all durations together up to 1,000,000, names up to 200 bytes. With --shop: 1 to 50 orders and 1 to 20 machines. Line 0 is the whole list."
             }
             Code::BadCells => {
-                "T13 line N cells\nLine N has more cells than the header, or a quote that opens in line N isn't closed.\nDelete the extra cells, put quotes around a cell with a separator, or close the quote.\n"
+                "Line N has more cells than the header, or a quote that opens in line N isn't closed."
             }
             Code::NoListResource => {
-                "T14 no resource NAME\nThe option --capacity names a resource that no column of the list has.\nCorrect the name, or delete the option.\n"
+                "The option --capacity names a resource that no column of the list has."
             }
-            Code::ManySteps => {
-                "T15 steps ORDER\nThe order has more steps than the list has machines.\nMerge steps of the order, or split the order.\n"
-            }
+            Code::ManySteps => "The order has more steps than the list has machines.",
             Code::NeedsTooMuch => {
-                "S1 activity A resource R\nActivity A takes time and needs more of resource R than its capacity, so it can never start. A is the first such activity and R its first such resource.\nRaise the capacity, or lower the need.\n"
+                "Activity A takes time and needs more of resource R than its capacity, so it can never start. A is the first such activity and R its first such resource."
             }
-            Code::UnknownRule => {
-                "S3 unknown rule\nNo priority rule has this name.\nUse lft, slk, spt, mts or num for a project, spt, mwkr or fcfs for a job shop, in lower case.\n"
-            }
+            Code::UnknownRule => "No priority rule has this name.",
             Code::MachineClosed => {
-                "S4 machine M closed\nMachine M is bound to a code with capacity 0, and a step that takes time needs it. M is the first such machine, counted from 0.\nPublish a capacity of 1 or more for the code, or bind the machine to another code.\n"
+                "Machine M is bound to a code with capacity 0, and a step that takes time needs it. M is the first such machine, counted from 0."
             }
             Code::TooLarge => {
-                "S5 too large\nA search was requested, and the project has more than 40 activities, or the shop more than 100 steps.\nUse plan solve, or plan schedule for the project, plan shop for the shop.\n"
+                "A search was requested, and the project has more than 40 activities, or the shop more than 100 steps."
             }
             Code::BadBudget => {
-                "S6 budget\nThe budget isn't a number from 1 to 200000 in digits, without leading zeros or a sign.\nGive a budget of at most 200000.\n"
+                "The budget isn't a number from 1 to 200000 in digits, without leading zeros or a sign."
             }
             Code::BadNodes => {
-                "S7 nodes\nThe number of nodes isn't a number from 1 to 1000000000 in digits, without leading zeros or a sign.\nStart with 1000000, which takes some seconds.\n"
+                "The number of nodes isn't a number from 1 to 1000000000 in digits, without leading zeros or a sign."
             }
-            Code::NoResource => {
-                "S8 no resource NAME\nThe project has no resource with this name.\nName a resource by its number in the file, for example R2=4 for the second.\n"
-            }
-            Code::LateEnd => {
-                "S9 late\nThe schedule ends after 10,000,000.\nStart the activities earlier, or use larger time units.\n"
-            }
+            Code::NoResource => "The project has no resource with this name.",
+            Code::LateEnd => "The schedule ends after 10,000,000.",
             Code::Infeasible => {
-                "S10 VERDICT\nThe start times aren't feasible. The verdict is the line that plan check prints: the first activity that starts before a predecessor ends, else the first instant at which a resource or a machine is overloaded.\nCorrect the start times. Check them with plan check.\n"
+                "The start times aren't feasible. The verdict is the line that plan check prints: the first activity that starts before a predecessor ends, else the first instant at which a resource or a machine is overloaded."
             }
             Code::BadDate => {
-                "G1 date\nThe first date isn't a date from 1900-01-01 to 2199-12-31 in the form 2024-03-01.\nCorrect the date.\n"
+                "The first date isn't a date from 1900-01-01 to 2199-12-31 in the form 2024-03-01."
             }
             Code::BadDays => {
-                "G2 days\nThe weekday marks aren't seven digits 0 or 1, Monday first, or all of them are 0.\nWrite 1111100 for Monday to Friday. plan days also takes mon-fri.\n"
+                "The weekday marks aren't seven digits 0 or 1, Monday first, or all of them are 0."
             }
-            Code::BeyondCalendar => {
-                "G3 beyond calendar\nA day of the result is after 9999-12-31.\nMark more working days, or choose a coarser time unit.\n"
-            }
-            Code::NoCalendar => {
-                "G4 no calendar\nWorking days were requested, and the plan has no calendar.\nSet its first date and its weekday marks.\n"
-            }
+            Code::BeyondCalendar => "A day of the result is after 9999-12-31.",
+            Code::NoCalendar => "Working days were requested, and the plan has no calendar.",
             Code::BadHoliday => {
-                "G5 line N date\nLine N of the file of holidays is neither a date from 1900-01-01 to 2199-12-31, such as 2024-12-25, nor a range such as 2024-12-24..2024-12-31.\nCorrect the line. A comment starts with #.\n"
+                "Line N of the file of holidays is neither a date from 1900-01-01 to 2199-12-31, such as 2024-12-25, nor a range such as 2024-12-24..2024-12-31."
             }
             Code::ManyHolidays => {
-                "G6 holidays\nThe file of holidays names more than 10,000 days, or has more than 1,048,576 bytes. A day counts as often as it is named.\nDelete the days before and after the schedule.\n"
+                "The file of holidays names more than 10,000 days, or has more than 1,048,576 bytes. A day counts as often as it is named."
             }
             Code::DoesNotFollow => {
-                "V1 line N\nLine N of the log doesn't follow from the problem and the lines above it, so the log shows nothing.\nGive the file of which the log was written, or write the log again with plan solve --log.\n"
+                "Line N of the log doesn't follow from the problem and the lines above it, so the log shows nothing."
             }
-            Code::BadLogLine => {
-                "V2 line N\nLine N isn't a line of a log of plan solve --log.\nCheck the name of the log, or write it again.\n"
-            }
-            Code::UnknownCode => {
-                "C1 unknown code\nNo error has this code.\nGive an error line or its first word, for example F7.\n"
-            }
+            Code::BadLogLine => "Line N isn't a line of a log of plan solve --log.",
+            Code::UnknownCode => "No error has this code.",
             Code::BadMessage => {
-                "H1 message\nThe connection doesn't start with the head of a request (at most 8,192 bytes and 64 fields); or the Host field is missing (HTTP/1.1) or occurs twice; or Content-Length isn't a number or has two values; or the body is shorter than Content-Length.\nSend a complete request, with an ordinary HTTP client.\n"
+                "The connection doesn't start with the head of a request (at most 8,192 bytes and 64 fields); or the Host field is missing (HTTP/1.1) or occurs twice; or Content-Length isn't a number or has two values; or the body is shorter than Content-Length."
             }
-            Code::LargeBody => {
-                "H2 too large\nThe body is larger than 1,048,576 bytes.\nSend a smaller file.\n"
-            }
-            Code::Coding => {
-                "H3 coding\nThe request has a Transfer-Encoding field.\nSend the body as it is, with Content-Length.\n"
-            }
-            Code::NoRoute => {
-                "H4 route\nNo route has this path.\nCompare the path with docs/api.md: no query, no percent sign, no slash at the end.\n"
-            }
-            Code::OtherMethod => {
-                "H5 method\nThe route has another method, named in the Allow field.\nSend the request with that method.\n"
-            }
+            Code::LargeBody => "The body is larger than 1,048,576 bytes.",
+            Code::Coding => "The request has a Transfer-Encoding field.",
+            Code::NoRoute => "No route has this path.",
+            Code::OtherMethod => "The route has another method, named in the Allow field.",
             Code::WrongKey => {
-                "E01 key\nThe Desk-Key field is missing, occurs twice, or isn't the key of the desk (or of the office); or there is no such desk.\nSend the office's key for /office, the desk's key for /desks.\n"
+                "The Desk-Key field is missing, occurs twice, or isn't the key of the desk (or of the office); or there is no such desk."
             }
             Code::NotFound => {
-                "E02 not found\nThe desk has no plan of this number. For a new key: there is no such desk.\nRequest the list of plans.\n"
+                "The desk has no plan of this number. For a new key: there is no such desk."
             }
             Code::BadBody => {
-                "E03 body\nThe body isn't a JSON object with all required members, each of its type and in its range; or the plan has no such place, or the project no such arc.\nCompare the body with docs/api.md.\n"
+                "The body isn't a JSON object with all required members, each of its type and in its range; or the plan has no such place, or the project no such arc."
             }
-            Code::DeskExists => {
-                "E04 desk exists\nThere is a desk of this name already.\nChoose another name, or give the desk a new key.\n"
-            }
-            Code::NotPublished => {
-                "E05 code not published\nThe office has not published this code.\nRequest the capacities, or publish the code.\n"
-            }
+            Code::DeskExists => "There is a desk of this name already.",
+            Code::NotPublished => "The office has not published this code.",
             Code::KindDiffers => {
-                "E06 kind differs\nThe code is published as the other kind, or bound to a plan of the other kind. Projects use crews, job shops use machines.\nChoose another code.\n"
+                "The code is published as the other kind, or bound to a plan of the other kind. Projects use crews, job shops use machines."
             }
-            Code::OtherPlan => {
-                "E07 other kind of plan\nThe plan is a job shop, and dates or a lag were requested.\nRequest its schedule.\n"
-            }
-            Code::ManyPlans => {
-                "E08 100 plans\nThe desk holds 100 plans, the maximum.\nDelete a plan.\n"
-            }
-            Code::NumbersSpent => {
-                "E09 numbers spent\nThe desk has used its last plan number, 1000000.\nOpen another desk.\n"
-            }
+            Code::OtherPlan => "The plan is a job shop, and dates or a lag were requested.",
+            Code::ManyPlans => "The desk holds 100 plans, the maximum.",
+            Code::NumbersSpent => "The desk has used its last plan number, 1000000.",
             Code::BadFile => {
-                "E10 ..\nThe file is invalid. The error of the file follows, for example E10 F9 line 31.\nLook up the code that follows.\n"
+                "The file is invalid. The error of the file follows, for example E10 F9 line 31."
             }
             Code::NoSchedule => {
-                "E11 ..\nThere is no such schedule. The cause follows, for example E11 S1 activity 2 resource 1.\nLook up the code that follows.\n"
+                "There is no such schedule. The cause follows, for example E11 S1 activity 2 resource 1."
             }
             Code::BadCalendar => {
-                "E12 ..\nThe calendar is invalid, missing or too short. The cause follows, for example E12 G1 date.\nLook up the code that follows.\n"
+                "The calendar is invalid, missing or too short. The cause follows, for example E12 G1 date."
             }
             Code::NotOurs => {
-                "K1 not ours\nFor plan init: the file already contains an office of any version, or other tables, indexes or views; nothing was changed. Otherwise: the tables aren't exactly an office's, a row breaks a rule, or the file is empty or shorter than a database.\nCheck the name. Serve an existing office with plan serve, or give plan init another name. Drop what was added by hand, or restore a backup. If plan 0.2.0 made the file, run in sqlite3: ALTER TABLE lags RENAME COLUMN source TO src; ALTER TABLE lags RENAME COLUMN target TO dst;\n"
+                "For plan init: the file already contains an office of any version, or other tables, indexes or views; nothing was changed. Otherwise: the tables aren't exactly an office's, a row breaks a rule, or the file is empty or shorter than a database."
             }
-            Code::Version => {
-                "K2 version\nThis program doesn't know the version of the tables.\nUse the program that wrote them, or a newer one.\n"
-            }
+            Code::Version => "This program doesn't know the version of the tables.",
             Code::NoKey => {
-                "K3 key\nThe first line of standard input isn't a key: 8 to 64 of the characters from ! to ~, without a blank.\nGive another key.\n"
+                "The first line of standard input isn't a key: 8 to 64 of the characters from ! to ~, without a blank."
             }
-            Code::NoMemory => {
-                "E90 memory\nMemory ran out. The input may be valid.\nFree memory and try again.\n"
-            }
+            Code::NoMemory => "Memory ran out. The input may be valid.",
             Code::StoreRefused => {
-                "E91 store\nThe database can't be opened, read or written. Causes: there is no file of this name, or for plan init no such folder; another program, such as a server or sqlite3, has it open; this user may not read and write it, its log (-wal) or their folder, or the file system is read-only; the name is a folder's or a device's, or too long; the file isn't an SQLite database, uses UTF-16 or auto_vacuum, was cut or damaged, or has a second name (hard link); its log belongs to another file; sqlite3 left a journal (-journal); the disk is full or fails; or a limit on files was reached. A running server has changed nothing.\nRead the hint, which names the first three causes: PLAN_HINTS=1 prints it. Check the name, which is relative to the current folder, stop the other program (fuser prints its process number), or give the folder and its files to the user that runs plan (chown). Find any other cause (docs/operations.md has a table), and remove it or restore a backup. A running server continues once a full disk has room.\n"
+                "The database can't be opened, read or written. Causes: there is no file of this name, or for plan init no such folder; another program, such as a server or sqlite3, has it open; this user may not read and write it, its log (-wal) or their folder, or the file system is read-only; the name is a folder's or a device's, or too long; the file isn't an SQLite database, uses UTF-16 or auto_vacuum, was cut or damaged, or has a second name (hard link); its log belongs to another file; sqlite3 left a journal (-journal); the disk is full or fails; or a limit on files was reached. A running server has changed nothing."
             }
             Code::Input => {
-                "I1 file\nThe file or standard input can't be read: it doesn't exist, is a folder, or its permissions forbid it.\nCheck the name, which is relative to the current folder, and the permissions.\n"
+                "The file or standard input can't be read: it doesn't exist, is a folder, or its permissions forbid it."
             }
             Code::Socket => {
-                "I2 socket\nThe server can't listen on the port, because another program does, because this user may not (ports below 1024 are reserved) or for another cause; or no connection could be accepted a hundred times in a row, for example because too many files are open.\nChoose another port from 1024 up, behind a reverse proxy if needed, or stop the other program. Close other files or connections or raise the limit (ulimit -n), and start the server again.\n"
+                "The server can't listen on the port, because another program does, because this user may not (ports below 1024 are reserved) or for another cause; or no connection could be accepted a hundred times in a row, for example because too many files are open."
             }
             Code::Output => {
-                "I3 output\nThe output can't be written completely: the disk is full, or the reader of the pipe has exited.\nMake room or keep the pipe open, and run the command again; discard the partial output.\n"
+                "The output can't be written completely: the disk is full, or the reader of the pipe has exited."
+            }
+        }
+    }
+
+    /// Returns what to do.
+    pub fn remedy(self) -> &'static str
+        ensures { result.now ≡ remedy_of self }
+    {
+        match self {
+            Code::TooLong => "Delete comments and blank lines, or split the project.",
+            Code::NotText => "Save it as plain text (UTF-8 or ASCII, not UTF-16).",
+            Code::MissingHead => {
+                "Add the line before the first section title, for example jobs : 6."
+            }
+            Code::Unsupported => "Declare 1 project, and 0 resources of both kinds.",
+            Code::MissingSection => "Add the section. Its title starts a line, in capitals.",
+            Code::BadNumber => "Correct the number, or complete the header line.",
+            Code::JobOrder => {
+                "Number the jobs 1, 2, 3 and so on; name only jobs of the file as successors."
+            }
+            Code::Modes => "Give each job one mode.",
+            Code::Count => "Compare the counts in the file with its rows.",
+            Code::Limit => "Choose a coarser time unit, or split the project.",
+            Code::Double => "Delete one, and lower the count of successors.",
+            Code::Cycle => "Delete one arc of the cycle.",
+            Code::NoInstance => {
+                "List the names with plan names. A file that starts with its two numbers has one instance, named -."
+            }
+            Code::BadMachine => "Correct the number.",
+            Code::LongTable => "Delete rows, or split the project.",
+            Code::NoTableText => "Save the table as CSV UTF-8, and delete line breaks in names.",
+            Code::NoDurations => "Add a header line with this column.",
+            Code::ColumnTwice => "Rename or delete one.",
+            Code::BadDuration => {
+                "Correct the duration. For fractions use a finer time unit, for example hours."
+            }
+            Code::BadId => "Shorten the id, or replace its blanks.",
+            Code::IdTwice => "Give each row its own id.",
+            Code::NoPredecessor => "Correct the predecessor, or add its row.",
+            Code::BadNeed => {
+                "Correct the cell. If the column isn't a resource, delete it or its header."
+            }
+            Code::NoCapacity => {
+                "Add a row with the id capacity and the amounts, or the option --capacity NAME=N. If the column isn't a resource, delete it or its header."
+            }
+            Code::TableCycle => "Delete one of these predecessors.",
+            Code::TableLimit => "Choose a coarser time unit, or split the project.",
+            Code::BadCells => {
+                "Delete the extra cells, put quotes around a cell with a separator, or close the quote."
+            }
+            Code::NoListResource => "Correct the name, or delete the option.",
+            Code::ManySteps => "Merge steps of the order, or split the order.",
+            Code::NeedsTooMuch => "Raise the capacity, or lower the need.",
+            Code::UnknownRule => {
+                "Use lft, slk, spt, mts or num for a project, spt, mwkr or fcfs for a job shop, in lower case."
+            }
+            Code::MachineClosed => {
+                "Publish a capacity of 1 or more for the code, or bind the machine to another code."
+            }
+            Code::TooLarge => {
+                "Use plan solve, or plan schedule for the project, plan shop for the shop."
+            }
+            Code::BadBudget => "Give a budget of at most 200000.",
+            Code::BadNodes => "Start with 1000000, which takes some seconds.",
+            Code::NoResource => {
+                "Name a resource by its number in the file, for example R2=4 for the second."
+            }
+            Code::LateEnd => "Start the activities earlier, or use larger time units.",
+            Code::Infeasible => "Correct the start times. Check them with plan check.",
+            Code::BadDate => "Correct the date.",
+            Code::BadDays => "Write 1111100 for Monday to Friday. plan days also takes mon-fri.",
+            Code::BeyondCalendar => "Mark more working days, or choose a coarser time unit.",
+            Code::NoCalendar => "Set its first date and its weekday marks.",
+            Code::BadHoliday => "Correct the line. A comment starts with #.",
+            Code::ManyHolidays => "Delete the days before and after the schedule.",
+            Code::DoesNotFollow => {
+                "Give the file of which the log was written, or write the log again with plan solve --log."
+            }
+            Code::BadLogLine => "Check the name of the log, or write it again.",
+            Code::UnknownCode => "Give an error line or its first word, for example F7.",
+            Code::BadMessage => "Send a complete request, with an ordinary HTTP client.",
+            Code::LargeBody => "Send a smaller file.",
+            Code::Coding => "Send the body as it is, with Content-Length.",
+            Code::NoRoute => {
+                "Compare the path with docs/api.md: no query, no percent sign, no slash at the end."
+            }
+            Code::OtherMethod => "Send the request with that method.",
+            Code::WrongKey => "Send the office's key for /office, the desk's key for /desks.",
+            Code::NotFound => "Request the list of plans.",
+            Code::BadBody => "Compare the body with docs/api.md.",
+            Code::DeskExists => "Choose another name, or give the desk a new key.",
+            Code::NotPublished => "Request the capacities, or publish the code.",
+            Code::KindDiffers => "Choose another code.",
+            Code::OtherPlan => "Request its schedule.",
+            Code::ManyPlans => "Delete a plan.",
+            Code::NumbersSpent => "Open another desk.",
+            Code::BadFile => "Look up the code that follows.",
+            Code::NoSchedule => "Look up the code that follows.",
+            Code::BadCalendar => "Look up the code that follows.",
+            Code::NotOurs => {
+                "Check the name. Serve an existing office with plan serve, or give plan init another name. Drop what was added by hand, or restore a backup. If plan 0.2.0 made the file, run in sqlite3: ALTER TABLE lags RENAME COLUMN source TO src; ALTER TABLE lags RENAME COLUMN target TO dst;"
+            }
+            Code::Version => "Use the program that wrote them, or a newer one.",
+            Code::NoKey => "Give another key.",
+            Code::NoMemory => "Free memory and try again.",
+            Code::StoreRefused => {
+                "Read the hint, which names the first three causes: PLAN_HINTS=1 prints it. Check the name, which is relative to the current folder, stop the other program (fuser prints its process number), or give the folder and its files to the user that runs plan (chown). Find any other cause (docs/operations.md has a table), and remove it or restore a backup. A running server continues once a full disk has room."
+            }
+            Code::Input => {
+                "Check the name, which is relative to the current folder, and the permissions."
+            }
+            Code::Socket => {
+                "Choose another port from 1024 up, behind a reverse proxy if needed, or stop the other program. Close other files or connections or raise the limit (ulimit -n), and start the server again."
+            }
+            Code::Output => {
+                "Make room or keep the pipe open, and run the command again; discard the partial output."
             }
         }
     }

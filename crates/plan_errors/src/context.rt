@@ -1,8 +1,6 @@
 //! The arguments of a command that its errors are about.
 
 ghost use Rattle.std.specs.Prelude.{◌≡◌};
-ghost use Rattle.std.specs.List.{ends_with};
-ghost use lib.Dec.{eqb};
 ghost use Rattle.plan_errors.specs.Subjects as spec;
 
 use crate::codes::Code;
@@ -18,13 +16,12 @@ pub enum Contents {
     OrderList,
 }
 
-/// The arguments of a command that an error can be about, as hints name them. A file is named by
-/// its path, or as standard input.
+/// The arguments of a command that an error can be about, as on the command line: `-` is the name of
+/// standard input.
 #[derive(Clone, Copy, Debug, Drop)]
 pub struct Context<'a> {
     /// The file of the project, of the job shop or of the list.
     pub file: Option<&'a str>,
-    pub contents: Contents,
     /// The file of the starts.
     pub starts: Option<&'a str>,
     /// The files of the starts of two schedules.
@@ -48,30 +45,78 @@ pub struct Context<'a> {
     pub unread: Option<&'a str>,
 }
 
-/// What an error is about.
+/// The argument that an error is about.
 #[derive(Clone, Copy, Debug, PartialEq, Eq)]
-pub(crate) enum Subject {
+pub enum Subject {
+    /// The file of a project or of a job shop.
     Plan,
+    /// The file of a list.
     List,
+    /// The file of the starts.
     Starts,
+    /// The file of the starts of schedule A.
     StartsA,
+    /// The file of the starts of schedule B.
     StartsB,
+    /// The file of the holidays.
     Holidays,
+    /// The priority rule.
     Rule,
+    /// The budget or the number of nodes.
     Limit,
+    /// The first date.
     FirstDate,
+    /// The weekday marks.
     Weekdays,
+    /// The option with the capacities.
     Capacity,
+    /// The database of an office.
     Office,
+    /// The file that can't be read.
     Unread,
+    /// No argument.
     Other,
+}
+
+impl Subject {
+    /// Whether it is a file.
+    pub fn is_file(self) -> bool
+        ensures { result ≡ spec.is_file self }
+    {
+        match self {
+            Subject::Plan
+            | Subject::List
+            | Subject::Starts
+            | Subject::StartsA
+            | Subject::StartsB
+            | Subject::Holidays
+            | Subject::Office
+            | Subject::Unread => true,
+            Subject::Rule
+            | Subject::Limit
+            | Subject::FirstDate
+            | Subject::Weekdays
+            | Subject::Capacity
+            | Subject::Other => false,
+        }
+    }
+
+    /// Returns an argument as hints print it: a file with the name `-` is standard input.
+    pub(crate) fn shown(self, argument: &str) -> &str
+        ensures { result.now ≡ spec.shown_as self argument.now }
+    {
+        if self.is_file() && argument == "-" {
+            "standard input"
+        } else {
+            argument
+        }
+    }
 }
 
 impl<'a> Context<'a> {
     /// A command without any of these arguments.
     pub const NONE: Context<'static> = Context {
         file: None,
-        contents: Contents::Unknown,
         starts: None,
         starts_a: None,
         starts_b: None,
@@ -86,7 +131,7 @@ impl<'a> Context<'a> {
     };
 
     /// Returns the argument that is this subject, if the command has it.
-    pub(crate) fn argument(self, subject: Subject) -> Option<&'a str>
+    pub fn argument(self, subject: Subject) -> Option<&'a str>
         ensures { result ≡ spec.argument_of self.entry subject }
     {
         match subject {
@@ -104,76 +149,6 @@ impl<'a> Context<'a> {
             Subject::Unread => self.unread,
             Subject::Other => None,
         }
-    }
-}
-
-// Returns what the errors of a code are about, if their line names no starts.
-fn usual_subject(code: Code) -> Subject
-    ensures { result ≡ spec.usual_subject code }
-{
-    match code {
-        Code::LongTable
-        | Code::NoTableText
-        | Code::NoDurations
-        | Code::ColumnTwice
-        | Code::BadDuration
-        | Code::BadId
-        | Code::IdTwice
-        | Code::NoPredecessor
-        | Code::BadNeed
-        | Code::NoCapacity
-        | Code::TableCycle
-        | Code::TableLimit
-        | Code::BadCells
-        | Code::ManySteps => Subject::List,
-        Code::LateEnd | Code::Infeasible => Subject::Starts,
-        Code::BadHoliday | Code::ManyHolidays => Subject::Holidays,
-        Code::UnknownRule => Subject::Rule,
-        Code::BadBudget | Code::BadNodes => Subject::Limit,
-        Code::BadDate => Subject::FirstDate,
-        Code::BadDays => Subject::Weekdays,
-        Code::NoResource | Code::NoListResource => Subject::Capacity,
-        Code::NotOurs | Code::Version | Code::NoKey | Code::StoreRefused => Subject::Office,
-        Code::Input => Subject::Unread,
-        Code::DoesNotFollow
-        | Code::BadLogLine
-        | Code::UnknownCode
-        | Code::NoMemory
-        | Code::Socket
-        | Code::Output => Subject::Other,
-        _ => Subject::Plan,
-    }
-}
-
-// Whether a line ends with these words.
-fn ends_in(line: &str, words: &str) -> bool
-    ensures { result ≡ ends_with eqb line.now words.now }
-{
-    line.ends_with(words)
-}
-
-// Returns the file that a line about a file names.
-fn named_file(line: &str) -> Subject
-    ensures { result ≡ spec.named_file line.now }
-{
-    if ends_in(line, " of the starts") {
-        Subject::Starts
-    } else if ends_in(line, " of the starts A") {
-        Subject::StartsA
-    } else if ends_in(line, " of the starts B") {
-        Subject::StartsB
-    } else {
-        Subject::Plan
-    }
-}
-
-/// Returns what an error line with this code is about.
-pub(crate) fn subject_in(line: &str, code: Code) -> Subject
-    ensures { result ≡ spec.subject_in line.now code }
-{
-    match usual_subject(code) {
-        Subject::Plan => named_file(line),
-        subject => subject,
     }
 }
 

@@ -1,8 +1,9 @@
 //! `plan explain`: the meaning of a code and its remedy.
 
-ghost use Rattle.std.specs.Prelude.{◌≡◌, ◌⊎◌, ◌+◌, ◌≤◌, IfErr, IfOk, IsErrOf, OnOk, codes, drop};
+ghost use Rattle.std.specs.Prelude.{◌≡◌, ◌++◌, ◌⊎◌, ◌+◌, ◌≤◌, IfErr, IfOk, IsErrOf, OnOk, codes, drop};
 ghost use Rattle.std.specs.Prelude.{string_bytes};
 ghost use Rattle.plan_io.specs.Devices.{most_calls};
+ghost use Rattle.plan_errors.specs.Codes.{ended, entry_of};
 ghost use Rattle.plan_errors.specs.Output.{HasSinkFailed, Refuses, Writes};
 ghost use Rattle.plan_errors.specs.ExplainRun as spec;
 ghost use Rattle.plan_errors.specs.ExplainRun.{CarriesCode, Explains, IsCodeOf, StartsWithCode};
@@ -10,10 +11,13 @@ ghost use Rattle.plan_errors.specs.ExplainRun.{TellsNoCode};
 
 use crate::bytes::write_text;
 use crate::codes::Code;
-use crate::fault::{CliFault, refusal_by};
+use crate::context::Subject;
+use crate::fault::CliFault;
+use crate::refusal::refuse_words;
 use plan_io::Sink;
 use plan_psplib::Words;
 use std::alloc::{AllocError, Global};
+use std::fmt::Write;
 use std::str::from_utf8;
 
 // Returns the code with this name.
@@ -27,8 +31,8 @@ fn code_of(name: &[u8]) -> Option<Code>
     }
 }
 
-/// Returns the code that the next token names.
-pub(crate) fn next_code(tokens: &mut Words<'_>) -> Option<Code>
+// Returns the code that the next token names.
+fn next_code(tokens: &mut Words<'_>) -> Option<Code>
     ensures code { StartsWithCode tokens.old result }
     ensures rest { tokens.new ≡ drop 1 tokens.old }
 {
@@ -46,14 +50,39 @@ fn carried_code(code: Code, mut tokens: Words<'_>) -> Option<Code>
     next_code(&mut tokens)
 }
 
+// Appends a text with its end of line.
+fn push_ended(text: &mut String, line: &str) -> Result<(), AllocError>
+    ensures { OnOk result (string_bytes text.new ≡ string_bytes text.old ++ ended line.now) }
+{
+    writeln!(text, "{line}")
+}
+
+// Appends the entry of a code.
+fn push_entry(text: &mut String, code: Code) -> Result<(), AllocError>
+    ensures { OnOk result (string_bytes text.new ≡ string_bytes text.old ++ entry_of code) }
+{
+    push_ended(text, code.form())?;
+    push_ended(text, code.meaning())?;
+    push_ended(text, code.remedy())
+}
+
+// Returns the entry of a code.
+fn entry(alloc: Global, code: Code) -> Result<String, AllocError>
+    ensures { IfOk result (λ text. string_bytes text ≡ entry_of code) }
+{
+    let mut text = String::new(alloc);
+    push_entry(&mut text, code)?;
+    Ok(text)
+}
+
 // Returns the entry of a code and that of the code that its line carries.
 fn explanation(alloc: Global, code: Code, carried: Option<Code>) -> Result<String, AllocError>
     ensures { IfOk result (λ text. string_bytes text ≡ spec.explanation code carried) }
 {
-    let mut text = code.entry().to_string(alloc)?;
+    let mut text = entry(alloc, code)?;
     if let Some(carried) = carried {
         text.push_str("\n")?;
-        text.push_str(carried.entry())?;
+        push_entry(&mut text, carried)?;
     }
     Ok(text)
 }
@@ -62,7 +91,22 @@ fn explanation(alloc: Global, code: Code, carried: Option<Code>) -> Result<Strin
 fn no_code(alloc: Global) -> CliFault
     ensures { Refuses (λ line. line ≡ codes "C1 unknown code") result }
 {
-    refusal_by("C1 unknown code".to_string(alloc))
+    refuse_words(alloc, Code::UnknownCode, Subject::Other, "unknown code")
+}
+
+/// Returns the code that starts an error line, in capitals or not, and the code of the error that
+/// the line carries. Any other text is refused with `C1`.
+pub fn explained(alloc: Global, line: &str) -> Result<(Code, Option<Code>), CliFault>
+    ensures codes { IfOk result (λ found.
+        spec.NamesCodes (spec.tokens_of line.now) found.0 found.1) }
+    ensures refused { IfErr result (Refuses (TellsNoCode line.now)) }
+{
+    let line = line.to_ascii_uppercase(alloc)?;
+    let mut tokens = Words::new(line.as_bytes());
+    let Some(code) = next_code(&mut tokens) else {
+        return Err(no_code(alloc));
+    };
+    Ok((code, carried_code(code, tokens)))
 }
 
 /// Returns the text that explains an error line: the entry of the code that starts it, in capitals
@@ -71,12 +115,8 @@ pub fn explanation_text(alloc: Global, line: &str) -> Result<String, CliFault>
     ensures text { IfOk result (λ text. Explains line.now (string_bytes text)) }
     ensures refused { IfErr result (Refuses (TellsNoCode line.now)) }
 {
-    let line = line.to_ascii_uppercase(alloc)?;
-    let mut tokens = Words::new(line.as_bytes());
-    let Some(code) = next_code(&mut tokens) else {
-        return Err(no_code(alloc));
-    };
-    Ok(explanation(alloc, code, carried_code(code, tokens))?)
+    let (code, carried) = explained(alloc, line)?;
+    Ok(explanation(alloc, code, carried)?)
 }
 
 /// Writes the entry of the code that starts an error line such as `F9 line 31`, in capitals or not.
@@ -84,6 +124,7 @@ pub fn explanation_text(alloc: Global, line: &str) -> Result<String, CliFault>
 /// carries another error, such as `E10 F9 line 31`, an empty line and the entry of that one follow.
 /// Any other text is refused with `C1`, and nothing is written. A call of the writer that fails
 /// isn't repeated.
+#[tactic(auto, using(crate::proofs::OutputLemmas::sent_writes))]
 pub fn explain_run<W: Sink>(alloc: Global, line: &str, writer: &mut W) -> Result<(), CliFault>
     ensures writes { W.calls writer.new ≤ W.calls writer.old + most_calls }
     // The explanation if there is one, else nothing; a part of it if the output fails.

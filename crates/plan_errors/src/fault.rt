@@ -1,54 +1,92 @@
-//! The error of a command, as one line of text.
+//! The error of a command.
 
-ghost use Rattle.std.specs.Prelude.{◌≡◌, IfOk, IfErr};
+ghost use Rattle.std.specs.Prelude.{◌≡◌, IfOk, string_bytes};
+ghost use Rattle.plan_errors.specs.Faults as spec;
 ghost use Rattle.plan_errors.specs.declared.fault.CliFault.TheVariants.{Memory};
 
+use crate::codes::Code;
+use crate::context::{Contents, Subject};
+use crate::refusal::Refusal;
 use plan_io::InputError;
-use std::alloc::AllocError;
-use thiserror::Error;
+use std::alloc::{AllocError, Global};
 
 /// The error of a command.
-#[derive(Debug, Drop, Error)]
+#[derive(Debug, Drop)]
 pub enum CliFault {
-    /// The file or an argument is invalid, with a line such as `F9 line 31` or `S3 unknown rule`.
-    #[error("{0}")]
-    Refused(String),
+    /// The file or an argument is invalid.
+    Refused(Refusal),
     /// Memory ran out.
-    #[error("E90 memory")]
     Memory,
     /// A file or standard input can't be read.
-    #[error("I1 file")]
     Input,
     /// The output can't be written whole.
-    #[error("I3 output")]
     Output,
 }
 
 impl CliFault {
-    ghost use Rattle.std.specs.Prelude.{◌≡◌};
-    ghost use Rattle.plan_errors.specs.Faults.{line_of};
-
-    /// Returns the line without its end.
-    pub fn line(&self) -> &str
-        ensures { result.now ≡ line_of self.now }
+    /// Returns its line without the end, such as `F9 line 31` or `S3 unknown rule`.
+    pub fn line(&self, alloc: Global) -> Result<String, AllocError>
+        ensures { IfOk result (λ text. string_bytes text ≡ spec.line_of self.now) }
     {
         match self {
-            CliFault::Refused(line) => line.as_str(),
-            CliFault::Memory => "E90 memory",
-            CliFault::Input => "I1 file",
-            CliFault::Output => "I3 output",
+            CliFault::Refused(refusal) => refusal.line(alloc),
+            CliFault::Memory => "E90 memory".to_string(alloc),
+            CliFault::Input => "I1 file".to_string(alloc),
+            CliFault::Output => "I3 output".to_string(alloc),
         }
     }
-}
 
-/// Returns the error with this line, or the error of memory if there was none for the line.
-pub fn refusal_by(line: Result<String, AllocError>) -> CliFault
-    ensures line { IfOk line (λ text. result ≡ CliFault.Refused text) }
-    ensures memory { IfErr line (λ _. result ≡ Memory) }
-{
-    match line {
-        Ok(line) => CliFault::Refused(line),
-        Err(_) => CliFault::Memory,
+    /// Returns its code.
+    pub fn code(&self) -> Code
+        ensures { result ≡ spec.code_of self.now }
+    {
+        match self {
+            CliFault::Refused(refusal) => refusal.code,
+            CliFault::Memory => Code::NoMemory,
+            CliFault::Input => Code::Input,
+            CliFault::Output => Code::Output,
+        }
+    }
+
+    /// Returns what it is about.
+    pub fn subject(&self) -> Subject
+        ensures { result ≡ spec.subject_of self.now }
+    {
+        match self {
+            CliFault::Refused(refusal) => refusal.about,
+            CliFault::Memory | CliFault::Output => Subject::Other,
+            CliFault::Input => Subject::Unread,
+        }
+    }
+
+    /// Returns the same error with these contents of its file.
+    pub fn with_contents(self, contents: Contents) -> CliFault
+        ensures { result ≡ spec.with_contents contents self }
+    {
+        match self {
+            CliFault::Refused(mut refusal) => {
+                refusal.contents = contents;
+                CliFault::Refused(refusal)
+            }
+            CliFault::Memory => CliFault::Memory,
+            CliFault::Input => CliFault::Input,
+            CliFault::Output => CliFault::Output,
+        }
+    }
+
+    /// Returns the same error with this detail.
+    pub fn with_detail(self, detail: Option<String>) -> CliFault
+        ensures { result ≡ spec.with_detail detail self }
+    {
+        match self {
+            CliFault::Refused(mut refusal) => {
+                refusal.detail = detail;
+                CliFault::Refused(refusal)
+            }
+            CliFault::Memory => CliFault::Memory,
+            CliFault::Input => CliFault::Input,
+            CliFault::Output => CliFault::Output,
+        }
     }
 }
 

@@ -1,12 +1,14 @@
-//! The hint that follows an error line on a terminal.
+//! The hint that follows an error on a terminal.
 
-ghost use Rattle.std.specs.Prelude.{◌≡◌, ◌++◌, IfOk, OnOk, string_bytes};
+ghost use Rattle.std.specs.Prelude.{◌≡◌, ◌++◌, IfOk, OnOk, codes, string_bytes};
+ghost use Rattle.plan_errors.specs.Codes.{name_of};
+ghost use Rattle.plan_errors.specs.Subjects.{cause_in};
 ghost use Rattle.plan_errors.specs.HintText as spec;
 
 use crate::codes::Code;
-use crate::context::{Context, cause_in, subject_in};
-use crate::explanation::next_code;
-use plan_psplib::Words;
+use crate::context::{Context, Subject, cause_in};
+use crate::fault::CliFault;
+use crate::refusal::Refusal;
 use std::alloc::{AllocError, Global};
 
 // Whether a terminal could obey a character.
@@ -35,40 +37,120 @@ pub fn masked(alloc: Global, text: &str) -> Result<String, AllocError>
     Ok(shown)
 }
 
-// Returns the hint for an argument with the error of a code.
-fn hint_text(
-    alloc: Global,
-    argument: Option<&str>,
-    cause: &str,
-    code: Code,
-) -> Result<String, AllocError>
-    ensures { IfOk result (λ text.
-        string_bytes text ≡ spec.hint_text argument.entry cause.now code) }
+// Appends a text with question marks in place of its control characters.
+fn push_shown(alloc: Global, text: &mut String, shown: &str) -> Result<(), AllocError>
+    ensures { OnOk result
+        (string_bytes text.new ≡ string_bytes text.old ++ spec.masked shown.now) }
 {
-    let mut text = "hint: ".to_string(alloc)?;
+    let shown = masked(alloc, shown)?;
+    text.push_str(shown.as_str())
+}
+
+// Appends the argument that an error is about and a colon, if there is one.
+fn push_argument(
+    alloc: Global,
+    text: &mut String,
+    about: Subject,
+    argument: Option<&str>,
+) -> Result<(), AllocError>
+    ensures { OnOk result (string_bytes text.new
+        ≡ string_bytes text.old ++ spec.named about argument.entry) }
+{
     if let Some(argument) = argument {
-        let shown = masked(alloc, argument)?;
-        text.push_str(shown.as_str())?;
+        push_shown(alloc, text, about.shown(argument))?;
         text.push_str(": ")?;
     }
-    text.push_str(cause)?;
+    Ok(())
+}
+
+// Appends the command that explains a code.
+fn push_command(text: &mut String, code: Code) -> Result<(), AllocError>
+    ensures { OnOk result (string_bytes text.new
+        ≡ string_bytes text.old ++ codes "; see: plan explain " ++ name_of code) }
+{
     text.push_str("; see: plan explain ")?;
-    text.push_str(code.name())?;
+    text.push_str(code.name())
+}
+
+// Appends the cause of a refusal.
+fn push_detail(alloc: Global, text: &mut String, refusal: &Refusal) -> Result<(), AllocError>
+    ensures { OnOk result (string_bytes text.new ≡ string_bytes text.old
+        ++ spec.cause_or refusal.now.detail
+        (cause_in refusal.now.contents refusal.now.about refusal.now.code)) }
+{
+    match &refusal.detail {
+        Some(detail) => push_shown(alloc, text, detail.as_str()),
+        None => text.push_str(cause_in(refusal.contents, refusal.about, refusal.code)),
+    }
+}
+
+// Appends the cause of an error.
+fn push_cause(alloc: Global, text: &mut String, fault: &CliFault) -> Result<(), AllocError>
+    ensures { OnOk result (string_bytes text.new
+        ≡ string_bytes text.old ++ spec.cause_shown fault.now) }
+{
+    match fault {
+        CliFault::Refused(refusal) => push_detail(alloc, text, refusal),
+        CliFault::Memory => text.push_str(Code::NoMemory.cause()),
+        CliFault::Input => text.push_str(Code::Input.cause()),
+        CliFault::Output => text.push_str(Code::Output.cause()),
+    }
+}
+
+// Appends the advice on an error.
+fn push_advice(
+    alloc: Global,
+    text: &mut String,
+    context: Context<'_>,
+    fault: &CliFault,
+) -> Result<(), AllocError>
+    ensures { OnOk result (string_bytes text.new
+        ≡ string_bytes text.old ++ spec.advice_of context.entry fault.now) }
+{
+    let about = fault.subject();
+    push_argument(alloc, text, about, context.argument(about))?;
+    push_cause(alloc, text, fault)?;
+    push_command(text, fault.code())
+}
+
+/// Returns the advice on an error: its hint without the word `hint`.
+pub(crate) fn advice(
+    alloc: Global,
+    context: Context<'_>,
+    fault: &CliFault,
+) -> Result<String, AllocError>
+    ensures { IfOk result (λ text. string_bytes text ≡ spec.advice_of context.entry fault.now) }
+{
+    let mut text = String::new(alloc);
+    push_advice(alloc, &mut text, context, fault)?;
     Ok(text)
 }
 
-/// Returns the hint for an error line, such as
-/// `hint: house.sm: job numbers out of order; see: plan explain F7` for the line `F7 line 21`. A
-/// hint has the argument that the error is about, if the command has one, the likely cause in few
-/// words, and the command that explains the code. A line that starts with no code has no hint.
-pub fn hint(alloc: Global, context: Context<'_>, line: &str) -> Result<Option<String>, AllocError>
-    ensures { IfOk result (spec.IsHintOf context.entry line.now) }
+/// Returns the hint for an error, such as
+/// `hint: house.sm: job numbers out of order; see: plan explain F7` for `F7 line 21`. A hint has
+/// the argument that the error is about, if the command has one, the cause, and the command that
+/// explains the code.
+pub fn hint(alloc: Global, context: Context<'_>, fault: &CliFault) -> Result<String, AllocError>
+    ensures { IfOk result (λ text. string_bytes text ≡ spec.hint_of context.entry fault.now) }
 {
-    let Some(code) = next_code(&mut Words::new(line.as_bytes())) else {
-        return Ok(None);
-    };
-    let subject = subject_in(line, code);
-    let argument = context.argument(subject);
-    let cause = cause_in(context.contents, subject, code);
-    Ok(Some(hint_text(alloc, argument, cause, code)?))
+    let mut text = "hint: ".to_string(alloc)?;
+    push_advice(alloc, &mut text, context, fault)?;
+    Ok(text)
+}
+
+/// Returns the hint for an error with this code about an argument.
+pub fn code_hint(
+    alloc: Global,
+    about: Subject,
+    argument: Option<&str>,
+    code: Code,
+) -> Result<String, AllocError>
+    ensures { IfOk result (λ text.
+        string_bytes text ≡ spec.code_hint_of about argument.entry code) }
+{
+    let mut text = "hint: ".to_string(alloc)?;
+    push_argument(alloc, &mut text, about, argument)?;
+    text.push_str(code.cause())?;
+    push_command(&mut text, code)?;
+    Ok(text)
 }

@@ -6,12 +6,13 @@ use Rattle.csv.specs.declared.parser.State.TheVariants as state
 use Rattle.csv.proofs.RoundTrip.{read-write}
 use Rattle.plan_psplib.specs.Lines.{words}
 use Rattle.plan_formats.specs.Cells.{Cell, text, empty, field_of}
-use Rattle.plan_formats.specs.CsvText.{csv_text_of, ReadsAs, HaveFields, records_of, records_of_rows}
+use Rattle.plan_formats.specs.CsvText.{csv_text_of, ReadsAs, HaveFields, records_of_rows}
+use Rattle.plan_formats.specs.ParsedCsv.{records_of}
 use Rattle.plan_formats.specs.LineTables.{entry_cells, is_empty_line}
 use Rattle.plan_formats.specs.NameColumns.{NameColumn, with_names}
 use Rattle.plan_formats.specs.Parts.{row_lines, head_line}
 use Rattle.plan_formats.specs.RowTables.{row_cells, word_cells, mark_cells, mark_names, titles}
-use Rattle.plan_formats.specs.Tables.{Table, or_one}
+use Rattle.plan_formats.specs.ParsedTables.{ParsedTable, or_one}
 use Rattle.plan_formats.specs.TextTables.{table_of_lines}
 use Rattle.plan_formats.specs.declared.shape.Shape.{Shape}
 use Rattle.plan_formats.specs.declared.shape.Shape.TheVariants as shape
@@ -71,8 +72,8 @@ reads_if items (Ok bytes) records same = λ some. subst (λ (xs : List ℕ). Rea
 reads_if items (Err e) records same = tt
 
 -- a text reads as the records of an equal table
-pub reads_table : {T E : Type 0} (items : T → List ℕ) (r : Result T E) (t u : Table) → t ≡ u → HaveFields (records_of u)
+pub reads_table : {T E : Type 0} (items : T → List ℕ) (r : Result T E) (t u : ParsedTable) → t ≡ u → HaveFields (records_of u)
     → IfOk r (λ text. HaveFields (records_of t) → ReadsAs (items text) (records_of t)) → IfOk r (λ text. ReadsAs (items text) (records_of u))
 reads_table items (Ok bytes) t u same some reads =
-    subst (λ (v : Table). ReadsAs (items bytes) (records_of v)) same (reads (subst (λ (v : Table). HaveFields (records_of v)) (sym same) some))
+    subst (λ (v : ParsedTable). ReadsAs (items bytes) (records_of v)) same (reads (subst (λ (v : ParsedTable). HaveFields (records_of v)) (sym same) some))
 reads_table items (Err e) t u same some reads = tt

@@ -1,32 +1,28 @@
--- The values of tables and of error lines have no float and are nested a few levels deep.
-use Rattle.std.proofs.Common.{ℕ, zero, suc, ◌≡◌, ◌≤◌, Bool, true, false, if◌then◌else◌, List, [], ◌∷◌, Option, Some, None, Ordering, Less, Equal, Greater, map, fold, codes, bytes_eq, length, drop, refl, sym, ap, ◌∙◌}
-use Rattle.std.proofs.Common.{subst, true≢false, eqb, Result, IfOk, arith}
+-- The values of tables have no float and are nested a few levels deep.
+use Rattle.std.proofs.Common.{ℕ, zero, suc, ◌≡◌, ◌≤◌, ◌++◌, false, List, [], ◌∷◌, Option, Some, None, Ordering, Less, Equal, Greater, map, fold, codes, length, drop, refl, arith}
 use Rattle.std.proofs.lemmas.List.{drop_all}
 use Rattle.std.specs.Cmp.Lexicographic.{slice_cmp}
 use Rattle.std.specs.Ordering.{nat_cmp, match_ordering}
-use Rattle.std.specs.Str.Lossy.{utf8_lossy}
 use Rattle.std.specs.List.{zip}
 use Rattle.serde_json.specs.Data.{Data, Members, no_members, member, object, array, string, put, depth, members_depth, items_depth}
 use Rattle.serde_json.specs.Written.{has_float, members_have_float, items_have_float}
-use Rattle.serde_json.specs.View.{items_of, items_view}
-use Rattle.serde_json.specs.declared.value.Value.{Value}
-use Rattle.plan_psplib.specs.Lines.{words}
-use Rattle.plan_formats.specs.Cells.{Cell, number, below, text, flag, empty, value_of}
-use Rattle.plan_formats.specs.Tables.{Member, Table, cells_of}
-use Rattle.plan_formats.specs.JsonText.{IsLineOf}
+use Rattle.serde_json.specs.View.{items_of}
+use Rattle.plan_formats.specs.Cells.{Cell, number, above, below, text, flag, empty, value_of}
+use Rattle.plan_formats.specs.Columns.{Column}
+use Rattle.plan_formats.specs.TableLines.{Line, optimal, between, budget, duration, makespan, chain, summary}
+use Rattle.plan_formats.specs.Tables.{Table, cells_of}
+use Rattle.plan_formats.specs.JsonData as json
 use Rattle.plan_formats.specs.declared.cell.Cell as declared
-use Rattle.plan_formats.specs.JsonData.{with_cell, members_with_row, row_data, with_members, data_of}
-use Rattle.plan_formats.specs.ErrorLines as lines
 
 -- a value has no float, and is nested at most n levels deep
 abbrev pub Fits : ℕ → Data → Type 0
 Fits n d = (has_float d ≡ false) × (depth d ≤ n)
 
-abbrev AllFit : ℕ → List Data → Type 0
+abbrev pub AllFit : ℕ → List Data → Type 0
 AllFit n [] = Unit {0}
 AllFit n (d ∷ ds) = Fits n d × AllFit n ds
 
-abbrev MembersFit : ℕ → Members → Type 0
+abbrev pub MembersFit : ℕ → Members → Type 0
 MembersFit n no_members = Unit {0}
 MembersFit n (member k d ms) = Fits n d × MembersFit n ms
 
@@ -38,7 +34,7 @@ members_deep : (n : ℕ) (ms : Members) → MembersFit n ms → members_depth ms
 members_deep n no_members fit = omega arith
 members_deep n (member k d ms) fit = omega (arith, fit.0.1, members_deep n ms fit.1)
 
-object_fits : (n : ℕ) (ms : Members) → MembersFit n ms → Fits (suc n) (object ms)
+pub object_fits : (n : ℕ) (ms : Members) → MembersFit n ms → Fits (suc n) (object ms)
 object_fits n ms fit = (members_floats n ms fit, omega (arith, members_deep n ms fit))
 
 items_floats : (n : ℕ) (ds : List Data) → AllFit n ds → items_have_float (items_of ds) ≡ false
@@ -49,7 +45,7 @@ items_deep : (n : ℕ) (ds : List Data) → AllFit n ds → items_depth (items_o
 items_deep n [] fit = omega arith
 items_deep n (d ∷ ds) fit = omega (arith, fit.0.1, items_deep n ds fit.1)
 
-array_fits : (n : ℕ) (ds : List Data) → AllFit n ds → Fits (suc n) (array (items_of ds))
+pub array_fits : (n : ℕ) (ds : List Data) → AllFit n ds → Fits (suc n) (array (items_of ds))
 array_fits n ds fit = (items_floats n ds fit, omega (arith, items_deep n ds fit))
 
 pick_fits : (n : ℕ) (o : Ordering) (a b c : Members) → MembersFit n a → MembersFit n b → MembersFit n c → MembersFit n (match_ordering o a b c)
@@ -57,103 +53,80 @@ pick_fits n Less a b c x y z = x
 pick_fits n Equal a b c x y z = y
 pick_fits n Greater a b c x y z = z
 
-put_fits : (n : ℕ) (k : List ℕ) (d : Data) (ms : Members) → Fits n d → MembersFit n ms → MembersFit n (put k d ms)
+pub put_fits : (n : ℕ) (k : List ℕ) (d : Data) (ms : Members) → Fits n d → MembersFit n ms → MembersFit n (put k d ms)
 put_fits n k d no_members fit rest = (fit, tt)
 put_fits n k d (member l e ms) fit rest =
     pick_fits n (slice_cmp nat_cmp k l) (member k d (member l e ms)) (member l d ms) (member l e (put k d ms)) (fit, rest) (fit, rest.1) (rest.0, put_fits n k d ms fit rest.1)
 
-cell_fits : (n : ℕ) (cell : Cell) → Fits n (value_of cell)
+pub cell_fits : (n : ℕ) (cell : Cell) → Fits n (value_of cell)
 cell_fits n (number k) = (refl, omega arith)
+cell_fits n (above k) = (refl, omega arith)
 cell_fits n (below zero) = (refl, omega arith)
 cell_fits n (below (suc k)) = (refl, omega arith)
 cell_fits n (text t) = (refl, omega arith)
 cell_fits n (flag b) = (refl, omega arith)
 cell_fits n empty = (refl, omega arith)
 
-pairs_fit : (pairs : List (List ℕ × Cell)) (ms : Members) → MembersFit 0 ms → MembersFit 0 (fold (λ found pair. with_cell found pair.0 pair.1) ms pairs)
+pairs_fit : (pairs : List (Column × Cell)) (ms : Members) → MembersFit 0 ms → MembersFit 0 (fold (λ found pair. json.with_cell found pair.0 pair.1) ms pairs)
 pairs_fit [] ms fit = fit
-pairs_fit (pair ∷ pairs) ms fit = pairs_fit pairs (with_cell ms pair.0 pair.1) (put_fits 0 (utf8_lossy pair.0) (value_of pair.1) ms (cell_fits 0 pair.1) fit)
+pairs_fit (pair ∷ pairs) ms fit =
+    pairs_fit pairs (json.with_cell ms pair.0 pair.1)
+    (put_fits 0 pair.0.word (value_of pair.1) (put pair.0.heading (value_of pair.1) ms) (cell_fits 0 pair.1)
+    (put_fits 0 pair.0.heading (value_of pair.1) ms (cell_fits 0 pair.1) fit))
 
-rows_fit : (columns : List (List ℕ)) (rows : List (List Cell)) → AllFit 1 (map (row_data columns) rows)
+rows_fit : (columns : List Column) (rows : List (List Cell)) → AllFit 1 (map (json.row_data columns) rows)
 rows_fit columns [] = tt
-rows_fit columns (row ∷ rows) = (object_fits 0 (members_with_row no_members columns row) (pairs_fit (zip columns row) no_members tt), rows_fit columns rows)
+rows_fit columns (row ∷ rows) = (object_fits 0 (json.members_with_row no_members columns row) (pairs_fit (zip columns row) no_members tt), rows_fit columns rows)
 
-values_fit : (values : List Member) (ms : Members) → MembersFit 2 ms → MembersFit 2 (with_members ms values)
-values_fit [] ms fit = fit
-values_fit (v ∷ values) ms fit = values_fit values (with_cell ms v.name v.cell) (put_fits 2 (utf8_lossy v.name) (value_of v.cell) ms (cell_fits 2 v.cell) fit)
-
--- the value of a table
-pub data_fits : (t : Table) → Fits 3 (data_of t)
-data_fits t =
-    object_fits 2 (put (codes "rows") (array (items_of (map (row_data t.columns) t.rows))) (with_members no_members t.members))
-    (put_fits 2 (codes "rows") (array (items_of (map (row_data t.columns) t.rows))) (with_members no_members t.members)
-    (array_fits 1 (map (row_data t.columns) t.rows) (rows_fit t.columns t.rows)) (values_fit t.members no_members tt))
-
-if_fits : (key : List ℕ) (found : Option ℕ) (ms : Members) → MembersFit 1 ms → MembersFit 1 (lines.with_if key found ms)
-if_fits key None ms fit = fit
-if_fits key (Some n) ms fit = put_fits 1 key (lines.number_data n) ms (refl, omega arith) fit
-
-numbers_fit : (ns : List ℕ) → AllFit 0 (map lines.number_data ns)
+numbers_fit : (ns : List ℕ) → AllFit 0 (map json.number_data ns)
 numbers_fit [] = tt
 numbers_fit (n ∷ ns) = ((refl, omega arith), numbers_fit ns)
 
-cycle_fits : (ns : List ℕ) (ms : Members) → MembersFit 1 ms → MembersFit 1 (lines.with_numbers ns ms)
-cycle_fits [] ms fit = fit
-cycle_fits (n ∷ ns) ms fit = put_fits 1 (codes "cycle") (array (items_of (map lines.number_data (n ∷ ns)))) ms (array_fits 0 (map lines.number_data (n ∷ ns)) (numbers_fit (n ∷ ns))) fit
+number_fits : (k : List ℕ) (n : ℕ) (ms : Members) → MembersFit 2 ms → MembersFit 2 (json.with_number k n ms)
+number_fits k n ms fit = put_fits 2 k (json.number_data n) ms (refl, omega arith) fit
 
-text_fits : (other : Bool) (line : List ℕ) (ms : Members) → MembersFit 1 ms → MembersFit 1 (if other then put (codes "text") (string line) ms else ms)
-text_fits true line ms fit = put_fits 1 (codes "text") (string line) ms (refl, omega arith) fit
-text_fits false line ms fit = fit
+string_fits : (k t : List ℕ) (ms : Members) → MembersFit 2 ms → MembersFit 2 (put k (string t) ms)
+string_fits k t ms fit = put_fits 2 k (string t) ms (refl, omega arith) fit
 
-sentence_fits : (found : List (List ℕ)) (ms : Members) → MembersFit 1 ms → MembersFit 1 (lines.with_sentence found ms)
-sentence_fits found ms fit =
-    if_fits (codes "predecessor") (lines.predecessor_in found) _
-    (if_fits (codes "time") (lines.number_behind (codes "time") found) _
-    (if_fits (codes "step") (lines.number_behind (codes "step") found) _
-    (if_fits (codes "job") (lines.number_behind (codes "job") found) ms fit)))
+bounds_fit : (lower upper : ℕ) (ms : Members) → MembersFit 2 ms → MembersFit 2 (json.with_bounds lower upper ms)
+bounds_fit lower upper ms fit = number_fits (codes "upper_bound") upper _ (number_fits (codes "lower_bound") lower ms fit)
 
-either_fits : (same : Bool) (a b : Members) → MembersFit 1 a → MembersFit 1 b → MembersFit 1 (if same then a else b)
-either_fits true a b x y = x
-either_fits false a b x y = y
+deeper : (n m : ℕ) (d : Data) → n ≤ m → Fits n d → Fits m d
+deeper n m d less fit = (fit.0, omega (arith, less, fit.1))
 
-verdict_fits : (code : List ℕ) (found : List (List ℕ)) (ms : Members) → MembersFit 1 ms → MembersFit 1 (lines.with_verdict code found ms)
-verdict_fits code found ms fit =
-    either_fits (bytes_eq code (codes "S10")) (lines.with_sentence found ms) ms (sentence_fits found ms fit) fit
+chain_fits : (js : Option (List ℕ)) → Fits 2 (json.chain_data js)
+chain_fits None = (refl, omega arith)
+chain_fits (Some js) =
+    let less : 1 ≤ 2 = omega arith in
+    deeper 1 2 (array (items_of (map json.number_data js))) less (array_fits 0 (map json.number_data js) (numbers_fit js))
 
-found_fits : (code : List ℕ) (found : List (List ℕ)) (line : List ℕ) (ms : Members) → MembersFit 1 ms → MembersFit 1 (lines.with_members code found line ms)
-found_fits code found line ms fit =
-    text_fits (lines.has_other found) line _
-    (if_fits (codes "resource") (lines.number_behind (codes "resource") found) _
-    (if_fits (codes "machine") (lines.number_behind (codes "machine") found) _
-    (if_fits (codes "line") (lines.number_behind (codes "line") found) _
-    (cycle_fits (lines.front_numbers (lines.behind (codes "cycle") found)) _
-    (if_fits (codes "activity") (lines.number_behind (codes "activity") found) _ (verdict_fits code found ms fit))))))
+line_fits : (line : Line) (ms : Members) → MembersFit 2 ms → MembersFit 2 (json.with_line ms line)
+line_fits (optimal n) ms fit = bounds_fit n n _ (string_fits (codes "status") (codes "optimal") ms fit)
+line_fits (between lower upper) ms fit = bounds_fit lower upper _ (string_fits (codes "status") (codes "between") ms fit)
+line_fits (budget n) ms fit = number_fits (codes "upper_bound") n _ (string_fits (codes "status") (codes "budget") ms fit)
+line_fits (duration n) ms fit = number_fits (codes "project_duration") n _ (number_fits (codes "T") n ms fit)
+line_fits (makespan n) ms fit = number_fits (codes "makespan") n ms fit
+line_fits (chain js) ms fit = put_fits 2 (codes "chain") (json.chain_data js) ms (chain_fits js) fit
+line_fits (summary name n verdict) ms fit =
+    string_fits (codes "verdict_" ++ name) verdict _ (number_fits (codes "makespan_" ++ name) n ms fit)
 
-error_members_fit : (found : List (List ℕ)) (line : List ℕ) → MembersFit 1 (lines.error_members found line)
-error_members_fit [] line = tt
-error_members_fit (code ∷ found) line =
-    found_fits code found line _
-    (put_fits 1 (codes "code") (string (utf8_lossy code)) no_members (refl, omega arith) tt)
+lines_fit : (lines : List Line) (ms : Members) → MembersFit 2 ms → MembersFit 2 (json.with_lines ms lines)
+lines_fit [] ms fit = fit
+lines_fit (line ∷ lines) ms fit = lines_fit lines (json.with_line ms line) (line_fits line ms fit)
 
--- the value of an error line
-pub error_fits : (line : List ℕ) → Fits 2 (lines.error_data line)
-error_fits line = object_fits 1 (lines.error_members (words line) line) (error_members_fit (words line) line)
+-- the value of a table
+pub data_fits : (t : Table) → Fits 3 (json.data_of t)
+data_fits t =
+    let members = json.with_lines (json.with_lines no_members t.above) t.below in
+    object_fits 2 (put (codes "rows") (array (items_of (map (json.row_data t.columns) t.rows))) members)
+    (put_fits 2 (codes "rows") (array (items_of (map (json.row_data t.columns) t.rows))) members
+    (array_fits 1 (map (json.row_data t.columns) t.rows) (rows_fit t.columns t.rows))
+    (lines_fit t.below (json.with_lines no_members t.above) (lines_fit t.above no_members tt)))
 
-no_cells : (ms : Members) (columns : List (List ℕ)) → members_with_row ms columns [] ≡ ms
+no_cells : (ms : Members) (columns : List Column) → json.members_with_row ms columns [] ≡ ms
 no_cells ms [] = refl
 no_cells ms (column ∷ columns) = refl
 
 -- behind the last cell of a row no member is left
-pub row_done : (ms : Members) (columns : List (List ℕ)) (cells : List declared.Cell) (i : ℕ) → length cells ≤ i → members_with_row ms columns (cells_of (drop i cells)) ≡ ms
+pub row_done : (ms : Members) (columns : List Column) (cells : List declared.Cell) (i : ℕ) → length cells ≤ i → json.members_with_row ms columns (cells_of (drop i cells)) ≡ ms
 row_done ms columns cells i past = rw (drop_all i cells past) (no_cells ms columns)
-
--- numbers that were collected are those of a cycle
-pub cycle_put : (ns : List ℕ) (items : List Value) (len : ℕ) (ms : Members) → items_view items ≡ lines.items_of_numbers ns → length items ≡ len → false ≡ eqb len 0
-    → put (codes "cycle") (array (items_view items)) ms ≡ lines.with_numbers ns ms
-cycle_put [] [] len ms same size some = absurd (true≢false (sym (some ∙ ap (λ n. eqb n 0) (sym size))))
-cycle_put [] (v ∷ vs) len ms same size some = absurd (cc same)
-cycle_put (n ∷ ns) items len ms same size some = ap (λ found. put (codes "cycle") (array found) ms) same
-
--- a text is a line of the value of an equal table
-pub line_of_table : {T E : Type 0} (items : T → List ℕ) (r : Result T E) (t u : Table) → t ≡ u → IfOk r (λ text. IsLineOf (items text) (data_of t)) → IfOk r (λ text. IsLineOf (items text) (data_of u))
-line_of_table items r t u same reads = subst (λ (v : Table). IfOk r (λ text. IsLineOf (items text) (data_of v))) same reads

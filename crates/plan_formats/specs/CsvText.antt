@@ -5,6 +5,7 @@ use Rattle.csv.specs.Reading.{AreRecords, default_config}
 use Rattle.csv.specs.Writing.{default_writer, row_text}
 use Rattle.csv.specs.declared.parser.State.TheVariants as state
 use Rattle.plan_formats.specs.Cells.{Cell, field_of}
+use Rattle.plan_formats.specs.Columns.{Column}
 use Rattle.plan_formats.specs.Tables.{Table}
 
 -- the text of records, each as the default writer of `csv` writes it
@@ -19,9 +20,13 @@ ReadsAs text records = AreRecords default_config state.StartRecord text records
 abbrev pub records_of_rows : List (List Cell) → List (List (List ℕ))
 records_of_rows rows = map (λ row. map field_of row) rows
 
--- the records of a table: the names of the columns, and a record for each row
+-- the record of the headings
+abbrev pub heading_record : List Column → List (List ℕ)
+heading_record columns = map (λ c. c.heading) columns
+
+-- the records of a table: the headings, and a record for each row
 abbrev pub records_of : Table → List (List (List ℕ))
-records_of table = table.columns ∷ records_of_rows table.rows
+records_of table = heading_record table.columns ∷ records_of_rows table.rows
 
 -- each record has a field
 abbrev pub HaveFields : List (List (List ℕ)) → Type 0

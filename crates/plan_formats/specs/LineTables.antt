@@ -3,14 +3,14 @@ use Rattle.std.specs.Prelude.{ℕ, ◌==◌, Bool, List, [], ◌∷◌, map, len
 use Rattle.std.specs.Borrow.{Bor}
 use Rattle.std.specs.List.{slice_split}
 use Rattle.plan_formats.specs.Cells.{Cell, text, empty}
-use Rattle.plan_formats.specs.Tables.{Table, or_one}
+use Rattle.plan_formats.specs.ParsedTables.{ParsedTable, or_one}
 
 -- a table without named values
-abbrev pub plain_table : List (List ℕ) → List (List Cell) → Table
+abbrev pub plain_table : List (List ℕ) → List (List Cell) → ParsedTable
 plain_table columns rows = record { members = []; columns = columns; rows = rows }
 
 -- one column, whose rows are the lines
-abbrev pub line_table : List ℕ → List (List ℕ) → Table
+abbrev pub line_table : List ℕ → List (List ℕ) → ParsedTable
 line_table title texts = plain_table (title ∷ []) (map (λ line. text line ∷ []) texts)
 
 abbrev pub is_empty_line : List ℕ → Bool
@@ -25,7 +25,7 @@ abbrev pub entry_cells : List (List ℕ) → List Cell
 entry_cells texts = or_one empty (map text texts)
 
 -- entries, between which empty lines stand: the code of an error, its meaning and what to do
-abbrev pub entry_table : List (List ℕ) → Table
+abbrev pub entry_table : List (List ℕ) → ParsedTable
 entry_table texts =
     plain_table (codes "code" ∷ codes "meaning" ∷ codes "remedy" ∷ [])
     (map entry_cells (slice_split is_empty_line texts))

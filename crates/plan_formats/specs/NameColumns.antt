@@ -2,7 +2,7 @@
 use Rattle.std.specs.Prelude.{ℕ, List, [], ◌∷◌, ◌++◌, Option, Some, None, map, fold}
 use Rattle.std.specs.List.{slice_get}
 use Rattle.plan_table.specs.Names.{Name, name_of, first_name}
-use Rattle.plan_formats.specs.Cells.{Cell, number, below, text, flag, empty}
+use Rattle.plan_formats.specs.Cells.{Cell, number, above, below, text, flag, empty}
 use Rattle.plan_formats.specs.declared.name_columns.NameColumn as declared
 
 -- a column with names: its title, the index of the cell whose number has the name, and the names
@@ -27,6 +27,7 @@ name_cell names n = text_or_empty (first_name n names)
 -- the name of the number in a cell, if the cell is there and has one
 abbrev pub name_of_cell : List Name → Option Cell → Cell
 name_of_cell names (Some (number n)) = name_cell names n
+name_of_cell names (Some (above _)) = empty
 name_of_cell names (Some (below _)) = empty
 name_of_cell names (Some (text _)) = empty
 name_of_cell names (Some (flag _)) = empty

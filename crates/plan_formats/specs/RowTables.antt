@@ -4,7 +4,7 @@ use Rattle.std.specs.Prelude.{map, filter, bytes_eq, codes}
 use Rattle.std.specs.List.{list_any, slice_split}
 use Rattle.plan_psplib.specs.Lines.{words}
 use Rattle.plan_formats.specs.Cells.{Cell, text, flag, empty, cell_of_word}
-use Rattle.plan_formats.specs.Tables.{Member, Table, or_one}
+use Rattle.plan_formats.specs.ParsedTables.{Member, ParsedTable, or_one}
 use Rattle.plan_formats.specs.NameColumns.{NameColumn, with_names}
 use Rattle.plan_formats.specs.Shapes.{has_marks}
 use Rattle.plan_formats.specs.Parts.{bounds_line, head_line, row_lines, summary_line, total_line}
@@ -110,7 +110,7 @@ members shape texts = bounds (words (bounds_line shape texts))
     ++ total (words (total_line shape texts)) ++ summaries shape texts
 
 -- the table that lines print
-abbrev pub row_table : Shape → List NameColumn → List (List ℕ) → Table
+abbrev pub row_table : Shape → List NameColumn → List (List ℕ) → ParsedTable
 row_table shape columns texts = record {
   members = members shape texts;
   columns = column_names shape columns (head_line shape texts);

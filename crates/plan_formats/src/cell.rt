@@ -1,21 +1,40 @@
 //! Cells of a table.
 
 ghost use Rattle.std.specs.Prelude.{◌≡◌};
+ghost use Rattle.jiff.specs.Words.{date_text};
 ghost use Rattle.plan_psplib.specs.Numbers as numbers;
 ghost use Rattle.plan_formats.specs.Cells as spec;
 
+use jiff::civil::Date;
 use plan_psplib::number;
 
 /// A cell of a table.
 #[derive(Clone, Copy)]
 pub enum Cell<'a> {
     Number(u64),
+    /// A number above 0 that has its sign in the text: `+3`. In CSV and JSON it has none.
+    Above(u32),
     /// A number below 0, without its sign.
     Below(u32),
+    /// A date, `2026-11-30`.
+    Day { year: i16, month: u8, day: u8 },
     /// Any bytes.
     Text(&'a [u8]),
     Flag(bool),
+    /// `-` in the text, an empty field in CSV, `null` in JSON.
     Empty,
+}
+
+/// Returns the cell of a date.
+pub fn day_cell<'a>(date: Date) -> Cell<'a>
+    ensures { spec.cell_of result ≡ spec.text (date_text date) }
+{
+    let plain = date.to_plain();
+    Cell::Day {
+        year: plain.year,
+        month: plain.month,
+        day: plain.day,
+    }
 }
 
 /// The greatest number behind a minus sign: the latest start of an activity.
@@ -23,7 +42,7 @@ const GREATEST_BELOW: u64 = 10_000_000;
 
 // Returns the cell of digits behind a plus sign in a word.
 fn above<'a>(digits: &[u8], word: &'a [u8]) -> Cell<'a>
-    ensures { spec.cell_of result ≡ spec.above (numbers.number digits.now) word.now }
+    ensures { spec.cell_of result ≡ spec.plus_word (numbers.number digits.now) word.now }
 {
     match number(digits) {
         Some(n) => Cell::Number(n),
@@ -33,7 +52,7 @@ fn above<'a>(digits: &[u8], word: &'a [u8]) -> Cell<'a>
 
 // Returns the cell of digits behind a minus sign in a word.
 fn below<'a>(digits: &[u8], word: &'a [u8]) -> Cell<'a>
-    ensures { spec.cell_of result ≡ spec.below_zero (numbers.number digits.now) word.now }
+    ensures { spec.cell_of result ≡ spec.minus_word (numbers.number digits.now) word.now }
 {
     match number(digits) {
         Some(n) if n <= GREATEST_BELOW => Cell::Below(n as u32),

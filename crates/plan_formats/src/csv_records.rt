@@ -3,11 +3,15 @@
 ghost use Rattle.std.specs.Prelude.{◌≡◌, ◌++◌, ◌∷◌, [], codes, map, decimal, IfOk, OnOk};
 ghost use Rattle.csv.specs.Records.{fields_of, partial_of};
 ghost use Rattle.csv.specs.Writing.{default_writer, row_text};
+ghost use Rattle.plan_formats.specs.Cells as cells;
 ghost use Rattle.plan_formats.specs.Cells.{cell_of, field_of};
+ghost use Rattle.plan_formats.specs.Columns.{column_of};
 ghost use Rattle.plan_formats.specs.Tables.{cells_of, rows_of, table_of};
 ghost use Rattle.plan_formats.specs.CsvText as spec;
 
 use crate::cell::Cell;
+use crate::column::Column;
+use crate::day_text::day_text;
 use crate::table::Table;
 use csv::{ByteRecord, Error, WriterBuilder};
 use std::alloc::{AllocError, Global};
@@ -24,8 +28,12 @@ fn record_text(alloc: Global, row: &ByteRecord) -> Result<Vec<u8>, Error>
     }
 }
 
-// Appends a record. Writing to memory fails only if memory runs out.
-fn push_record(alloc: Global, text: &mut Vec<u8>, row: &ByteRecord) -> Result<(), AllocError>
+/// Appends a record. Writing to memory fails only if memory runs out.
+pub(crate) fn push_record(
+    alloc: Global,
+    text: &mut Vec<u8>,
+    row: &ByteRecord,
+) -> Result<(), AllocError>
     ensures { OnOk result (text.new.items
         ≡ text.old.items ++ row_text default_writer (fields_of row.now)) }
 {
@@ -56,6 +64,23 @@ fn push_below(alloc: Global, row: &mut ByteRecord, n: u32) -> Result<(), AllocEr
     row.push_field(text.as_bytes())
 }
 
+// Appends a date as a field.
+fn push_day(
+    alloc: Global,
+    row: &mut ByteRecord,
+    year: i16,
+    month: u8,
+    day: u8,
+) -> Result<(), AllocError>
+    requires { partial_of row.old ≡ [] }
+    ensures fields { OnOk result (fields_of row.new
+        ≡ fields_of row.old ++ cells.day_text year month day ∷ []) }
+    ensures whole { OnOk result (partial_of row.new ≡ []) }
+{
+    let text = day_text(alloc, year, month, day)?;
+    row.push_field(&text)
+}
+
 // Appends a cell as a field.
 fn push_cell(alloc: Global, row: &mut ByteRecord, cell: &Cell<'_>) -> Result<(), AllocError>
     requires { partial_of row.old ≡ [] }
@@ -65,7 +90,9 @@ fn push_cell(alloc: Global, row: &mut ByteRecord, cell: &Cell<'_>) -> Result<(),
 {
     match cell {
         Cell::Number(n) => push_number(alloc, row, *n),
+        Cell::Above(n) => push_number(alloc, row, u64::from(*n)),
         Cell::Below(n) => push_below(alloc, row, *n),
+        Cell::Day { year, month, day } => push_day(alloc, row, *year, *month, *day),
         Cell::Text(text) => row.push_field(text),
         Cell::Flag(true) => row.push_field(b"true"),
         Cell::Flag(false) => row.push_field(b"false"),
@@ -84,13 +111,14 @@ fn row_record(alloc: Global, cells: &[Cell<'_>]) -> Result<ByteRecord, AllocErro
     Ok(row)
 }
 
-// Returns the record with the names of the columns.
-fn name_record(alloc: Global, names: &[&[u8]]) -> Result<ByteRecord, AllocError>
-    ensures { IfOk result (λ row. fields_of row ≡ map (λ name. name.now) names.now) }
+// Returns the record with the headings of columns.
+fn heading_record(alloc: Global, columns: &[Column]) -> Result<ByteRecord, AllocError>
+    ensures { IfOk result (λ row.
+        fields_of row ≡ spec.heading_record (map column_of columns.now)) }
 {
     let mut row = ByteRecord::new(alloc);
-    for name in names {
-        row.push_field(name)?;
+    for column in columns {
+        row.push_field(column.heading.as_bytes())?;
     }
     Ok(row)
 }
@@ -104,8 +132,12 @@ fn push_row(alloc: Global, text: &mut Vec<u8>, cells: &[Cell<'_>]) -> Result<(),
     push_record(alloc, text, &row)
 }
 
-// Appends the records of rows.
-fn push_rows(alloc: Global, text: &mut Vec<u8>, rows: &[Vec<Cell<'_>>]) -> Result<(), AllocError>
+/// Appends the records of rows.
+pub(crate) fn push_rows(
+    alloc: Global,
+    text: &mut Vec<u8>,
+    rows: &[Vec<Cell<'_>>],
+) -> Result<(), AllocError>
     ensures { OnOk result (text.new.items
         ≡ text.old.items ++ spec.csv_text_of (spec.records_of_rows (rows_of rows.now))) }
 {
@@ -121,15 +153,15 @@ fn records_text(alloc: Global, table: &Table<'_>) -> Result<Vec<u8>, AllocError>
         text.items ≡ spec.csv_text_of (spec.records_of (table_of table.now))) }
 {
     let mut text = Vec::new(alloc);
-    let names = name_record(alloc, &table.columns)?;
-    push_record(alloc, &mut text, &names)?;
+    let headings = heading_record(alloc, &table.columns)?;
+    push_record(alloc, &mut text, &headings)?;
     push_rows(alloc, &mut text, &table.rows)?;
     Ok(text)
 }
 
-/// Returns a table as CSV (RFC 4180, with LF): a record with the names of the columns, then one for
-/// each row. Its named values are left out. A number is its digits, a flag `true` or `false`, and
-/// an empty cell an empty field.
+/// Returns a table as CSV (RFC 4180, with LF): a record with the headings, then one for each row.
+/// The lines above and below the rows are left out. A number is its digits, a flag `true` or
+/// `false`, and an empty cell an empty field.
 pub fn csv_text(alloc: Global, table: &Table<'_>) -> Result<Vec<u8>, AllocError>
     ensures text { IfOk result (λ text.
         text.items ≡ spec.csv_text_of (spec.records_of (table_of table.now))) }

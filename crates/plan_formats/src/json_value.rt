@@ -1,48 +1,59 @@
 //! Tables as JSON values.
 
-ghost use Rattle.std.specs.Prelude.{◌≡◌, map, IfOk, OnOk};
-ghost use Rattle.serde_json.specs.View.{view, items_view, members_view};
+ghost use Rattle.std.specs.Prelude.{◌≡◌, map, IfOk, OnOk, Some};
+ghost use Rattle.serde_json.specs.View.{view, members_view};
 ghost use Rattle.plan_formats.specs.Cells.{cell_of, value_of};
-ghost use Rattle.plan_formats.specs.Tables.{cells_of, member_of, rows_of, table_of};
+ghost use Rattle.plan_formats.specs.Columns.{column_of};
+ghost use Rattle.plan_formats.specs.Tables.{cells_of, rows_of, table_of};
+ghost use Rattle.plan_formats.specs.TableLines.{line_of, chain_of, budget, duration};
 ghost use Rattle.plan_formats.specs.JsonData as spec;
 
 use crate::cell::Cell;
-use crate::table::{Member, Table};
+use crate::column::Column;
+use crate::day_text::day_text;
+use crate::line::Line;
+use crate::table::Table;
 use serde_json::{Map, Value, put};
 use std::alloc::{AllocError, Global};
 
-// Returns a cell as JSON.
-fn cell_value(alloc: Global, cell: &Cell<'_>) -> Result<Value, AllocError>
+/// Returns a cell as JSON.
+pub(crate) fn cell_value(alloc: Global, cell: &Cell<'_>) -> Result<Value, AllocError>
     ensures { IfOk result (λ value. view value ≡ value_of (cell_of cell.now)) }
 {
     Ok(match cell {
         Cell::Number(n) => Value::from(*n),
+        Cell::Above(n) => Value::from(u64::from(*n)),
         Cell::Below(n) => Value::from(-i64::from(*n)),
+        Cell::Day { year, month, day } => {
+            let text = day_text(alloc, *year, *month, *day)?;
+            Value::String(String::from_utf8_lossy(alloc, &text)?)
+        }
         Cell::Text(text) => Value::String(String::from_utf8_lossy(alloc, text)?),
         Cell::Flag(flag) => Value::Bool(*flag),
         Cell::Empty => Value::Null,
     })
 }
 
-/// Sets a member of an object to a cell.
-pub(crate) fn put_cell(
+// Sets two members of an object to the cell of a column.
+fn put_cell(
     alloc: Global,
     object: &mut Map<String, Value>,
-    name: &[u8],
+    column: &Column,
     cell: &Cell<'_>,
 ) -> Result<(), AllocError>
-    ensures { OnOk result (members_view object.new.entries
-        ≡ spec.with_cell (members_view object.old.entries) name.now (cell_of cell.now)) }
+    ensures { OnOk result (members_view object.new.entries ≡ spec.with_cell
+        (members_view object.old.entries) (column_of column.now) (cell_of cell.now)) }
 {
-    let key = String::from_utf8_lossy(alloc, name)?;
-    let value = cell_value(alloc, cell)?;
-    put(object, alloc, key.as_str(), value)
+    let first = cell_value(alloc, cell)?;
+    let second = cell_value(alloc, cell)?;
+    put(object, alloc, column.heading, first)?;
+    put(object, alloc, column.word, second)
 }
 
-// Returns a row as an object: the names of the columns with its cells.
-fn row_value(alloc: Global, columns: &[&[u8]], cells: &[Cell<'_>]) -> Result<Value, AllocError>
+// Returns a row as an object.
+fn row_value(alloc: Global, columns: &[Column], cells: &[Cell<'_>]) -> Result<Value, AllocError>
     ensures { IfOk result (λ value. view value
-        ≡ spec.row_data (map (λ column. column.now) columns.now) (cells_of cells.now)) }
+        ≡ spec.row_data (map column_of columns.now) (cells_of cells.now)) }
 {
     let mut object = Map::new(alloc);
     let mut left = columns;
@@ -57,9 +68,13 @@ fn row_value(alloc: Global, columns: &[&[u8]], cells: &[Cell<'_>]) -> Result<Val
 }
 
 // Returns the rows as an array of objects.
-fn rows_value(alloc: Global, columns: &[&[u8]], rows: &[Vec<Cell<'_>>]) -> Result<Value, AllocError>
+fn rows_value(
+    alloc: Global,
+    columns: &[Column],
+    rows: &[Vec<Cell<'_>>],
+) -> Result<Value, AllocError>
     ensures { IfOk result (λ value. view value
-        ≡ spec.rows_data (map (λ column. column.now) columns.now) (rows_of rows.now)) }
+        ≡ spec.rows_data (map column_of columns.now) (rows_of rows.now)) }
 {
     let mut list = Vec::new(alloc);
     for row in rows {
@@ -68,32 +83,146 @@ fn rows_value(alloc: Global, columns: &[&[u8]], rows: &[Vec<Cell<'_>>]) -> Resul
     Ok(Value::Array(list))
 }
 
-// Sets named values as members.
-fn put_members(
+// Sets a member to a number.
+fn put_number(
     alloc: Global,
     object: &mut Map<String, Value>,
-    members: &[Member<'_>],
+    name: &str,
+    n: u64,
 ) -> Result<(), AllocError>
     ensures { OnOk result (members_view object.new.entries
-        ≡ spec.with_members (members_view object.old.entries) (map member_of members.now)) }
+        ≡ spec.with_number name.now n (members_view object.old.entries)) }
 {
-    for member in members {
-        put_cell(alloc, object, member.name, &member.cell)?;
+    put(object, alloc, name, Value::from(n))
+}
+
+// Sets the status.
+fn put_status(
+    alloc: Global,
+    object: &mut Map<String, Value>,
+    status: &str,
+) -> Result<(), AllocError>
+    ensures { OnOk result (members_view object.new.entries
+        ≡ spec.with_status status.now (members_view object.old.entries)) }
+{
+    put(object, alloc, "status", Value::try_from_str(alloc, status)?)
+}
+
+// Sets the status and both bounds of the least makespan.
+fn put_bounds(
+    alloc: Global,
+    object: &mut Map<String, Value>,
+    status: &str,
+    lower: u64,
+    upper: u64,
+) -> Result<(), AllocError>
+    ensures { OnOk result (members_view object.new.entries ≡ spec.with_bounds lower upper
+        (spec.with_status status.now (members_view object.old.entries))) }
+{
+    put_status(alloc, object, status)?;
+    put_number(alloc, object, "lower_bound", lower)?;
+    put_number(alloc, object, "upper_bound", upper)
+}
+
+// Sets the status and the upper bound of the least makespan.
+fn put_budget(alloc: Global, object: &mut Map<String, Value>, upper: u64) -> Result<(), AllocError>
+    ensures { OnOk result (members_view object.new.entries
+        ≡ spec.with_line (members_view object.old.entries) (budget upper)) }
+{
+    put_status(alloc, object, "budget")?;
+    put_number(alloc, object, "upper_bound", upper)
+}
+
+// Sets the length of the project.
+fn put_duration(alloc: Global, object: &mut Map<String, Value>, n: u64) -> Result<(), AllocError>
+    ensures { OnOk result (members_view object.new.entries
+        ≡ spec.with_line (members_view object.old.entries) (duration n)) }
+{
+    put_number(alloc, object, "T", n)?;
+    put_number(alloc, object, "project_duration", n)
+}
+
+// Returns numbers as an array.
+fn numbers_value(alloc: Global, numbers: &[u32]) -> Result<Value, AllocError>
+    ensures { IfOk result (λ value. view value ≡ spec.chain_data (Some numbers.now)) }
+{
+    let mut list = Vec::new(alloc);
+    for n in numbers {
+        list.push(Value::from(u64::from(*n)))?;
+    }
+    Ok(Value::Array(list))
+}
+
+// Returns a chain, or `null`.
+fn chain_value(alloc: Global, chain: &Option<Vec<u32>>) -> Result<Value, AllocError>
+    ensures { IfOk result (λ value. view value ≡ spec.chain_data (chain_of chain.now)) }
+{
+    match chain {
+        Some(numbers) => numbers_value(alloc, numbers),
+        None => Ok(Value::Null),
+    }
+}
+
+// Sets the makespan and the verdict of a schedule.
+fn put_summary(
+    alloc: Global,
+    object: &mut Map<String, Value>,
+    name: &str,
+    makespan: u64,
+    verdict: &str,
+) -> Result<(), AllocError>
+    ensures { OnOk result (members_view object.new.entries ≡ spec.with_summary name.now makespan
+        verdict.now (members_view object.old.entries)) }
+{
+    let length = format!(in alloc; "makespan_{name}")?;
+    put_number(alloc, object, &length, makespan)?;
+    let answer = format!(in alloc; "verdict_{name}")?;
+    put(object, alloc, &answer, Value::try_from_str(alloc, verdict)?)
+}
+
+// Sets the values of a line.
+fn put_line(alloc: Global, object: &mut Map<String, Value>, line: &Line) -> Result<(), AllocError>
+    ensures { OnOk result (members_view object.new.entries
+        ≡ spec.with_line (members_view object.old.entries) (line_of line.now)) }
+{
+    match line {
+        Line::Optimal(n) => put_bounds(alloc, object, "optimal", *n, *n),
+        Line::Between(lower, upper) => put_bounds(alloc, object, "between", *lower, *upper),
+        Line::Budget(n) => put_budget(alloc, object, *n),
+        Line::Duration(n) => put_duration(alloc, object, *n),
+        Line::Makespan(n) => put_number(alloc, object, "makespan", *n),
+        Line::Chain(chain) => put(object, alloc, "chain", chain_value(alloc, chain)?),
+        Line::Summary {
+            name,
+            makespan,
+            verdict,
+        } => put_summary(alloc, object, name, *makespan, verdict),
+    }
+}
+
+// Sets the values of lines.
+fn put_lines(
+    alloc: Global,
+    object: &mut Map<String, Value>,
+    lines: &[Line],
+) -> Result<(), AllocError>
+    ensures { OnOk result (members_view object.new.entries
+        ≡ spec.with_lines (members_view object.old.entries) (map line_of lines.now)) }
+{
+    for line in lines {
+        put_line(alloc, object, line)?;
     }
     Ok(())
 }
 
-/// Returns a table as an object: its named values, and the array `rows` of its rows.
+/// Returns a table as an object: the values of its lines, and the array `rows` of its rows.
 pub(crate) fn table_value(alloc: Global, table: &Table<'_>) -> Result<Value, AllocError>
     ensures { IfOk result (λ value. view value ≡ spec.data_of (table_of table.now)) }
 {
     let mut object = Map::new(alloc);
-    put_members(alloc, &mut object, &table.members)?;
-    put(
-        &mut object,
-        alloc,
-        "rows",
-        rows_value(alloc, &table.columns, &table.rows)?,
-    )?;
+    put_lines(alloc, &mut object, &table.above)?;
+    put_lines(alloc, &mut object, &table.below)?;
+    let rows = rows_value(alloc, &table.columns, &table.rows)?;
+    put(&mut object, alloc, "rows", rows)?;
     Ok(Value::Object(object))
 }

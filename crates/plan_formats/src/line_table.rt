@@ -2,19 +2,24 @@
 
 ghost use Rattle.std.specs.Prelude.{◌≡◌, map, IfOk};
 ghost use Rattle.std.specs.List.{slice_split};
-ghost use Rattle.plan_formats.specs.Tables.{cells_of, rows_of, table_of};
+ghost use Rattle.plan_formats.specs.Tables.{cells_of, rows_of};
+ghost use Rattle.plan_formats.specs.ParsedTables.{table_of};
 ghost use Rattle.plan_formats.specs.LineTables as spec;
 
 use crate::cell::Cell;
-use crate::table::Table;
+use crate::parsed_table::ParsedTable;
 use std::alloc::{AllocError, Global};
 
 // Returns a table without named values.
-fn plain_table<'a>(alloc: Global, columns: Vec<&'a [u8]>, rows: Vec<Vec<Cell<'a>>>) -> Table<'a>
+fn plain_table<'a>(
+    alloc: Global,
+    columns: Vec<&'a [u8]>,
+    rows: Vec<Vec<Cell<'a>>>,
+) -> ParsedTable<'a>
     ensures { table_of result ≡ spec.plain_table
         (map (λ column. column.now) columns.entry.items) (rows_of rows.entry.items) }
 {
-    Table {
+    ParsedTable {
         members: Vec::new(alloc),
         columns,
         rows,
@@ -26,7 +31,7 @@ pub(crate) fn line_table<'a>(
     alloc: Global,
     title: &'a [u8],
     lines: &[&'a [u8]],
-) -> Result<Table<'a>, AllocError>
+) -> Result<ParsedTable<'a>, AllocError>
     ensures { IfOk result (λ table. table_of table
         ≡ spec.line_table title.now (map (λ line. line.now) lines.now)) }
 {
@@ -75,7 +80,10 @@ fn entries<'s, 'a>(alloc: Global, lines: &'s [&'a [u8]]) -> Result<Vec<&'s [&'a 
 /// Returns the table of entries, between which empty lines stand: the code of an error, its meaning
 /// and what to do.
 #[tactic(auto, using(crate::proofs::ListLemmas::split_texts))]
-pub(crate) fn entry_table<'a>(alloc: Global, lines: &[&'a [u8]]) -> Result<Table<'a>, AllocError>
+pub(crate) fn entry_table<'a>(
+    alloc: Global,
+    lines: &[&'a [u8]],
+) -> Result<ParsedTable<'a>, AllocError>
     ensures { IfOk result (λ table. table_of table
         ≡ spec.entry_table (map (λ line. line.now) lines.now)) }
 {

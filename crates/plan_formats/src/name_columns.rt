@@ -30,6 +30,17 @@ fn name_cell<'a>(names: &[NameLine<'a>], number: u64) -> Cell<'a>
     }
 }
 
+/// Returns the cell with the name of the number in a cell. It is empty if there is none.
+pub(crate) fn name_of_cell<'a>(names: &[NameLine<'a>], cell: Option<&Cell<'_>>) -> Cell<'a>
+    ensures { cell_of result ≡ spec.name_of_cell (map name_of names.now)
+        (option_map (λ cell. cell_of cell.now) cell.entry) }
+{
+    match cell {
+        Some(Cell::Number(n)) => name_cell(names, *n),
+        _ => Cell::Empty,
+    }
+}
+
 // Returns the cell of a row in a column with names.
 fn named_cell<'a>(column: &NameColumn<'a>, cells: &[Cell<'_>]) -> Cell<'a>
     ensures { cell_of result ≡ spec.named_cell (spec.column_of column.now) (cells_of cells.now) }

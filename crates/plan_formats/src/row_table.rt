@@ -3,15 +3,16 @@
 ghost use Rattle.std.specs.Prelude.{◌≡◌, ◌==◌, ◌++◌, map, IfOk, OnOk};
 ghost use Rattle.std.specs.List.{slice_split};
 ghost use Rattle.plan_psplib.specs.Lines.{words};
-ghost use Rattle.plan_formats.specs.Tables.{cells_of, member_of, rows_of, table_of};
+ghost use Rattle.plan_formats.specs.Tables.{cells_of, rows_of};
+ghost use Rattle.plan_formats.specs.ParsedTables.{member_of, table_of};
 ghost use Rattle.plan_formats.specs.NameColumns.{column_of};
 ghost use Rattle.plan_formats.specs.RowTables as spec;
 
 use crate::cell::{Cell, cell_of_word};
 use crate::name_columns::{NameColumn, push_names};
+use crate::parsed_table::{Member, ParsedTable};
 use crate::parts::{bounds_line, head_line, row_lines, summary_line, total_line, words_of};
 use crate::shape::Shape;
-use crate::table::{Member, Table};
 use std::alloc::{AllocError, Global};
 
 // Whether a word marks a row.
@@ -324,11 +325,11 @@ pub(crate) fn row_table<'a>(
     shape: Shape,
     columns: &[NameColumn<'a>],
     lines: &[&'a [u8]],
-) -> Result<Table<'a>, AllocError>
+) -> Result<ParsedTable<'a>, AllocError>
     ensures { IfOk result (λ table. table_of table
         ≡ spec.row_table shape (map column_of columns.now) (map (λ line. line.now) lines.now)) }
 {
-    Ok(Table {
+    Ok(ParsedTable {
         members: members(alloc, shape, lines)?,
         columns: column_names(alloc, shape, columns, head_line(shape, lines))?,
         rows: rows(alloc, shape, columns, row_lines(shape, lines))?,

@@ -1,18 +1,15 @@
 //! A table of cells.
 
 use crate::cell::Cell;
+use crate::column::Column;
+use crate::line::Line;
 
-/// A named value of a whole table.
-#[derive(Clone, Copy)]
-pub struct Member<'a> {
-    pub name: &'a [u8],
-    pub cell: Cell<'a>,
-}
-
-/// A table: values of the whole, the names of its columns, and its rows.
+/// A table: lines above the rows, the columns, the rows, and lines below them. A row has one cell
+/// for each column; the texts leave out a cell without a column and a column without a cell.
 #[derive(Drop)]
 pub struct Table<'a> {
-    pub members: Vec<Member<'a>>,
-    pub columns: Vec<&'a [u8]>,
+    pub above: Vec<Line>,
+    pub columns: Vec<Column>,
     pub rows: Vec<Vec<Cell<'a>>>,
+    pub below: Vec<Line>,
 }

@@ -1,27 +1,27 @@
 //! The table that a text prints.
 
 ghost use Rattle.std.specs.Prelude.{◌≡◌, map, IfOk};
-ghost use Rattle.plan_formats.specs.Tables.{table_of};
+ghost use Rattle.plan_formats.specs.ParsedTables.{table_of};
 ghost use Rattle.plan_formats.specs.NameColumns.{column_of};
 ghost use Rattle.plan_formats.specs.TextTables as spec;
 
 use crate::line_table::{entry_table, line_table};
 use crate::name_columns::NameColumn;
+use crate::parsed_table::ParsedTable;
 use crate::parts::line_texts;
 use crate::row_table::row_table;
 use crate::shape::Shape;
-use crate::table::Table;
 use std::alloc::{AllocError, Global};
 
 /// Returns the table that a text of this shape prints. A table of dates has a column `critical`,
 /// whose cells say whether the row ends with `*`. The columns with names are the last ones; tables
 /// of whole lines have none.
-pub fn table_of_text<'a>(
+pub(crate) fn table_of_text<'a>(
     alloc: Global,
     shape: Shape,
     columns: &[NameColumn<'a>],
     text: &'a [u8],
-) -> Result<Table<'a>, AllocError>
+) -> Result<ParsedTable<'a>, AllocError>
     ensures { IfOk result (λ table. table_of table
         ≡ spec.table_of_text shape (map column_of columns.now) text.now) }
 {

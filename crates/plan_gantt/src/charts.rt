@@ -12,8 +12,8 @@ use plan_net::{Network, index_of};
 use std::alloc::{AllocError, Global};
 use std::fmt::Write;
 
-// Returns the number of instants in a cell.
-fn chart_unit(makespan: u64) -> u64
+/// Returns the number of instants in a cell.
+pub fn chart_unit(makespan: u64) -> u64
     requires { makespan ≤ latest_end }
     ensures unit { result ≡ spec.chart_unit makespan }
     ensures some { 1 ≤ result }
@@ -49,8 +49,12 @@ fn cell_text(unit: u64, intervals: &[Interval], cell: u64) -> &'static str
     }
 }
 
-// The cells of a line.
-fn push_cells(text: &mut String, makespan: u64, intervals: &[Interval]) -> Result<(), AllocError>
+/// Appends the cells of a line.
+pub fn push_cells(
+    text: &mut String,
+    makespan: u64,
+    intervals: &[Interval],
+) -> Result<(), AllocError>
     requires makespan { makespan ≤ latest_end }
     requires ends { All (λ v. v.start + v.duration ≤ latest_end) intervals.now }
     ensures { OnOk result (string_bytes text.new ≡ string_bytes text.old ++ spec.cell_texts
@@ -83,8 +87,8 @@ pub(crate) fn push_line(
     text.push_str("|\n")
 }
 
-// Appends the first line: the number of instants in a cell.
-pub(crate) fn push_unit(text: &mut String, makespan: u64) -> Result<(), AllocError>
+/// Appends the first line: the number of instants in a cell.
+pub fn push_unit(text: &mut String, makespan: u64) -> Result<(), AllocError>
     requires { makespan ≤ latest_end }
     ensures { OnOk result
         (string_bytes text.new ≡ string_bytes text.old ++ spec.unit_line makespan) }

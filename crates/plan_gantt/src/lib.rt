@@ -19,11 +19,12 @@ mod shops;
 
 pub use best::{best_project_text, best_text};
 pub use calendar_faults::{calendar_fault_text, missing_calendar};
-pub use charts::chart;
+pub use charts::{chart, chart_unit, push_cells, push_unit};
 pub use dates::date_table;
 pub use days::{DaysFault, calendar_table};
 pub use exact_faults::exact_fault_text;
 pub use faults::file_fault_text;
+pub use interval::Interval;
 pub use plan_calendar::{Calendar, CalendarFault};
 pub use schedule_faults::schedule_fault_text;
 pub use schedules::schedule_table;

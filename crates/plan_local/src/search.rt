@@ -84,6 +84,11 @@ impl LocalSearch {
         self.is_over
     }
 
+    /// Returns the makespan of the best schedule.
+    pub fn makespan(&self) -> u32 {
+        self.least
+    }
+
     // Goes back to the best schedule.
     fn go_back(&mut self) {
         self.rows.order_by(&self.steps, &self.best);

@@ -5,7 +5,7 @@ use clap::{Arg, ArgAction, Command, value_parser};
 use std::alloc::{AllocError, Global};
 
 // The number of the release.
-const RELEASE: &str = "0.5.1";
+const RELEASE: &str = "0.6.0";
 
 // The start of the help.
 const HELP_START: &str =
@@ -187,7 +187,8 @@ const RULE: Argument = Argument {
 };
 
 const CAPACITY_HELP: &str =
-    "capacity of a resource, for example R2=4, in place of that of the file; may be repeated";
+    "capacity of a resource, for example R2=4 or crew=4, in place of that of the file; a name in \
+    the file comes before a number; may be repeated";
 
 const CAPACITY: Argument = Argument {
     name: "capacity",
@@ -397,7 +398,7 @@ const PROJECT_COMMANDS: [Entry; 6] = [
         examples: "Examples:\n  \
             plan slack examples/six.sm examples/starts.txt\n  \
             plan schedule lft examples/house.sm | plan slack --names examples/house.sm -",
-        arguments: &[FILE, GIVEN_STARTS, CAPACITY, NAMES],
+        arguments: &[FILE, GIVEN_STARTS, CAPACITY, NAMES, FORMAT],
     },
     Entry {
         name: "compare",
@@ -526,12 +527,14 @@ const SCHEDULE_COMMANDS: [Entry; 5] = [
             SOLVE_SECONDS,
             CAPACITY_IF_PROJECT,
             NAMES,
+            FORMAT,
             SVG,
         ],
     },
     Entry {
         name: "days",
-        about: "Prints the calendar days of a schedule: by a rule, the best one found, or a given one",
+        about: "Prints the calendar days of a schedule: by a rule, the best one found, or a given \
+            one",
         examples: "Examples:\n  \
             plan days lft 2024-03-01 1111100 examples/house.sm\n  \
             plan days mwkr 2024-03-01 1111100 examples/shops.txt ft06\n  \
@@ -678,8 +681,8 @@ const SERVER_COMMANDS: [Entry; 7] = [
     Entry {
         name: "backup",
         about: "Copies an office, tests the copy, and prints its name and digest",
-        examples: "A server may run meanwhile. The copy is one file that is complete without a log.\n\n\
-            Examples:\n  \
+        examples: "A server may run meanwhile. The copy is one file that is complete without a \
+            log.\n\nExamples:\n  \
             plan backup office.db copy.db\n  \
             plan backup --keep 7 office.db copies",
         arguments: &[

@@ -1,23 +1,16 @@
 //! The arguments of an order that its errors are about, for hints.
 
 use crate::orders::{FileOrder, OfficeOrder};
-use plan_cli::{Contents, Context, Dates, NamedText, Origin, Role, Task};
+use plan_cli::{Code, Context, Dates, NamedText, Origin, Role, Task};
 use plan_print::{NamedOrigin, Print, Sheet};
-use plan_table::{ReadError, TableCode, read_shop_table, read_table};
 use std::alloc::{AllocError, Global};
-
-// Returns the name of a file as hints print it.
-fn shown_name(path: &str) -> &str {
-    if path == "-" { "standard input" } else { path }
-}
 
 // Returns the context of a command on this file alone.
 fn file_context(file: &str) -> Context<'_> {
-    let name = Some(shown_name(file));
     Context {
-        file: name,
+        file: Some(file),
         capacity: Some("--capacity"),
-        unread: name,
+        unread: Some(file),
         ..Context::NONE
     }
 }
@@ -66,7 +59,7 @@ fn task_context<'a>(task: Task<'a>, file: &'a str) -> Context<'a> {
 
 // Returns a context with a text in a file of its own.
 fn with_text<'a>(context: Context<'a>, text: NamedText<'a>) -> Context<'a> {
-    let name = Some(shown_name(text.name));
+    let name = Some(text.name);
     match text.role {
         Role::Starts => Context {
             starts: name,
@@ -104,13 +97,13 @@ fn print_context<'a>(print: Print<'a>) -> Context<'a> {
     match print.origin {
         NamedOrigin::Rule(rule) => context.rule = Some(rule),
         NamedOrigin::Starts(name) => {
-            context.starts = Some(shown_name(name));
+            context.starts = Some(name);
             context.unread = None;
         }
         NamedOrigin::Solved { .. } => {}
     }
     if let Some(name) = print.holidays {
-        context.holidays = Some(shown_name(name));
+        context.holidays = Some(name);
         context.unread = None;
     }
     match print.sheet {
@@ -150,9 +143,48 @@ fn push_print_files<'a>(names: &mut Vec<&'a str>, print: Print<'a>) -> Result<()
     Ok(())
 }
 
+// Returns the rule of a task that has the option `solve`.
+fn replaceable_rule(task: Task<'_>) -> Option<&str> {
+    match task {
+        Task::Chart {
+            origin: Origin::Rule(rule),
+            ..
+        }
+        | Task::Days {
+            origin: Origin::Rule(rule),
+            ..
+        } => Some(rule),
+        _ => None,
+    }
+}
+
+// The cause of the error of the rule `best` for a command with the option `solve`.
+const BEST_CAUSE: &str = "no such priority rule; --solve finds the best schedule";
+
 impl<'a> FileOrder<'a> {
-    /// Returns the arguments that an error of the order can be about. The contents of the file are
-    /// unknown, and so is the file that can't be read, if there are several.
+    // Returns the rule of a command that has the option `solve`.
+    fn rule_or_search(&self) -> Option<&'a str> {
+        match *self {
+            FileOrder::Texts { task, .. } => replaceable_rule(task),
+            FileOrder::Print(print, _) => match print.origin {
+                NamedOrigin::Rule(rule) => Some(rule),
+                NamedOrigin::Starts(_) | NamedOrigin::Solved { .. } => None,
+            },
+            _ => None,
+        }
+    }
+
+    /// Returns the cause of an error with this code, if the arguments show it.
+    pub fn cause(&self, code: Code) -> Option<&'static str> {
+        if code == Code::UnknownRule && self.rule_or_search() == Some("best") {
+            Some(BEST_CAUSE)
+        } else {
+            None
+        }
+    }
+
+    /// Returns the arguments that an error of the order can be about. The file that can't be read
+    /// is unknown if there are several.
     pub fn context(&self) -> Context<'a> {
         match *self {
             FileOrder::Task(task, file)
@@ -164,6 +196,11 @@ impl<'a> FileOrder<'a> {
                 texts,
                 ..
             } => texts_context(task, file, texts),
+            FileOrder::Check { file, starts, .. } => Context {
+                starts: Some(starts),
+                unread: None,
+                ..file_context(file)
+            },
             // Either file may be the one that can't be read.
             FileOrder::Verify { file, .. } => Context {
                 unread: None,
@@ -182,6 +219,7 @@ impl<'a> FileOrder<'a> {
             | FileOrder::Watched(_, file)
             | FileOrder::Solve { file, .. }
             | FileOrder::Verify { file, .. }
+            | FileOrder::Check { file, .. }
             | FileOrder::Texts { file, .. } => file,
             FileOrder::Print(print, _) => print.file,
             FileOrder::New(_) | FileOrder::Explain(_) => return None,
@@ -189,11 +227,13 @@ impl<'a> FileOrder<'a> {
         if file == "-" { None } else { Some(file) }
     }
 
-    // Returns the files of starts, holidays or a log that the order reads, in the order of the arguments.
+    // Returns the files of starts, holidays or a log that the order reads, in the order of the
+    // arguments.
     fn text_files(&self, alloc: Global) -> Result<Vec<&'a str>, AllocError> {
         let mut names = Vec::new(alloc);
         match *self {
             FileOrder::Texts { texts, .. } => push_texts(&mut names, texts)?,
+            FileOrder::Check { starts, .. } => push_file(&mut names, starts)?,
             FileOrder::Verify { log, .. } => push_file(&mut names, log)?,
             FileOrder::Print(print, _) => push_print_files(&mut names, print)?,
             _ => {}
@@ -227,53 +267,5 @@ impl<'a> OfficeOrder<'a> {
             office: Some(database),
             ..Context::NONE
         }
-    }
-}
-
-// Whether a text with this error is a list of activities: its header is one, but a row is wrong.
-fn is_in_activities(error: &ReadError) -> bool {
-    match error {
-        ReadError::Memory => false,
-        ReadError::Fault(fault) => matches!(
-            fault.code,
-            TableCode::BadDuration
-                | TableCode::BadId
-                | TableCode::IdTwice
-                | TableCode::NoSuchId
-                | TableCode::BadNeed
-                | TableCode::NoCapacity
-                | TableCode::Cycle
-        ),
-    }
-}
-
-// Whether a text with this error is a list of orders: its header is one, but a row is wrong.
-fn is_in_orders(error: &ReadError) -> bool {
-    match error {
-        ReadError::Memory => false,
-        ReadError::Fault(fault) => matches!(
-            fault.code,
-            TableCode::BadDuration | TableCode::BadId | TableCode::TooManySteps
-        ),
-    }
-}
-
-/// Returns what a text contains: a list if `plan import` reads it or names one of its rows.
-pub fn contents_of(alloc: Global, text: &[u8]) -> Contents {
-    let is_activities = match read_table(alloc, text) {
-        Ok(_) => true,
-        Err(error) => is_in_activities(&error),
-    };
-    if is_activities {
-        return Contents::ActivityList;
-    }
-    let is_orders = match read_shop_table(alloc, text) {
-        Ok(_) => true,
-        Err(error) => is_in_orders(&error),
-    };
-    if is_orders {
-        Contents::OrderList
-    } else {
-        Contents::Unknown
     }
 }

@@ -2,4 +2,4 @@
 
 /// The digest of all sources of the program but this file, in hexadecimal digits, as
 /// `./release --digest` prints it.
-pub(crate) const SOURCES: &str = "7ea6e9d9157c1785af97ca9570fc85e2e91ed02778525ec6d9166940b9627db3";
+pub(crate) const SOURCES: &str = "00a6808cf4874ed93fb6654f4305f1074d3f565a502f1301f3a21b279366486c";

@@ -9,7 +9,6 @@ mod orders;
 mod outputs;
 
 pub use arguments::{command, help, version};
-pub use contexts::contents_of;
 pub use orders::{
     FileOrder, Lists, OfficeOrder, Order, capacities_of, order_of, overrides_of, texts_of,
 };

@@ -25,22 +25,26 @@ pub enum FileOrder<'a> {
     /// The same, with a line of progress if standard error is a terminal.
     Watched(Task<'a>, &'a str),
     /// A task of `solve` on the file with this name, with a time limit in seconds if there is one.
-    /// What it proves is written to the file with the name `log` if there is one.
+    /// The log of the search is written to the file with the name `log`, if there is one.
     Solve {
         task: Task<'a>,
         file: &'a str,
         seconds: Option<u32>,
         log: Option<&'a str>,
     },
-    /// A task on the file with this name, and on texts in other files. The status is 3 if
-    /// `is_status` and the verdict isn't `active`.
+    /// A task on the file with this name, and on texts in other files.
     Texts {
         task: Task<'a>,
         file: &'a str,
         texts: &'a [NamedText<'a>],
         /// The time limit of a search for the schedule, in seconds.
         seconds: Option<u32>,
-        is_status: bool,
+    },
+    /// A check of the starts in a file. The verdict decides the status.
+    Check {
+        subject: Subject<'a>,
+        file: &'a str,
+        starts: &'a str,
     },
     /// A check of the log of a search. The problem is the project in a file, or an instance of a
     /// job shop file.
@@ -75,6 +79,20 @@ fn is_standard(texts: &[NamedText<'_>], role: Role) -> bool {
     false
 }
 
+// Returns the names of two arguments of a task that are standard input, if there are two.
+fn texts_input(file: &str, texts: &[NamedText<'_>]) -> Option<(&'static str, &'static str)> {
+    let mut found = if file == "-" { Some("FILE") } else { None };
+    for (role, name) in ROLE_NAMES {
+        if is_standard(texts, role) {
+            if let Some(first) = found {
+                return Some((first, name));
+            }
+            found = Some(name);
+        }
+    }
+    None
+}
+
 // Returns the names of two arguments of a print that are standard input, if there are two.
 fn print_input(print: &Print<'_>) -> Option<(&'static str, &'static str)> {
     let starts = match print.origin {
@@ -92,30 +110,21 @@ fn print_input(print: &Print<'_>) -> Option<(&'static str, &'static str)> {
 impl<'a> FileOrder<'a> {
     /// Returns the names of two arguments that are standard input, if there are two.
     pub fn shared_input(&self) -> Option<(&'static str, &'static str)> {
-        if let FileOrder::Print(print, _) = *self {
-            return print_input(&print);
+        match *self {
+            FileOrder::Print(print, _) => print_input(&print),
+            FileOrder::Texts { file, texts, .. } => texts_input(file, texts),
+            FileOrder::Check {
+                file: "-",
+                starts: "-",
+                ..
+            } => Some(("FILE", "STARTS")),
+            FileOrder::Verify {
+                file: "-",
+                log: "-",
+                ..
+            } => Some(("FILE", "LOG")),
+            _ => None,
         }
-        if let FileOrder::Verify {
-            file: "-",
-            log: "-",
-            ..
-        } = *self
-        {
-            return Some(("FILE", "LOG"));
-        }
-        let FileOrder::Texts { file, texts, .. } = *self else {
-            return None;
-        };
-        let mut found = if file == "-" { Some("FILE") } else { None };
-        for (role, name) in ROLE_NAMES {
-            if is_standard(texts, role) {
-                if let Some(first) = found {
-                    return Some((first, name));
-                }
-                found = Some(name);
-            }
-        }
-        None
     }
 }
 
@@ -378,8 +387,10 @@ fn has_formats(name: &str) -> bool {
             | "best"
             | "prove"
             | "solve"
+            | "chart"
             | "days"
             | "check"
+            | "slack"
             | "compare"
             | "names"
             | "explain"
@@ -495,22 +506,55 @@ fn texts_order<'a>(task: Task<'a>, file: &'a str, texts: &'a [NamedText<'a>]) ->
         file,
         texts,
         seconds: None,
-        is_status: false,
     }
 }
 
-// Returns the schedule that an option asks for in place of RULE, if one does. Then FILE is given in
-// the place of RULE, and so on.
-fn origin_by_option<'a>(arguments: &ArgMatches<'_>) -> Option<Origin<'a>> {
-    if arguments.get_str("starts").is_some() {
-        return Some(Origin::Starts(&[]));
+// Returns the schedule that an option asks for in place of RULE, if one does.
+fn named_by_option<'a>(arguments: &'a ArgMatches<'_>) -> Option<NamedOrigin<'a>> {
+    if let Some(starts) = arguments.get_str("starts") {
+        return Some(NamedOrigin::Starts(starts));
     }
     if arguments.get_flag("solve") {
-        return Some(Origin::Solved {
+        return Some(NamedOrigin::Solved {
             conflicts: MOST_CONFLICTS,
         });
     }
     None
+}
+
+// A schedule, and the arguments FILE and INSTANCE.
+#[derive(Clone, Copy)]
+struct ScheduleWords<'a> {
+    origin: NamedOrigin<'a>,
+    file: &'a str,
+    instance: Option<&'a str>,
+}
+
+// Returns the schedule of a command with RULE, and its FILE and INSTANCE. `before` is the name of
+// the argument before FILE. If an option has the place of RULE, each argument is where the one
+// before it would be.
+fn schedule_words<'a>(arguments: &'a ArgMatches<'_>, before: &str) -> Option<ScheduleWords<'a>> {
+    Some(match named_by_option(arguments) {
+        Some(origin) => ScheduleWords {
+            origin,
+            file: arguments.get_str(before)?,
+            instance: arguments.get_str("FILE"),
+        },
+        None => ScheduleWords {
+            origin: NamedOrigin::Rule(arguments.get_str("RULE")?),
+            file: arguments.get_str("FILE")?,
+            instance: arguments.get_str("INSTANCE"),
+        },
+    })
+}
+
+// Returns the origin of a schedule. The starts in a file replace those here.
+fn origin_of(named: NamedOrigin<'_>) -> Origin<'_> {
+    match named {
+        NamedOrigin::Rule(rule) => Origin::Rule(rule),
+        NamedOrigin::Starts(_) => Origin::Starts(&[]),
+        NamedOrigin::Solved { conflicts } => Origin::Solved { conflicts },
+    }
 }
 
 // Returns the time limit of a search that an option asks for, in seconds.
@@ -522,29 +566,32 @@ fn limit_of(arguments: &ArgMatches<'_>) -> Option<u32> {
     None
 }
 
-// Returns the order of `chart`.
-fn chart_order<'a>(arguments: &'a ArgMatches<'_>, lists: Lists<'a>) -> Option<FileOrder<'a>> {
-    let (capacities, texts) = (lists.capacities, lists.texts);
-    let rule = arguments.get_str("RULE")?;
-    let (origin, file, instance) = match origin_by_option(arguments) {
-        Some(origin) => (origin, rule, arguments.get_str("FILE")),
-        None => (
-            Origin::Rule(rule),
-            arguments.get_str("FILE")?,
-            arguments.get_str("INSTANCE"),
-        ),
-    };
-    let subject = subject_of(instance, capacities);
-    Some(FileOrder::Texts {
-        task: Task::Chart { origin, subject },
+// Returns the order of a task on a schedule that a search can find.
+fn searched_order<'a>(
+    arguments: &ArgMatches<'_>,
+    task: Task<'a>,
+    file: &'a str,
+    texts: &'a [NamedText<'a>],
+) -> FileOrder<'a> {
+    FileOrder::Texts {
+        task,
         file,
         texts,
         seconds: limit_of(arguments),
-        is_status: false,
-    })
+    }
 }
 
-// Returns the dates of `days`, without holidays.
+// Returns the order of `chart`.
+fn chart_order<'a>(arguments: &'a ArgMatches<'_>, lists: Lists<'a>) -> Option<FileOrder<'a>> {
+    let words = schedule_words(arguments, "RULE")?;
+    let task = Task::Chart {
+        origin: origin_of(words.origin),
+        subject: subject_of(words.instance, lists.capacities),
+    };
+    Some(searched_order(arguments, task, words.file, lists.texts))
+}
+
+// Returns dates without holidays.
 fn dates_of<'a>(start: &'a str, marks: &'a str) -> Dates<'a> {
     Dates {
         start,
@@ -553,54 +600,40 @@ fn dates_of<'a>(start: &'a str, marks: &'a str) -> Dates<'a> {
     }
 }
 
+// Returns the dates of `days`, without holidays.
+fn dates_behind_rule<'a>(arguments: &'a ArgMatches<'_>) -> Option<Dates<'a>> {
+    let (start, marks) = match named_by_option(arguments) {
+        Some(_) => ("RULE", "START"),
+        None => ("START", "MARKS"),
+    };
+    Some(dates_of(arguments.get_str(start)?, arguments.get_str(marks)?))
+}
+
 // Returns the order of `days`.
 fn days_order<'a>(arguments: &'a ArgMatches<'_>, lists: Lists<'a>) -> Option<FileOrder<'a>> {
-    let (capacities, texts) = (lists.capacities, lists.texts);
-    let rule = arguments.get_str("RULE")?;
-    let start = arguments.get_str("START")?;
-    let marks = arguments.get_str("MARKS")?;
-    let (origin, dates, file, instance) = match origin_by_option(arguments) {
-        Some(origin) => (
-            origin,
-            dates_of(rule, start),
-            marks,
-            arguments.get_str("FILE"),
-        ),
-        None => (
-            Origin::Rule(rule),
-            dates_of(start, marks),
-            arguments.get_str("FILE")?,
-            arguments.get_str("INSTANCE"),
-        ),
+    let words = schedule_words(arguments, "MARKS")?;
+    let task = Task::Days {
+        origin: origin_of(words.origin),
+        dates: dates_behind_rule(arguments)?,
+        subject: subject_of(words.instance, lists.capacities),
     };
-    let subject = subject_of(instance, capacities);
-    Some(FileOrder::Texts {
-        task: Task::Days {
-            origin,
-            dates,
-            subject,
-        },
-        file,
-        texts,
-        seconds: limit_of(arguments),
-        is_status: false,
-    })
+    Some(searched_order(arguments, task, words.file, lists.texts))
 }
 
 // Returns the order of `check`, which has no capacities.
 fn check_order<'a>(arguments: &'a ArgMatches<'_>, lists: Lists<'a>) -> Option<FileOrder<'a>> {
     let subject = subject_of(arguments.get_str("INSTANCE"), lists.capacities);
     let file = arguments.get_str("FILE")?;
-    Some(FileOrder::Texts {
-        task: Task::Check {
-            starts: &[],
+    if arguments.get_flag("status") {
+        let starts = arguments.get_str("STARTS")?;
+        return Some(FileOrder::Check {
             subject,
-        },
-        file,
-        texts: lists.texts,
-        seconds: None,
-        is_status: arguments.get_flag("status"),
-    })
+            file,
+            starts,
+        });
+    }
+    let starts: &[u8] = &[];
+    Some(texts_order(Task::Check { starts, subject }, file, lists.texts))
 }
 
 // Returns the order of `verify`.
@@ -630,7 +663,7 @@ fn compare_order<'a>(arguments: &'a ArgMatches<'_>, lists: Lists<'a>) -> Option<
     Some(texts_order(task, arguments.get_str("FILE")?, lists.texts))
 }
 
-// Returns what has a schedule: the instance if one is given, else a project.
+// Returns the instance if one is given, else the project.
 fn subject_of<'a>(instance: Option<&'a str>, capacities: &'a [Capacity<'a>]) -> Subject<'a> {
     match instance {
         Some(instance) => Subject::Shop(instance),
@@ -638,47 +671,18 @@ fn subject_of<'a>(instance: Option<&'a str>, capacities: &'a [Capacity<'a>]) -> 
     }
 }
 
-// Returns the named schedule that an option asks for in place of RULE, if one does.
-fn named_by_option<'a>(arguments: &'a ArgMatches<'_>) -> Option<NamedOrigin<'a>> {
-    if let Some(starts) = arguments.get_str("starts") {
-        return Some(NamedOrigin::Starts(starts));
-    }
-    if arguments.get_flag("solve") {
-        return Some(NamedOrigin::Solved {
-            conflicts: MOST_CONFLICTS,
-        });
-    }
-    None
-}
-
 // Returns the order of `days` for a calendar file.
 fn events_order<'a>(
     arguments: &'a ArgMatches<'_>,
     capacities: &'a [Capacity<'a>],
 ) -> Option<Print<'a>> {
-    let rule = arguments.get_str("RULE")?;
-    let start = arguments.get_str("START")?;
-    let marks = arguments.get_str("MARKS")?;
-    let (origin, dates, file, instance) = match named_by_option(arguments) {
-        Some(origin) => (
-            origin,
-            dates_of(rule, start),
-            marks,
-            arguments.get_str("FILE"),
-        ),
-        None => (
-            NamedOrigin::Rule(rule),
-            dates_of(start, marks),
-            arguments.get_str("FILE")?,
-            arguments.get_str("INSTANCE"),
-        ),
-    };
+    let words = schedule_words(arguments, "MARKS")?;
     Some(Print {
-        sheet: Sheet::Events(dates),
-        subject: subject_of(instance, capacities),
-        origin,
+        sheet: Sheet::Events(dates_behind_rule(arguments)?),
+        subject: subject_of(words.instance, capacities),
+        origin: words.origin,
         holidays: arguments.get_str("holidays"),
-        file,
+        file: words.file,
     })
 }
 
@@ -699,21 +703,13 @@ fn image_order<'a>(
     arguments: &'a ArgMatches<'_>,
     capacities: &'a [Capacity<'a>],
 ) -> Option<Print<'a>> {
-    let rule = arguments.get_str("RULE")?;
-    let (origin, file, instance) = match named_by_option(arguments) {
-        Some(origin) => (origin, rule, arguments.get_str("FILE")),
-        None => (
-            NamedOrigin::Rule(rule),
-            arguments.get_str("FILE")?,
-            arguments.get_str("INSTANCE"),
-        ),
-    };
+    let words = schedule_words(arguments, "RULE")?;
     Some(Print {
-        sheet: Sheet::Chart(title_of(instance, file)),
-        subject: subject_of(instance, capacities),
-        origin,
+        sheet: Sheet::Chart(title_of(words.instance, words.file)),
+        subject: subject_of(words.instance, capacities),
+        origin: words.origin,
         holidays: None,
-        file,
+        file: words.file,
     })
 }
 

@@ -10,7 +10,7 @@ pub struct FileId {
     pub inode: u64,
 }
 
-/// What the name of an output leads to, behind all symbolic links.
+/// The target of an output's name, behind all symbolic links.
 #[derive(Clone, Copy, Debug, PartialEq, Eq)]
 pub enum Found {
     Nothing,

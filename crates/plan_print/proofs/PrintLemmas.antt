@@ -15,7 +15,7 @@ use Rattle.plan_print.specs.declared.prints.NamedOrigin.TheVariants as named
 use Rattle.plan_print.specs.declared.prints.Print.{Print}
 use Rattle.plan_print.specs.declared.sheets.Sheet.{Sheet}
 
--- what holds of the bytes that were read, if the known bytes are others and the fact implies another
+-- a fact about the bytes that were read, for other known bytes and a fact that it implies
 does_as : (known other : Option (List ℕ)) (r : Result (Unit {0}) CliFault) (Does Other : Bor (List ℕ) → Type 0)
     → known ≡ other → ((text : Bor (List ℕ)) → Does text → Other text) → DoesWith known r Does → DoesWith other r Other
 does_as known other (Ok u) Does Other same implies (text, short, read, does) = (text, short, subst (AreRead text.now) same read, implies text does)
@@ -61,7 +61,7 @@ pub prints_same : (f g : List ℕ → Option (List ℕ)) → AreSame f g
     → Prints f print taken after r → Prints g print taken after r
 prints_same f g same print taken after r p = with_same f g same print print.holidays taken after r p
 
--- no bytes are known whatever the name is
+-- no bytes are known for either branch
 either : (found : Option (List ℕ)) (b : Bool) → (if b then found else found) ≡ found
 either found true = refl
 either found false = refl

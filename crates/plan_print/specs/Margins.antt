@@ -21,7 +21,7 @@ abbrev pub AreShownSlacks : Problem → List ℕ → List ℕ → Type 0
 AreShownSlacks p starts slacks =
     AreSlacks p starts slacks ⊎ ((10000000 < makespan p starts) × (slacks ≡ []))
 
--- this holds of the floats and the slacks of starts
+-- a relation holds for the floats and the slacks of starts
 pub record HasMargins (i : Planned) (starts : List ℕ) (Holds : List ℕ → List ℕ → Type 0)
     : Type 0 where
   pub floats : List ℕ

@@ -7,6 +7,7 @@ use Rattle.plan_sheet.specs.Plans.{IsProjectIcs, IsProjectBeyond, project_svg}
 use Rattle.plan_sheet.specs.Plans.{IsShopIcs, IsShopBeyond, shop_svg}
 use Rattle.plan_sheet.specs.Reports.{project_page, IsDatedReport, IsReportBeyond}
 use Rattle.plan_sheet.specs.Reports.{shop_page, IsDatedShopReport, IsShopReportBeyond}
+use Rattle.plan_sheet.specs.declared.page.Heading.{Heading}
 use Rattle.plan_cli.specs.DaysRun.{ShowsDays, TellsNoDays}
 use Rattle.plan_cli.specs.Documents.{names_of_rows, names_of_lines}
 use Rattle.plan_cli.specs.Scheduled.{IsBoundFrom, IsScheduleFrom, TellsNotMade}
@@ -55,24 +56,22 @@ abbrev pub legend_names : Subject → List ℕ → List Name
 legend_names (subject.Project given) file = names_behind resource_key file
 legend_names (subject.Shop instance) file = instance_names order_key instance.now file
 
--- a text is the report of starts without a calendar, with these names, and perhaps with a lower
--- bound of the least makespan
-abbrev pub IsPlainPage : List ℕ → Option ℕ → List Name → List Name → Bool → Plan → List ℕ → List ℕ
-    → Type 0
-IsPlainPage title lower lines legend by_job (plan.Project i) starts text =
+-- a text is the report of starts without a calendar, with this heading and these names
+abbrev pub IsPlainPage : Heading → List Name → List Name → Bool → Plan → List ℕ → List ℕ → Type 0
+IsPlainPage h lines legend by_job (plan.Project i) starts text =
     HasMargins i starts (λ floats slacks.
-    text ≡ project_page title lower lines legend i starts false [] floats slacks)
-IsPlainPage title lower lines legend by_job (plan.Shop s) starts text =
-    text ≡ shop_page title lower lines legend s starts by_job false []
+    text ≡ project_page h.title.now h.lower lines legend i starts false [] floats slacks)
+IsPlainPage h lines legend by_job (plan.Shop s) starts text =
+    text ≡ shop_page h.title.now h.lower lines legend s starts by_job false []
 
--- a text is the report of starts on a calendar, with these names
-abbrev pub IsDatedPage : List ℕ → Option ℕ → List Name → List Name → Bool → Plan → List ℕ
-    → Workdays → List ℕ → Type 0
-IsDatedPage title lower lines legend by_job (plan.Project i) starts c text =
+-- a text is the report of starts on a calendar, with this heading and these names
+abbrev pub IsDatedPage : Heading → List Name → List Name → Bool → Plan → List ℕ → Workdays → List ℕ
+    → Type 0
+IsDatedPage h lines legend by_job (plan.Project i) starts c text =
     HasMargins i starts (λ floats slacks.
-    IsDatedReport title lower lines legend i starts floats slacks c text)
-IsDatedPage title lower lines legend by_job (plan.Shop s) starts c text =
-    IsDatedShopReport title lower lines legend s starts by_job c text
+    IsDatedReport h.title.now h.lower lines legend i starts floats slacks c text)
+IsDatedPage h lines legend by_job (plan.Shop s) starts c text =
+    IsDatedShopReport h.title.now h.lower lines legend s starts by_job c text
 
 -- a day that it shows would be after the last date
 abbrev pub IsPageBeyond : Bool → Plan → List ℕ → Workdays → Type 0
@@ -80,12 +79,12 @@ IsPageBeyond by_job (plan.Project i) starts c = IsReportBeyond i starts c
 IsPageBeyond by_job (plan.Shop s) starts c = IsShopReportBeyond s starts by_job c
 
 -- a text is the report of starts, on the dates if there are dates, with the names in the file
-abbrev pub IsReport : List ℕ → Option ℕ → Option Dates → Bool → Subject → List ℕ → Plan → List ℕ
-    → List ℕ → Type 0
-IsReport title lower None by_job of file p starts =
-    IsPlainPage title lower (names_of_lines of file) (legend_names of file) by_job p starts
-IsReport title lower (Some dates) by_job of file p starts = ShowsDays dates
-    (IsDatedPage title lower (names_of_lines of file) (legend_names of file) by_job p starts)
+abbrev pub IsReport : Heading → Option Dates → Bool → Subject → List ℕ → Plan → List ℕ → List ℕ
+    → Type 0
+IsReport h None by_job of file p starts =
+    IsPlainPage h (names_of_lines of file) (legend_names of file) by_job p starts
+IsReport h (Some dates) by_job of file p starts = ShowsDays dates
+    (IsDatedPage h (names_of_lines of file) (legend_names of file) by_job p starts)
 
 -- a line refuses the report of starts
 abbrev pub HidesReport : Option Dates → Bool → Plan → List ℕ → List ℕ → Type 0
@@ -99,7 +98,7 @@ IsSheetOf (sheet.Events dates) of file p starts lower =
     ShowsDays dates (AreEvents of file p starts)
 IsSheetOf (sheet.Chart title) of file p starts lower = IsChart title.now of file p starts
 IsSheetOf (sheet.Report title dates by_job) of file p starts lower =
-    IsReport title.now lower dates by_job of file p starts
+    IsReport (record { title = title; lower = lower }) dates by_job of file p starts
 
 -- a line refuses a sheet of starts
 abbrev pub HidesSheet : Sheet → Plan → List ℕ → List ℕ → Type 0

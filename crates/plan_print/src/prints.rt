@@ -16,7 +16,7 @@ use plan_io::Sink;
 use std::alloc::Global;
 use std::rt::Files;
 
-/// Where a schedule comes from.
+/// The origin of a schedule, with the name of its file.
 #[derive(Clone, Copy, Debug, Drop)]
 pub enum NamedOrigin<'a> {
     /// The schedule by the priority rule with this name.

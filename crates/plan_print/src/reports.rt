@@ -40,6 +40,17 @@ fn legend_names<'a>(
     }
 }
 
+// Returns the names for the report of a project.
+fn project_names<'a>(lines: &'a [NameLine<'a>], legend: &'a [NameLine<'a>]) -> ProjectNames<'a>
+    ensures activities { result.activities ≡ lines.entry }
+    ensures resources { result.resources ≡ legend.entry }
+{
+    ProjectNames {
+        activities: lines,
+        resources: legend,
+    }
+}
+
 // Returns the report of a project's schedule without a calendar, with these names.
 fn plain_project(
     alloc: Global,
@@ -49,9 +60,9 @@ fn plain_project(
     schedule: &Schedule,
 ) -> Result<String, CliFault>
     requires { CanBeShown (networks.count_of instance.now.project.network) schedule.now }
-    ensures made { IfText result (spec.IsPlainPage heading.entry.title.now heading.entry.lower (map name_of names.now.activities.now)
-        (map name_of names.now.resources.now) false (Plan.Project instance.now)
-        schedule.now.starts.items) }
+    ensures made { IfText result (spec.IsPlainPage heading.entry
+        (map name_of names.now.activities.now) (map name_of names.now.resources.now)
+        false (Plan.Project instance.now) schedule.now.starts.items) }
     ensures refused { IfErr result (λ e. e ≡ CliFault.Memory) }
 {
     let floats = floats_of(alloc, instance.network())?;
@@ -74,16 +85,13 @@ fn plain_page(
     schedule: &Schedule,
 ) -> Result<String, CliFault>
     requires { CanBeShown (count_of plan.now) schedule.now }
-    ensures made { IfText result (spec.IsPlainPage heading.entry.title.now heading.entry.lower (map name_of lines.now)
+    ensures made { IfText result (spec.IsPlainPage heading.entry (map name_of lines.now)
         (map name_of legend.now) by_job plan.now schedule.now.starts.items) }
     ensures refused { IfErr result (λ e. e ≡ CliFault.Memory) }
 {
     match plan {
         Plan::Project(instance) => {
-            let names = ProjectNames {
-                activities: lines,
-                resources: legend,
-            };
+            let names = project_names(lines, legend);
             plain_project(alloc, heading, &names, instance, schedule)
         }
         Plan::Shop(shop) => {
@@ -127,9 +135,9 @@ fn project_page_on(
     calendar: &Calendar,
 ) -> Result<String, CliFault>
     requires { CanBeShown (networks.count_of instance.now.project.network) schedule.now }
-    ensures made { IfText result (spec.IsDatedPage heading.entry.title.now heading.entry.lower (map name_of names.now.activities.now)
-        (map name_of names.now.resources.now) false (Plan.Project instance.now)
-        schedule.now.starts.items calendar.now) }
+    ensures made { IfText result (spec.IsDatedPage heading.entry
+        (map name_of names.now.activities.now) (map name_of names.now.resources.now)
+        false (Plan.Project instance.now) schedule.now.starts.items calendar.now) }
     ensures refused { IfErr result (Refuses (TellsBeyond
         (IsReportBeyond instance.now schedule.now.starts.items calendar.now))) }
 {
@@ -181,17 +189,14 @@ fn page_on(
     calendar: &Calendar,
 ) -> Result<String, CliFault>
     requires { CanBeShown (count_of plan.now) schedule.now }
-    ensures made { IfText result (spec.IsDatedPage heading.entry.title.now heading.entry.lower (map name_of lines.now)
+    ensures made { IfText result (spec.IsDatedPage heading.entry (map name_of lines.now)
         (map name_of legend.now) by_job plan.now schedule.now.starts.items calendar.now) }
     ensures refused { IfErr result (Refuses (TellsBeyond
         (spec.IsPageBeyond by_job plan.now schedule.now.starts.items calendar.now))) }
 {
     match plan {
         Plan::Project(instance) => {
-            let names = ProjectNames {
-                activities: lines,
-                resources: legend,
-            };
+            let names = project_names(lines, legend);
             project_page_on(alloc, heading, &names, instance, schedule, calendar)
         }
         Plan::Shop(shop) => {
@@ -214,7 +219,7 @@ fn dated_page(
     schedule: &Schedule,
 ) -> Result<String, CliFault>
     requires { CanBeShown (count_of plan.now) schedule.now }
-    ensures made { IfText result (ShowsDays dates.entry (spec.IsDatedPage heading.entry.title.now heading.entry.lower
+    ensures made { IfText result (ShowsDays dates.entry (spec.IsDatedPage heading.entry
         (map name_of lines.now) (map name_of legend.now) by_job
         plan.now schedule.now.starts.items)) }
     ensures refused { IfErr result (Refuses (TellsNoDays dates.entry
@@ -238,8 +243,8 @@ pub(crate) fn report_text(
     schedule: &Schedule,
 ) -> Result<String, CliFault>
     requires { CanBeShown (count_of plan.now) schedule.now }
-    ensures made { IfText result (spec.IsReport heading.entry.title.now heading.entry.lower dates.entry by_job subject.entry
-        file.now plan.now schedule.now.starts.items) }
+    ensures made { IfText result (spec.IsReport heading.entry dates.entry by_job
+        subject.entry file.now plan.now schedule.now.starts.items) }
     ensures refused { IfErr result (Refuses
         (spec.HidesReport dates.entry by_job plan.now schedule.now.starts.items)) }
 {

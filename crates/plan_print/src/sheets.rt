@@ -29,8 +29,8 @@ pub enum Sheet<'a> {
     /// The Gantt chart as an SVG file with this title, in time units: a line for each activity, or
     /// for each machine. Errors: those of `Task::Chart`.
     Chart(&'a str),
-    /// A report as one HTML page with a title: the chart, the use of the resources of a project, and
-    /// a table. With dates the axis has calendar days, and the table has days.
+    /// A report as one HTML page with a title: the chart, the use of the resources of a project,
+    /// and a table. With dates the axis has calendar days, and the table has days.
     Report {
         title: &'a str,
         /// Errors: those of `Task::Days` with dates, else those of `Task::Chart`.
@@ -106,6 +106,6 @@ pub(crate) fn sheet_text<V: ProofWatcher + SolveWatcher>(
         (RefusesSheet sheet.entry subject.entry origin.entry file.now)) }
 {
     let document = read_document(alloc, subject, file)?;
-    let plan = plan_of(alloc, &document)?;
+    let plan = plan_of(alloc, &document, file)?;
     plan_sheet(alloc, sheet, subject, origin, file, &plan, watcher)
 }

@@ -7,7 +7,7 @@ use Rattle.plan_program.specs.declared.errors.FileFault.TheVariants as fault
 use Rattle.plan_program.specs.declared.errors.Form.{Form}
 use Rattle.plan_program.specs.declared.errors.Form.TheVariants as form
 
--- a JSON object if the command prints its rows so, else this form
+-- a JSON object if the rows are JSON, else this form
 abbrev pub form_in : Rows → Form → Form
 form_in (row.In format.Json) other = form.Json
 form_in rows other = other
@@ -16,5 +16,5 @@ form_in rows other = other
 -- its cause
 abbrev pub form_of : FileFault → Rows → Form
 form_of (fault.Usage text) rows = form.Usage
-form_of (fault.Log line) rows = form_in rows form.Bare
+form_of (fault.Log error) rows = form_in rows form.Bare
 form_of (fault.Task error) rows = form_in rows form.Hinted

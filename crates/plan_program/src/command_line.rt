@@ -72,8 +72,8 @@ fn run<O: Offices>(rt: &HostRuntime, offices: &O) -> Result<Status, Misuse> {
     run_matches(rt, parsed.map_err(Misuse::Usage)?, offices)
 }
 
-/// Runs the command of the process's arguments: one on files, or one of `offices`. Prints its error,
-/// and returns the status.
+/// Runs the command of the process's arguments: one on files, or one of `offices`. Prints its
+/// error, and returns the status.
 pub fn run_program<O: Offices>(rt: &HostRuntime, offices: &O) -> Status {
     match run(rt, offices) {
         Ok(status) => status,

@@ -4,11 +4,12 @@ ghost use Rattle.std.specs.Prelude.{◌≡◌};
 ghost use Rattle.plan_program.specs.Errors.{form_in, form_of};
 
 use crate::file_log::LogFault;
-use crate::hints::print_file_error;
+use crate::hints::{context_of, print_file_error, print_line};
 use crate::misuse::print_misuse;
 use crate::status::Status;
-use plan_cli::{CliFault, Rows};
-use plan_formats::{Format, error_json};
+use plan_cli::Rows;
+use plan_errors::{CliFault, error_json};
+use plan_formats::Format;
 use plan_orders::FileOrder;
 use std::alloc::AllocError;
 use std::io::Write;
@@ -18,8 +19,8 @@ use std::io::Write;
 pub(crate) enum FileFault {
     /// The error of a task, or want of memory or a failed output of a log.
     Task(CliFault),
-    /// The line of a log that can't be written.
-    Log(String),
+    /// The error of a log that can't be written. Its line names the cause.
+    Log(CliFault),
     /// The name of a log is wrong.
     Usage(String),
 }
@@ -36,7 +37,7 @@ impl From<LogFault> for FileFault {
             LogFault::NoMemory => FileFault::Task(CliFault::Memory),
             LogFault::Output => FileFault::Task(CliFault::Output),
             LogFault::Usage(text) => FileFault::Usage(text),
-            LogFault::Line(line) => FileFault::Log(line),
+            LogFault::Named(fault) => FileFault::Log(fault),
         }
     }
 }
@@ -60,7 +61,7 @@ pub(crate) enum Form {
     Usage,
 }
 
-// Returns the form of an error for a command that prints its rows so: JSON, or another form.
+// Returns the form of an error for a command with these rows: JSON, or another form.
 fn form_in(rows: Rows, other: Form) -> Form
     ensures { result ≡ form_in rows other }
 {
@@ -70,7 +71,7 @@ fn form_in(rows: Rows, other: Form) -> Form
     }
 }
 
-// Returns the form in which the error of a command is printed that prints its rows so.
+// Returns the form in which the error of a command with these rows is printed.
 fn form_of(fault: &FileFault, rows: Rows) -> Form
     ensures { result ≡ form_of fault.now rows }
 {
@@ -81,20 +82,36 @@ fn form_of(fault: &FileFault, rows: Rows) -> Form
     }
 }
 
-// Returns the line of an error, or the text of an error of the command line.
-fn line_of(fault: &FileFault) -> &str {
-    match fault {
-        FileFault::Task(fault) => fault.line(),
-        FileFault::Usage(text) | FileFault::Log(text) => text.as_str(),
+// Returns an error with the cause that the arguments of its order show, if they show it.
+fn with_cause(rt: &HostRuntime, order: &FileOrder<'_>, fault: CliFault) -> CliFault {
+    let Some(cause) = order.cause(fault.code()) else {
+        return fault;
+    };
+    match cause.to_string(rt.alloc()) {
+        Ok(cause) => fault.with_detail(Some(cause)),
+        Err(_) => fault,
     }
 }
 
-// Prints an error line as JSON.
-fn print_json_error(rt: &HostRuntime, line: &str) -> Status {
-    if let Ok(text) = error_json(rt.alloc(), line) {
+// Prints an error as JSON.
+fn print_json_error(rt: &HostRuntime, order: &FileOrder<'_>, fault: &CliFault) -> Status {
+    let context = context_of(rt, order, fault);
+    if let Ok(text) = error_json(rt.alloc(), context, fault) {
         let _ = rt.stderr().write_all(&text);
     }
     Status::Failed
+}
+
+// Prints an error in this form, and returns the status.
+fn print_in(rt: &HostRuntime, order: &FileOrder<'_>, form: Form, fault: &CliFault) -> Status {
+    match form {
+        Form::Hinted => print_file_error(rt, order, fault),
+        Form::Json => print_json_error(rt, order, fault),
+        Form::Bare | Form::Usage => {
+            print_line(rt, fault);
+            Status::Failed
+        }
+    }
 }
 
 /// Prints the error of an order on files, and returns the status.
@@ -102,16 +119,12 @@ pub(crate) fn print_fault(
     rt: &HostRuntime,
     order: &FileOrder<'_>,
     rows: Rows,
-    fault: &FileFault,
+    fault: FileFault,
 ) -> Status {
-    let line = line_of(fault);
-    match form_of(fault, rows) {
-        Form::Hinted => print_file_error(rt, order, line),
-        Form::Bare => {
-            let _ = eprintln!(rt; "{line}");
-            Status::Failed
-        }
-        Form::Json => print_json_error(rt, line),
-        Form::Usage => print_misuse(rt, line),
+    let form = form_of(&fault, rows);
+    match fault {
+        FileFault::Task(fault) => print_in(rt, order, form, &with_cause(rt, order, fault)),
+        FileFault::Log(fault) => print_in(rt, order, form, &fault),
+        FileFault::Usage(text) => print_misuse(rt, text.as_str()),
     }
 }

@@ -1,6 +1,7 @@
 //! The log of a search in a file.
 
-use plan_cli::{CliFault, Log};
+use plan_cli::Log;
+use plan_errors::{CliFault, Code, Part, Subject, refuse};
 use plan_orders::{FileId, Found, Way, way_to_write};
 use std::alloc::AllocError;
 use std::fs::{self, File, Metadata, OpenOptions};
@@ -19,8 +20,8 @@ pub(crate) enum LogFault {
     Output,
     /// The name can't be that of a log.
     Usage(String),
-    /// An error line without its end.
-    Line(String),
+    /// The error of the output with its cause.
+    Named(CliFault),
 }
 
 impl From<AllocError> for LogFault {
@@ -71,13 +72,22 @@ fn usage_fault(rt: &HostRuntime, name: &str, rest: &str) -> LogFault {
     what.map_or(LogFault::NoMemory, LogFault::Usage)
 }
 
+// Returns the error of the output with this cause, which is also its detail.
+fn named_fault(rt: &HostRuntime, cause: &str) -> Result<CliFault, AllocError> {
+    let detail = cause.to_string(rt.alloc())?;
+    let cause = Part::Text(cause.to_string(rt.alloc())?);
+    let parts = Vec::from_array(rt.alloc(), [Part::Words("output:"), cause])?;
+    Ok(refuse(Code::Output, Subject::Other, Ok(parts)).with_detail(Some(detail)))
+}
+
 // Returns the error of a log that can't be written, with the name of a file.
 fn line_fault(rt: &HostRuntime, front: &str, name: &str, rest: &str) -> LogFault {
-    let line = shown(rt, name).and_then(|name| {
-        let (code, name) = (CliFault::Output.line(), name.as_str());
-        format!(in rt.alloc(); "{code}: {front}{name}{rest}")
+    let cause = shown(rt, name).and_then(|name| {
+        let name = name.as_str();
+        format!(in rt.alloc(); "{front}{name}{rest}")
     });
-    line.map_or(LogFault::NoMemory, LogFault::Line)
+    let fault = cause.and_then(|cause| named_fault(rt, cause.as_str()));
+    fault.map_or(LogFault::NoMemory, LogFault::Named)
 }
 
 // Returns the error of a file that can't be opened.
@@ -125,7 +135,7 @@ fn regular_files(rt: &HostRuntime, names: &[&str]) -> Result<Vec<FileId>, AllocE
     Ok(files)
 }
 
-// Returns what a name leads to.
+// Returns the target of a name.
 fn find(rt: &HostRuntime, name: &str) -> io::Result<Found> {
     match fs::metadata(rt, name) {
         Ok(found) if found.is_dir() => Ok(Found::Folder),

@@ -7,10 +7,12 @@ use crate::progress::ProgressLine;
 use crate::status::Status;
 use crate::verification::do_verify;
 use plan_cli::{
-    CliFault, Log, NamedText, ProofWatcher, Rows, SolveWatcher, Task, Unlogged, Unwatched,
-    explain_run, explain_run_in, run_on_file, run_on_files, template_run,
+    CliFault, Log, ProofWatcher, Rows, SolveWatcher, Subject, SystemInputs, Task, Unlogged,
+    Unwatched, check_text, explain_run, explain_run_in, read_named, run_on_file, run_on_files,
+    template_run,
 };
-use plan_io::{MemSink, Sink, StdSink, write_whole};
+use plan_errors::write_text;
+use plan_io::{Sink, StdSink};
 use plan_orders::FileOrder;
 use plan_print::print_on_files;
 use std::alloc::Global;
@@ -29,25 +31,20 @@ fn do_task<V: ProofWatcher + SolveWatcher, L: Log>(
     run_on_file(rt, task, rows, watcher, log, path, &mut writer)
 }
 
-// Writes a verdict to standard output, and returns whether the schedule is active.
+// Writes a verdict to standard output, and returns the status that it decides.
 fn do_check(
     rt: &HostRuntime,
-    task: Task<'_>,
+    subject: Subject<'_>,
     rows: Rows,
-    texts: &[NamedText<'_>],
+    starts: &str,
     path: &str,
 ) -> Result<Status, CliFault> {
-    let mut text = MemSink::new(Vec::new(rt.alloc()));
-    run_on_files(rt, task, rows, &mut Unwatched, texts, path, &mut text)?;
-    let text = text.into_bytes();
-    let mut writer = StdSink::new(io::writer(rt));
-    write_whole(&mut writer, &text).map_err(|_| CliFault::Output)?;
-    // No other verdict contains this word.
-    Ok(if text.windows(6).any(|word| word == b"active".as_slice()) {
-        Status::Done
-    } else {
-        Status::NotActive
-    })
+    let inputs = SystemInputs::new(rt);
+    let starts = read_named(rt.alloc(), &inputs, starts)?;
+    let file = read_named(rt.alloc(), &inputs, path)?;
+    let checked = check_text(rt.alloc(), rows, &starts, subject, &file)?;
+    write_text(&mut StdSink::new(io::writer(rt)), &checked.text)?;
+    Ok(Status::of(checked.verdict))
 }
 
 // Writes the explanation of an error line.
@@ -99,17 +96,15 @@ fn do_file_order(rt: &HostRuntime, order: FileOrder<'_>, rows: Rows) -> Result<S
             file,
             texts,
             seconds,
-            is_status: false,
         } => {
             let mut line = ProgressLine::within(rt, seconds);
             run_on_files(rt, task, rows, &mut line, texts, file, &mut writer)?;
         }
-        FileOrder::Texts {
-            task,
+        FileOrder::Check {
+            subject,
             file,
-            texts,
-            ..
-        } => return Ok(do_check(rt, task, rows, texts, file)?),
+            starts,
+        } => return Ok(do_check(rt, subject, rows, starts, file)?),
         FileOrder::Verify {
             file,
             log,
@@ -139,6 +134,6 @@ pub(crate) fn run_file_order(
     }
     Ok(match do_file_order(rt, order, rows) {
         Ok(status) => status,
-        Err(fault) => print_fault(rt, &order, rows, &fault),
+        Err(fault) => print_fault(rt, &order, rows, fault),
     })
 }

@@ -1,8 +1,9 @@
-//! Error lines and their hints on standard error.
+//! Errors and their hints on standard error.
 
 use crate::status::Status;
-use plan_cli::{Contents, Context, SystemInputs, hint, read_named};
-use plan_orders::{FileOrder, contents_of};
+use plan_cli::{SystemInputs, read_named};
+use plan_errors::{CliFault, Context, hint};
+use plan_orders::FileOrder;
 use std::alloc::AllocError;
 use std::io::IsTerminal;
 use std::{env, fs};
@@ -30,11 +31,19 @@ pub fn print_hint(rt: &HostRuntime, hint: Result<Option<String>, AllocError>) {
     }
 }
 
-/// Prints an error line and, if hints are printed, its hint.
-pub(crate) fn print_error(rt: &HostRuntime, context: Context<'_>, line: &str) -> Status {
-    let _ = eprintln!(rt; "{line}");
+/// Prints the line of an error, or that of memory if there is none for it.
+pub(crate) fn print_line(rt: &HostRuntime, fault: &CliFault) {
+    let _ = match fault.line(rt.alloc()) {
+        Ok(line) => eprintln!(rt; "{line}"),
+        Err(_) => eprintln!(rt; "E90 memory"),
+    };
+}
+
+/// Prints the line of an error and, if hints are printed, its hint.
+pub(crate) fn print_error(rt: &HostRuntime, context: Context<'_>, fault: &CliFault) -> Status {
+    print_line(rt, fault);
     if has_hints(rt) {
-        print_hint(rt, hint(rt.alloc(), context, line));
+        print_hint(rt, hint(rt.alloc(), context, fault).map(Some));
     }
     Status::Failed
 }
@@ -60,45 +69,36 @@ fn unread<'a>(rt: &HostRuntime, files: &[&'a str]) -> Option<&'a str> {
     None
 }
 
-// Returns what a file contains now. Only a regular file is read.
-fn contents(rt: &HostRuntime, file: &str) -> Contents {
-    if !fs::metadata(rt, file).is_ok_and(|found| found.is_file()) {
-        return Contents::Unknown;
-    }
-    match read_named(rt.alloc(), &SystemInputs::new(rt), file) {
-        Ok(text) => contents_of(rt.alloc(), &text),
-        Err(_) => Contents::Unknown,
-    }
-}
-
-// Returns the context of an error of an order. For the error of a file it reads the files again,
-// except standard input.
-fn context_of<'a>(rt: &HostRuntime, order: &FileOrder<'a>, line: &str) -> Context<'a> {
+/// Returns the context of an error of an order. If one of several files can't be read, it tries
+/// them again, except standard input.
+pub(crate) fn context_of<'a>(
+    rt: &HostRuntime,
+    order: &FileOrder<'a>,
+    fault: &CliFault,
+) -> Context<'a> {
     let context = order.context();
-    if line == "I1 file" {
-        return match order.files(rt.alloc()) {
-            Ok(files) => Context {
-                unread: unread(rt, &files).or(context.unread),
-                ..context
-            },
-            Err(_) => context,
-        };
+    if !matches!(fault, CliFault::Input) {
+        return context;
     }
-    match order.file() {
-        Some(file) if line.starts_with('F') || line.starts_with('T') => Context {
-            contents: contents(rt, file),
+    match order.files(rt.alloc()) {
+        Ok(files) => Context {
+            unread: unread(rt, &files).or(context.unread),
             ..context
         },
-        _ => context,
+        Err(_) => context,
     }
 }
 
 /// Prints the error of an order on files and, if hints are printed, its hint.
-pub(crate) fn print_file_error(rt: &HostRuntime, order: &FileOrder<'_>, line: &str) -> Status {
+pub(crate) fn print_file_error(
+    rt: &HostRuntime,
+    order: &FileOrder<'_>,
+    fault: &CliFault,
+) -> Status {
     let context = if has_hints(rt) {
-        context_of(rt, order, line)
+        context_of(rt, order, fault)
     } else {
         Context::NONE
     };
-    print_error(rt, context, line)
+    print_error(rt, context, fault)
 }

@@ -4,7 +4,7 @@ use crate::hints::print_error;
 use crate::status::Status;
 use clap::Error;
 use clap::error::ErrorKind;
-use plan_cli::{CliFault, Context};
+use plan_errors::{CliFault, Context};
 use std::alloc::{AllocError, Global};
 use std::io;
 
@@ -50,7 +50,7 @@ impl Misuse {
     /// Prints the reason, and returns the status.
     pub(crate) fn print(&self, rt: &HostRuntime) -> Status {
         match self {
-            Misuse::NoMemory => print_error(rt, Context::NONE, CliFault::Memory.line()),
+            Misuse::NoMemory => print_error(rt, Context::NONE, &CliFault::Memory),
             Misuse::Usage(error) => print_usage(rt, error),
             Misuse::NoText => print_misuse(rt, "a word of the command line isn't UTF-8"),
             Misuse::NoCommand => print_misuse(rt, "no command"),
@@ -66,7 +66,7 @@ impl Misuse {
 // Prints clap's help or usage. The status is that of usage even if the usage can't be printed.
 fn print_usage(rt: &HostRuntime, error: &Error) -> Status {
     if error.kind() == ErrorKind::OutOfMemory {
-        return print_error(rt, Context::NONE, CliFault::Memory.line());
+        return print_error(rt, Context::NONE, &CliFault::Memory);
     }
     let printed = error.print(rt);
     if error.use_stderr() {
@@ -74,7 +74,7 @@ fn print_usage(rt: &HostRuntime, error: &Error) -> Status {
     }
     match printed {
         Ok(()) => Status::Done,
-        Err(_) => print_error(rt, Context::NONE, CliFault::Output.line()),
+        Err(_) => print_error(rt, Context::NONE, &CliFault::Output),
     }
 }
 

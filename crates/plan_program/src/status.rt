@@ -1,5 +1,7 @@
 //! The exit status of the program.
 
+use plan_sgs::Verdict;
+
 /// The outcome of a command, which decides the exit status.
 #[derive(Clone, Copy, Debug, PartialEq, Eq)]
 pub enum Status {
@@ -15,7 +17,17 @@ pub enum Status {
 
 impl Status {
     ghost use Rattle.std.specs.Prelude.{◌≡◌};
-    ghost use Rattle.plan_program.specs.Statuses.{code_of};
+    ghost use Rattle.plan_program.specs.Statuses.{code_of, status_of};
+
+    /// Returns the outcome of `plan check --status` for its verdict.
+    pub fn of(verdict: Verdict) -> Status
+        ensures { result ≡ status_of verdict }
+    {
+        match verdict {
+            Verdict::Active => Status::Done,
+            Verdict::Arc(_, _) | Verdict::Over(_, _) | Verdict::Shift(_) => Status::NotActive,
+        }
+    }
 
     /// Returns the exit status as a number.
     pub fn code(self) -> u8

@@ -1,28 +1,27 @@
 //! `plan verify`: the check of the log of a search.
 
-use plan_cli::{CliFault, Inputs, SystemInputs, read_named};
-use plan_gantt::{file_fault_text, schedule_fault_text};
+use plan_cli::{Inputs, SystemInputs, file_refusal, need_refusal, read_named};
+use plan_errors::{CliFault, Code, Key, Part, Subject, refuse};
 use plan_io::{Source, StdSink, write_whole};
-use plan_psplib::{FileCode, FileFault};
 use plan_sgs::SgsFault;
 use plan_verify::{LogFault, VerifyFault, verify_shop_text, verify_text};
 use std::alloc::Global;
 use std::io;
 
-// Returns the error of a file.
-fn file_fault(alloc: Global, fault: &FileFault) -> CliFault {
-    if fault.code == FileCode::Memory {
-        return CliFault::Memory;
+// Returns the error of a project. It names no rule and no list of activities.
+fn project_fault(alloc: Global, fault: SgsFault) -> CliFault {
+    match fault {
+        SgsFault::NeedsTooMuch { act, res } => need_refusal(alloc, act, res),
+        SgsFault::NoMemory | SgsFault::NotAList | SgsFault::UnknownRule => CliFault::Memory,
     }
-    file_fault_text(alloc, fault).map_or(CliFault::Memory, CliFault::Refused)
 }
 
-// Returns the error of a project.
-fn project_fault(alloc: Global, fault: &SgsFault) -> CliFault {
-    if matches!(fault, SgsFault::NoMemory) {
-        return CliFault::Memory;
+// Returns the error of a line of a log.
+fn line_fault(alloc: Global, code: Code, line: u64) -> CliFault {
+    match Vec::from_array(alloc, [Part::Number(Key::Line, line)]) {
+        Ok(parts) => refuse(code, Subject::Other, Ok(parts)),
+        Err(_) => CliFault::Memory,
     }
-    schedule_fault_text(alloc, fault).map_or(CliFault::Memory, CliFault::Refused)
 }
 
 // Returns the error of a log.
@@ -30,13 +29,12 @@ fn log_fault(alloc: Global, fault: LogFault) -> CliFault {
     match fault {
         LogFault::NoMemory => CliFault::Memory,
         LogFault::Device => CliFault::Input,
-        LogFault::DoesNotFollow { .. } | LogFault::Unreadable { .. } => {
-            format!(in alloc; "{fault}").map_or(CliFault::Memory, CliFault::Refused)
-        }
+        LogFault::DoesNotFollow { line } => line_fault(alloc, Code::DoesNotFollow, line),
+        LogFault::Unreadable { line } => line_fault(alloc, Code::BadLogLine, line),
     }
 }
 
-// Returns the line of what a log shows of the problem in a file.
+// Returns the line with the verdict of a log on the problem in a file.
 fn verified<R: Source>(
     alloc: Global,
     file: &[u8],
@@ -48,13 +46,13 @@ fn verified<R: Source>(
         None => verify_text(alloc, file, log),
     };
     shown.map_err(|fault| match fault {
-        VerifyFault::File(fault) => file_fault(alloc, &fault),
-        VerifyFault::Project(fault) => project_fault(alloc, &fault),
+        VerifyFault::File(fault) => file_refusal(alloc, &fault, file),
+        VerifyFault::Project(fault) => project_fault(alloc, fault),
         VerifyFault::Log(fault) => log_fault(alloc, fault),
     })
 }
 
-/// Writes what the log with this name shows of the problem in a file.
+/// Writes the verdict of the log with this name on the problem in a file.
 pub(crate) fn do_verify(
     rt: &HostRuntime,
     file: &str,

@@ -13,19 +13,18 @@ use std::alloc::{AllocError, Global};
 /// After how much work the watcher is asked whether the search should end.
 const WORK_BETWEEN: u64 = 200_000;
 
-/// The work before all other searches for each step, and the greatest one. That is half a second.
-const FIRST_WORK_PER_STEP: u64 = 20_000;
+/// The work before all other searches for each pair of steps, and the greatest one: half a second
+/// without a shorter schedule.
+const FIRST_WORK_PER_PAIR: u64 = 80;
 
-const MOST_FIRST_WORK: u64 = 10_000_000;
-
-/// The work of a turn for each conflict and step. They take about as long.
-const WORK_PER_CONFLICT: u64 = 10;
+const MOST_FIRST_WORK: u64 = 20_000_000;
 
 /// A local search, and how many of its turns in a row didn't find a shorter schedule.
 #[derive(Drop)]
 pub struct Moves {
     search: LocalSearch,
     steps: u64,
+    jobs: u64,
     idle: u64,
 }
 
@@ -35,6 +34,7 @@ impl Moves {
         Ok(Moves {
             search: LocalSearch::new(alloc, shop)?,
             steps: (shop.jobs() as u64).saturating_mul(shop.machines() as u64),
+            jobs: shop.jobs() as u64,
             idle: 0,
         })
     }
@@ -42,7 +42,8 @@ impl Moves {
     /// Returns the work before all other searches.
     pub fn first_work(&self) -> u64 {
         self.steps
-            .saturating_mul(FIRST_WORK_PER_STEP)
+            .saturating_mul(self.steps)
+            .saturating_mul(FIRST_WORK_PER_PAIR)
             .min(MOST_FIRST_WORK)
     }
 
@@ -51,23 +52,30 @@ impl Moves {
     pub fn work_of_turn(&self, conflicts: u64) -> u64 {
         let work = conflicts
             .saturating_mul(self.steps)
-            .saturating_mul(WORK_PER_CONFLICT);
+            .saturating_mul(self.jobs);
         work / self.idle.max(1)
     }
 
-    // Searches until so much work is done or the watcher ends the search.
+    // Searches until so much work in a row finds no shorter schedule, or the watcher ends the
+    // search.
     fn run<V: SolveWatcher>(&mut self, work: u64, watcher: &mut V) -> Result<(), AllocError> {
-        for _slice in 0..work / WORK_BETWEEN + 1 {
-            if self.search.is_over() || watcher.is_late() {
+        let (mut left, mut least) = (work, self.search.makespan());
+        for _slice in 0..u64::MAX {
+            if left == 0 || self.search.is_over() || watcher.is_late() {
                 break;
             }
-            self.search.run(WORK_BETWEEN)?;
+            self.search.run(WORK_BETWEEN.min(left))?;
+            left = left.saturating_sub(WORK_BETWEEN);
+            if self.search.makespan() < least {
+                least = self.search.makespan();
+                left = work;
+            }
         }
         Ok(())
     }
 
-    /// Continues the search from a schedule and a lower bound, with so much work. Returns a
-    /// schedule that is no longer.
+    /// Continues the search from a schedule and a lower bound, until so much work in a row finds no
+    /// shorter schedule. Returns a schedule that is no longer.
     pub fn search<V: SolveWatcher>(
         &mut self,
         alloc: Global,

@@ -10,16 +10,16 @@ use plan_kernel::{Input, Kernel, KernelFault, Lesson, Literal, Member};
 use plan_psplib::Words;
 use std::alloc::{AllocError, Global};
 
-/// What the lines so far show, and what their numbers mean.
+/// The state after the lines so far: the kernel, and the meaning of their numbers.
 #[derive(Drop)]
 pub struct Replay {
     pub kernel: Kernel,
-    // a kernel of the same problem that knows nothing: it checks the last schedule
+    // a new kernel of the same problem, which checks the last schedule
     spare: Kernel,
     arcs: Arcs,
     clauses: ClauseNumbers,
     members: Vec<Member>,
-    // for each half the last lesson that named it, and how many lessons there were
+    // for each half the last lesson that named it, and the number of lessons
     named: Vec<u64>,
     lessons: u64,
 }
@@ -39,7 +39,7 @@ fn copy_of(alloc: Global, input: &Input) -> Result<Input, AllocError> {
     })
 }
 
-// Returns how many literals a conflict has.
+// Returns the number of literals of a conflict.
 fn count_literals(kernel: &Kernel) -> u64 {
     let mut count: u64 = 0;
     for &half in kernel.touched() {
@@ -145,7 +145,7 @@ impl Replay {
         expect(self.kernel.resolve(half, reason))
     }
 
-    // Names a literal of the conflict. Returns whether it is one that wasn't named yet.
+    // Marks a literal as named. Returns whether it is one of the conflict that wasn't named yet.
     fn name(&mut self, literal: Literal) -> bool
         ensures { self.new.kernel ≡ self.old.kernel }
     {
@@ -157,7 +157,7 @@ impl Replay {
         literal.value > 0 && self.kernel.conflict(literal.half) == literal.value
     }
 
-    // Reads the negation of the conflict up to the end of a line. Returns how many literals it has.
+    // Reads the negation of the conflict up to the end of a line. Returns the number of literals.
     fn lesson(&mut self, words: &mut Words<'_>) -> Result<u64, LineFault>
         ensures { self.new.kernel ≡ self.old.kernel }
     {

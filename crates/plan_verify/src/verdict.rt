@@ -1,4 +1,4 @@
-//! What a log shows.
+//! The verdict of a log.
 
 ghost use Rattle.std.specs.Prelude.{◌≡◌, IfOk, string_bytes};
 ghost use Rattle.plan_kernel.specs.Inputs.{problem_of};
@@ -8,7 +8,7 @@ use plan_kernel::Kernel;
 use std::alloc::{AllocError, Global};
 use std::fmt::Write;
 
-/// What a log shows of a problem.
+/// The verdict of a log on a problem.
 #[derive(Clone, Copy, Debug, PartialEq, Eq, Drop)]
 pub enum Verdict {
     /// The least makespan of all feasible schedules is this one.
@@ -17,7 +17,7 @@ pub enum Verdict {
     AtLeast { bound: u32 },
 }
 
-/// Returns what a kernel shows of its problem.
+/// Returns the verdict of a kernel on its problem.
 #[tactic(auto, using(crate::proofs::VerdictLemmas::is_least))]
 pub fn verdict_of(kernel: &Kernel) -> Verdict
     ensures { IsTrueOf (problem_of kernel.now.known.input) result }

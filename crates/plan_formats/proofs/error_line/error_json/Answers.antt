@@ -3,7 +3,7 @@ use Rattle.serde_json.specs.Data.{Data, depth}
 use Rattle.serde_json.specs.Read.{max_depth}
 use Rattle.serde_json.specs.Written.{has_float}
 use Rattle.plan_formats.specs.ErrorLines.{error_data}
-use Rattle.plan_formats.proofs.JsonLemmas.{error_fits}
+use Rattle.plan_formats.proofs.ParsedLemmas.{error_fits}
 use Rattle.plan_formats.proofs.error_line.error_json.Goals as goal
 
 pub value_line-requires-clause-whole : goal.value_line-requires-clause-whole

@@ -3,7 +3,7 @@ use Rattle.serde_json.proofs.Views.{view-Array}
 use Rattle.serde_json.specs.Data.{Data, put}
 use Rattle.serde_json.specs.View.{members_view}
 use Rattle.plan_formats.specs.ErrorLines.{items_of_numbers, front_numbers}
-use Rattle.plan_formats.proofs.JsonLemmas.{cycle_put}
+use Rattle.plan_formats.proofs.ParsedLemmas.{cycle_put}
 use Rattle.plan_formats.proofs.error_line.put_cycle.Goals as goal
 
 pub returns : goal.returns

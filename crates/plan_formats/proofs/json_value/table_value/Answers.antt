@@ -7,4 +7,4 @@ pub returns : goal.returns
 returns c =
     view-Object c.put.new.map
     ∙ ap object (c.in_ok-put.ensures.ok
-    ∙ rw (c.in_ok-rows_value.ensures, c.in_ok-put_members.ensures, c.new-object.ensures.empty, c.deref.ensures.value, c.deref-2.ensures.value, c.deref-3.ensures.value) refl)
+    ∙ rw (c.in_ok-rows.ensures, c.in_ok-put_lines-2.ensures, c.in_ok-put_lines.ensures, c.new-object.ensures.empty, c.deref.ensures.value, c.deref-2.ensures.value, c.deref-3.ensures.value, c.deref-4.ensures.value) refl)

@@ -1,6 +1,6 @@
 use Rattle.std.proofs.Common.{map, codes}
 use Rattle.plan_formats.specs.RowTables.{word_member}
-use Rattle.plan_formats.specs.Tables.{member_of}
+use Rattle.plan_formats.specs.ParsedTables.{member_of}
 use Rattle.plan_formats.proofs.ListLemmas.{two_more}
 use Rattle.plan_formats.proofs.row_table.push_both.Goals as goal
 

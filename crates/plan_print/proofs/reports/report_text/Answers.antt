@@ -11,11 +11,10 @@ returns-in-Some-clause-made c =
     let a = c.args in
     let r = c.dated_page.result in
     let starts = a.schedule.now.starts.items in
-    let title = a.heading.title.now in
     let lines = ap (map name_of) c.deref.ensures.value ∙ c.in_ok-lines.ensures in
     let legend = ap (map name_of) c.deref-in-Some.ensures.value ∙ c.in_ok-legend.ensures in
-    subst (λ (d : Option Dates). IfText r (IsReport title a.heading.lower d a.by_job a.subject a.file.now a.plan.now starts)) (sym c.in-Some.is)
+    subst (λ (d : Option Dates). IfText r (IsReport a.heading d a.by_job a.subject a.file.now a.plan.now starts)) (sym c.in-Some.is)
     (subst (λ (names : List Name). IfText r (ShowsDays c.in-Some.dates
-    (IsDatedPage title a.heading.lower names (legend_names a.subject a.file.now) a.by_job a.plan.now starts))) lines
+    (IsDatedPage a.heading names (legend_names a.subject a.file.now) a.by_job a.plan.now starts))) lines
     (subst (λ (names : List Name). IfText r (ShowsDays c.in-Some.dates
-    (IsDatedPage title a.heading.lower (map name_of c.deref.result.now) names a.by_job a.plan.now starts))) legend c.dated_page.ensures.made))
+    (IsDatedPage a.heading (map name_of c.deref.result.now) names a.by_job a.plan.now starts))) legend c.dated_page.ensures.made))

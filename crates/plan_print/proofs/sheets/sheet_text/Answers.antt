@@ -1,11 +1,17 @@
 use Rattle.std.specs.Prelude.{string_bytes}
 use Rattle.std.proofs.lemmas.Result.{IfOk-weaker, err_from_is_err_and}
 use Rattle.plan_errors.specs.Output.{Refuses}
-use Rattle.plan_cli.proofs.DocumentLemmas.{of_subject, no_plan, no_text}
+use Rattle.plan_cli.proofs.DocumentLemmas.{of_subject, no_document, no_plan, no_text}
 use Rattle.plan_cli.proofs.RunLemmas.{if_err_weaker}
 use Rattle.plan_print.specs.Prints.{IsSheet, RefusesSheet}
 use Rattle.plan_print.specs.Sheets.{IsSheetFrom, TellsNoSheetFrom}
 use Rattle.plan_print.proofs.sheets.sheet_text.Goals as goal
+
+pub returns-in_err-document-clause-refused : goal.returns-in_err-document-clause-refused
+returns-in_err-document-clause-refused g c =
+    let error = err_from_is_err_and c.from_residual.result c.from_residual.ensures.1 in
+    rw (error.1, error.2) (no_document c.args.subject c.args.file.now (TellsNoSheetFrom c.args.origin c.args.sheet) c.in_err-document.field-0.0
+    c.in_err-document.ensures.refused)
 
 pub returns-in_err-plan-clause-refused : goal.returns-in_err-plan-clause-refused
 returns-in_err-plan-clause-refused g c =

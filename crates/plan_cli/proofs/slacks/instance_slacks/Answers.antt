@@ -1,0 +1,29 @@
+use Rattle.std.proofs.Common.{rules, inl, ℕ, List, subst}
+use Rattle.std.proofs.lemmas.Result.{err_from_is_err_and}
+use Rattle.plan_sgs.specs.Instances.{problem_of}
+use Rattle.plan_report.specs.Slack.{RefusesSlack}
+use Rattle.plan_errors.specs.Output.{Refuses}
+use Rattle.plan_cli.specs.SlackRun.{TellsBadStarts, TellsBadSlack, TellsSlackFault}
+use Rattle.plan_cli.proofs.RunLemmas.{refuses_as}
+use Rattle.plan_cli.proofs.SlackLemmas.{bad_starts, slack_refused}
+use Rattle.plan_cli.proofs.slacks.instance_slacks.Goals as goal
+
+pub returns-clause-refused : goal.returns-clause-refused
+returns-clause-refused c =
+    let i = c.args.instance.now in
+    let listed = c.args.listed.now in
+    let starts = c.in_ok-starts.starts.items in
+    let refused : RefusesSlack (problem_of i) starts c.in-Err.fault =
+    subst (λ (s : List ℕ). RefusesSlack (problem_of i) s c.in-Err.fault) c.deref.ensures.value c.in-Err.ensures.refused in
+    let tells : Refuses (TellsSlackFault c.in-Err.fault) c.slack_refusal.result = search rules in
+    slack_refused listed i c.network.result.now starts c.in-Err.fault c.slack_refusal.result c.network.ensures.network
+    c.in_ok-starts.ensures.said refused tells
+
+pub returns-in_err-starts-clause-refused : goal.returns-in_err-starts-clause-refused
+returns-in_err-starts-clause-refused c =
+    let i = c.args.instance.now in
+    let listed = c.args.listed.now in
+    let error = err_from_is_err_and c.from_residual.result c.from_residual.ensures.1 in
+    rw (error.1, error.2) (refuses_as (TellsBadStarts listed i) (TellsBadSlack listed i) c.in_err-starts.field-0.0 (λ line tells. inl tells)
+    (bad_starts listed i c.network.result.now c.in_err-starts.field-0.0 c.network.ensures.instance.fit
+    c.network.ensures.network c.in_err-starts.ensures.refused))

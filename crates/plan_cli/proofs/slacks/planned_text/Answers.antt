@@ -1,8 +1,0 @@
-use Rattle.plan_sgs.specs.Instances.{planned}
-use Rattle.plan_cli.proofs.SlackLemmas.{no_slack}
-use Rattle.plan_cli.proofs.slacks.planned_text.Goals as goal
-
-pub returns-clause-refused : goal.returns-clause-refused
-returns-clause-refused c =
-    no_slack c.args.listed.now (planned c.args.project.now c.args.capacities.now) _ c.instance_text.result
-    c.in_ok-instance.ensures.ok c.instance_text.ensures.refused

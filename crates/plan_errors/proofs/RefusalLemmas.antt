@@ -1,0 +1,62 @@
+-- Refusals by their lines.
+use Rattle.std.proofs.Common.{◌≡◌, ℕ, List, ◌++◌, Option, String, Result, Ok, Err, Vec, refl, sym, subst}
+use Rattle.std.specs.Prelude.{IfOk, IfErr}
+use Rattle.std.specs.Global.{Global}
+use Rattle.plan_errors.specs.Codes.{name_of}
+use Rattle.plan_errors.specs.Faults.{refusal_of, IsAbout, with_contents, with_detail}
+use Rattle.plan_errors.specs.Output.{Refuses}
+use Rattle.plan_errors.specs.Parts.{parts_text}
+use Rattle.plan_errors.specs.declared.codes.Code.{Code}
+use Rattle.plan_errors.specs.declared.context.Contents.{Contents}
+use Rattle.plan_errors.specs.declared.context.Subject.{Subject}
+use Rattle.plan_errors.specs.declared.fault.CliFault.{CliFault}
+use Rattle.plan_errors.specs.declared.fault.CliFault.TheVariants as cli
+use Rattle.plan_errors.specs.declared.parts.Part.{Part}
+
+-- an error with these parts refuses with their line
+pub refused_with : {E : Type 0} (IsLine : List ℕ → Type 0) (code : Code) (about : Subject)
+    (parts : Result (Vec Part Global) E) (e : CliFault)
+    → IfOk parts (λ list. IsLine (name_of code ++ parts_text list.items))
+    → IfOk parts (λ list. e ≡ cli.Refused (refusal_of code about list)) → IfErr parts (λ _. e ≡ cli.Memory)
+    → Refuses IsLine e
+refused_with IsLine code about (Ok list) e is made memory = subst (λ (f : CliFault). Refuses IsLine f) (sym made) is
+refused_with IsLine code about (Err x) e is made memory = subst (λ (f : CliFault). Refuses IsLine f) (sym memory) tt
+
+-- it is about its argument
+pub refused_about : {E : Type 0} (code : Code) (about : Subject) (parts : Result (Vec Part Global) E) (e : CliFault)
+    → IfOk parts (λ list. e ≡ cli.Refused (refusal_of code about list)) → IfErr parts (λ _. e ≡ cli.Memory)
+    → IsAbout about e
+refused_about code about (Ok list) e made memory = subst (λ (f : CliFault). IsAbout about f) (sym made) refl
+refused_about code about (Err x) e made memory = subst (λ (f : CliFault). IsAbout about f) (sym memory) tt
+
+-- the contents of the file don't change the line
+pub contents_refuse : (IsLine : List ℕ → Type 0) (contents : Contents) (e : CliFault)
+    → Refuses IsLine e → Refuses IsLine (with_contents contents e)
+contents_refuse IsLine contents (cli.Refused refusal) refuses = refuses
+contents_refuse IsLine contents cli.Memory refuses = tt
+contents_refuse IsLine contents cli.Input refuses = absurd refuses
+contents_refuse IsLine contents cli.Output refuses = absurd refuses
+
+-- nor the argument
+pub contents_about : (about : Subject) (contents : Contents) (e : CliFault)
+    → IsAbout about e → IsAbout about (with_contents contents e)
+contents_about about contents (cli.Refused refusal) is = is
+contents_about about contents cli.Memory is = tt
+contents_about about contents cli.Input is = absurd is
+contents_about about contents cli.Output is = absurd is
+
+-- a detail doesn't change the line
+pub detail_refuses : (IsLine : List ℕ → Type 0) (detail : Option (String Global)) (e : CliFault)
+    → Refuses IsLine e → Refuses IsLine (with_detail detail e)
+detail_refuses IsLine detail (cli.Refused refusal) refuses = refuses
+detail_refuses IsLine detail cli.Memory refuses = tt
+detail_refuses IsLine detail cli.Input refuses = absurd refuses
+detail_refuses IsLine detail cli.Output refuses = absurd refuses
+
+-- nor the argument
+pub detail_about : (about : Subject) (detail : Option (String Global)) (e : CliFault)
+    → IsAbout about e → IsAbout about (with_detail detail e)
+detail_about about detail (cli.Refused refusal) is = is
+detail_about about detail cli.Memory is = tt
+detail_about about detail cli.Input is = absurd is
+detail_about about detail cli.Output is = absurd is

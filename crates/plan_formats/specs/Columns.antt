@@ -1,0 +1,59 @@
+-- Columns of a table, and their places in the text (docs/definitions.md, "Formats").
+use Rattle.std.specs.Prelude.{ℕ, ◌-◌, Bool, true, false, if◌then◌else◌, List, [], ◌++◌}
+use Rattle.std.specs.Prelude.{length, replicate, codes}
+use Rattle.plan_formats.specs.Cells.{Cell, number, above, below, text, flag, empty, text_of}
+use Rattle.plan_formats.specs.declared.column.Column as declared
+use Rattle.plan_formats.specs.declared.column.Layout.{Layout}
+use Rattle.plan_formats.specs.declared.column.Layout.TheVariants as layout
+
+-- a column: its heading in the text, in CSV and in JSON, its word in JSON, and its place in the
+-- text
+pub record Column : Type 0 where
+  pub heading : List ℕ
+  pub word : List ℕ
+  pub layout : Layout
+
+-- a column, as the program keeps it
+abbrev pub column_of : declared.Column → Column
+column_of c = record { heading = c.heading.now; word = c.word.now; layout = c.layout }
+
+-- a text aligned right in a number of characters; a longer text isn't cut
+abbrev pub column : ℕ → List ℕ → List ℕ
+column places word = replicate (places - length word) 32 ++ word
+
+-- the column has the names behind the rows
+abbrev pub is_label : Layout → Bool
+is_label (layout.Right places) = false
+is_label layout.Mark = false
+is_label layout.Label = true
+is_label layout.Line = false
+
+-- the column is a whole line
+abbrev pub is_line : Layout → Bool
+is_line (layout.Right places) = false
+is_line layout.Mark = false
+is_line layout.Label = false
+is_line layout.Line = true
+
+-- the mark of a row whose cell is the flag `true`
+abbrev pub mark_of : Cell → List ℕ
+mark_of (number n) = []
+mark_of (above n) = []
+mark_of (below n) = []
+mark_of (text t) = []
+mark_of (flag b) = if b then codes " *" else []
+mark_of empty = []
+
+-- a cell at the place of its column; a label stands behind the row, not in it
+abbrev pub placed : Layout → Cell → List ℕ
+placed (layout.Right places) cell = column places (text_of cell)
+placed layout.Mark cell = mark_of cell
+placed layout.Label cell = []
+placed layout.Line cell = text_of cell
+
+-- a heading at the place of its column: only columns that are aligned right have one in the row
+abbrev pub placed_heading : Layout → List ℕ → List ℕ
+placed_heading (layout.Right places) heading = column places heading
+placed_heading layout.Mark heading = []
+placed_heading layout.Label heading = []
+placed_heading layout.Line heading = []

@@ -1,0 +1,24 @@
+//! The lines above and below the rows of a table.
+
+/// A line above or below the rows. Its values are members of the JSON object.
+#[derive(Debug, Drop)]
+pub enum Line {
+    /// `optimal 45`: the least makespan.
+    Optimal(u64),
+    /// `between 40 45`: a lower and an upper bound of the least makespan.
+    Between(u64, u64),
+    /// `budget 59`: an upper bound of the least makespan.
+    Budget(u64),
+    /// `T 45`: the length of the project.
+    Duration(u64),
+    /// `makespan 45`.
+    Makespan(u64),
+    /// `chain 1 2 5` or `no chain`: activities that determine the makespan.
+    Chain(Option<Vec<u32>>),
+    /// `A makespan 7: active`: the name, the makespan and the verdict of a schedule.
+    Summary {
+        name: &'static str,
+        makespan: u64,
+        verdict: String,
+    },
+}

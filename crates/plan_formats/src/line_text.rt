@@ -1,0 +1,110 @@
+//! The texts of the lines above and below the rows of a table.
+
+ghost use Rattle.std.specs.Prelude.{◌≡◌, ◌++◌, map, codes, decimal, IfOk, OnOk, string_bytes};
+ghost use Rattle.plan_formats.specs.TableLines as spec;
+
+use crate::line::Line;
+use std::alloc::{AllocError, Global};
+
+// Returns a word, a blank and a number.
+fn worded(alloc: Global, word: &str, n: u64) -> Result<String, AllocError>
+    ensures { IfOk result (λ text.
+        string_bytes text ≡ word.now ++ codes " " ++ decimal n) }
+{
+    format!(in alloc; "{word} {n}")
+}
+
+// Returns two bounds of the least makespan.
+fn bounds_words(alloc: Global, lower: u64, upper: u64) -> Result<String, AllocError>
+    ensures { IfOk result (λ text. string_bytes text
+        ≡ codes "between " ++ decimal lower ++ codes " " ++ decimal upper) }
+{
+    let front = worded(alloc, "between", lower)?;
+    worded(alloc, &front, upper)
+}
+
+// Returns the name and the makespan of a schedule.
+fn makespan_words(alloc: Global, name: &str, makespan: u64) -> Result<String, AllocError>
+    ensures { IfOk result (λ text.
+        string_bytes text ≡ name.now ++ codes " makespan " ++ decimal makespan) }
+{
+    format!(in alloc; "{name} makespan {makespan}")
+}
+
+// Returns the name, the makespan and the verdict of a schedule.
+fn summary_words(
+    alloc: Global,
+    name: &str,
+    makespan: u64,
+    verdict: &str,
+) -> Result<String, AllocError>
+    ensures { IfOk result (λ text. string_bytes text
+        ≡ name.now ++ codes " makespan " ++ decimal makespan ++ codes ": " ++ verdict.now) }
+{
+    let mut text = makespan_words(alloc, name, makespan)?;
+    text.push_str(": ")?;
+    text.push_str(verdict)?;
+    Ok(text)
+}
+
+// Appends numbers, each behind a blank.
+fn push_numbers(alloc: Global, text: &mut String, numbers: &[u32]) -> Result<(), AllocError>
+    ensures { OnOk result (string_bytes text.new
+        ≡ string_bytes text.old ++ spec.spaced_numbers numbers.now) }
+{
+    for n in numbers {
+        let word = format!(in alloc; " {n}")?;
+        text.push_str(&word)?;
+    }
+    Ok(())
+}
+
+// Returns the text of a chain, if there is one.
+fn chain_text(alloc: Global, chain: &Option<Vec<u32>>) -> Result<String, AllocError>
+    ensures { IfOk result (λ text.
+        string_bytes text ≡ spec.chain_text (spec.chain_of chain.now)) }
+{
+    let Some(numbers) = chain else {
+        return format!(in alloc; "no chain");
+    };
+    let mut text = format!(in alloc; "chain")?;
+    push_numbers(alloc, &mut text, numbers)?;
+    Ok(text)
+}
+
+// Returns the text of a line, without its line feed.
+fn line_words(alloc: Global, line: &Line) -> Result<String, AllocError>
+    ensures { IfOk result (λ text.
+        string_bytes text ≡ spec.line_words (spec.line_of line.now)) }
+{
+    match line {
+        Line::Optimal(n) => worded(alloc, "optimal", *n),
+        Line::Between(lower, upper) => bounds_words(alloc, *lower, *upper),
+        Line::Budget(n) => worded(alloc, "budget", *n),
+        Line::Duration(n) => worded(alloc, "T", *n),
+        Line::Makespan(n) => worded(alloc, "makespan", *n),
+        Line::Chain(chain) => chain_text(alloc, chain),
+        Line::Summary {
+            name,
+            makespan,
+            verdict,
+        } => summary_words(alloc, name, *makespan, verdict),
+    }
+}
+
+/// Appends the texts of lines.
+pub(crate) fn push_lines(
+    alloc: Global,
+    text: &mut Vec<u8>,
+    lines: &[Line],
+) -> Result<(), AllocError>
+    ensures { OnOk result (text.new.items
+        ≡ text.old.items ++ spec.lines_text (map spec.line_of lines.now)) }
+{
+    for line in lines {
+        let words = line_words(alloc, line)?;
+        text.extend_from_slice(words.as_bytes())?;
+        text.push(b'\n')?;
+    }
+    Ok(())
+}

@@ -1,0 +1,7 @@
+pub mod RowLemmas
+pub mod ShopRowLemmas
+pub mod TextLemmas
+pub mod DayLemmas
+pub mod ReportLemmas
+pub mod ChartLemmas
+pub mod ChartFitLemmas

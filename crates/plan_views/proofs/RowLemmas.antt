@@ -1,0 +1,58 @@
+-- The rows of a table or a chart, one after another.
+use Rattle.std.proofs.Common.{◌≡◌, ℕ, zero, suc, ◌+◌, List, [], ◌∷◌, ◌++◌, Vec, map, sym, ap, ◌∙◌, arith}
+use Rattle.std.specs.List.{range_with_len}
+use Rattle.std.proofs.lemmas.List.{map-append}
+use Rattle.std.specs.Global.{Global}
+use Rattle.plan_formats.specs.Cells.{Cell}
+use Rattle.plan_formats.specs.Tables.{cells_of, rows_of}
+use Rattle.plan_formats.specs.declared.cell.Cell as declared
+use Rattle.plan_views.specs.Rows.{rows_from}
+
+one_more : {Y : Type 0} (f : ℕ → Y) (first n : ℕ) → map f (range_with_len first (suc n)) ≡ map f (range_with_len first n) ++ f (first + n) ∷ []
+one_more f first zero =
+    let e : first ≡ first + 0 = omega arith in
+    ap (λ k. f k ∷ []) e
+one_more f first (suc n) =
+    let e : first + 1 + n ≡ first + suc n = omega arith in
+    ap (λ rest. f first ∷ rest) (one_more f (first + 1) n ∙ ap (λ k. map f (range_with_len (first + 1) n) ++ f k ∷ []) e)
+
+-- the items so far with the next one
+next_item : {X Y : Type 0} (g : X → Y) (f : ℕ → Y) (first k : ℕ) (old new : List X) (v : X)
+    → map g old ≡ map f (range_with_len first k) → g v ≡ f (first + k) → new ≡ old ++ v ∷ []
+    → map g new ≡ map f (range_with_len first (k + 1))
+next_item g f first k old new v so_far is step =
+    let e : k + 1 ≡ suc k = omega arith in
+    ap (map g) step ∙ map-append g old (v ∷ [])
+    ∙ ap (λ items. items ++ g v ∷ []) so_far
+    ∙ ap (λ item. map f (range_with_len first k) ++ item ∷ []) is
+    ∙ sym (ap (λ n. map f (range_with_len first n)) e ∙ one_more f first k)
+
+-- items numbered from 1
+pub next_item_from_one : {X Y : Type 0} (g : X → Y) (f : ℕ → Y) (k : ℕ) (old new : List X) (v : X)
+    → map g old ≡ map f (range_with_len 1 k) → g v ≡ f (k + 1) → new ≡ old ++ v ∷ []
+    → map g new ≡ map f (range_with_len 1 (k + 1))
+next_item_from_one g f k old new v so_far is step =
+    let place : k + 1 ≡ 1 + k = omega arith in
+    next_item g f 1 k old new v so_far (is ∙ ap f place) step
+
+-- items numbered from 0
+pub next_item_from_zero : {X Y : Type 0} (g : X → Y) (f : ℕ → Y) (k : ℕ) (old new : List X) (v : X)
+    → map g old ≡ map f (range_with_len 0 k) → g v ≡ f k → new ≡ old ++ v ∷ []
+    → map g new ≡ map f (range_with_len 0 (k + 1))
+next_item_from_zero g f k old new v so_far is step =
+    let place : k ≡ 0 + k = omega arith in
+    next_item g f 0 k old new v so_far (is ∙ ap f place) step
+
+-- rows numbered from 1
+pub next_from_one : (row : ℕ → List Cell) (k : ℕ) (old new : List (Vec declared.Cell Global)) (v : Vec declared.Cell Global)
+    → rows_of old ≡ rows_from row 1 k → cells_of v.items ≡ row (k + 1) → new ≡ old ++ v ∷ []
+    → rows_of new ≡ rows_from row 1 (k + 1)
+next_from_one row k old new v so_far is step =
+    next_item_from_one (λ (r : Vec declared.Cell Global). cells_of r.items) row k old new v so_far is step
+
+-- rows numbered from 0
+pub next_from_zero : (row : ℕ → List Cell) (k : ℕ) (old new : List (Vec declared.Cell Global)) (v : Vec declared.Cell Global)
+    → rows_of old ≡ rows_from row 0 k → cells_of v.items ≡ row k → new ≡ old ++ v ∷ []
+    → rows_of new ≡ rows_from row 0 (k + 1)
+next_from_zero row k old new v so_far is step =
+    next_item_from_zero (λ (r : Vec declared.Cell Global). cells_of r.items) row k old new v so_far is step

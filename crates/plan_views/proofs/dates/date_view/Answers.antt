@@ -1,0 +1,10 @@
+use Rattle.std.proofs.Common.{rules, ap, ◌∙◌}
+use Rattle.plan_formats.specs.TableText.{text_of}
+use Rattle.plan_views.proofs.TextLemmas.{date_text}
+use Rattle.plan_views.proofs.dates.date_view.Goals as goal
+
+pub returns-clause-value : goal.returns-clause-value
+returns-clause-value c = search rules
+
+pub returns-clause-text : goal.returns-clause-text
+returns-clause-text c = ap text_of (returns-clause-value c) ∙ date_text c.args.network.now c.args.dates.now

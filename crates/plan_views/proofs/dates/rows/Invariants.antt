@@ -1,0 +1,9 @@
+use Rattle.std.proofs.Common.{◌≡◌}
+use Rattle.plan_formats.specs.Tables.{rows_of}
+use Rattle.plan_views.specs.Rows.{rows_from}
+use Rattle.plan_views.specs.DateTables.{date_row}
+use Rattle.plan_views.proofs.dates.rows.Given as goal
+
+-- the rows of the activities so far
+abbrev pub invariant-loop-k : goal.invariant-loop-k
+invariant-loop-k l = rows_of l.rows.items ≡ rows_from (date_row l.network l.dates) 1 l.k

@@ -1,0 +1,38 @@
+//! Tables and charts of schedules as values: plain text, CSV and JSON are made from them.
+#![tactic(auto)]
+
+mod bar_tables;
+mod bars;
+mod bounds;
+mod chart;
+mod chart_texts;
+mod chart_values;
+mod charts;
+mod comparisons;
+mod dates;
+mod days;
+mod headings;
+mod line_lists;
+mod rows;
+mod schedules;
+mod shop_comparisons;
+mod shops;
+mod slacks;
+mod solutions;
+
+pub use bar_tables::chart_bars;
+pub use bars::{Bar, ChartRow, StepNumber};
+pub use bounds::{bound_line, kind_line, with_line};
+pub use chart::{Chart, Owner};
+pub use chart_texts::chart_text;
+pub use chart_values::chart_json;
+pub use charts::{chart_view, shop_chart_view};
+pub use comparisons::comparison_view;
+pub use dates::date_view;
+pub use days::{days_view, shop_days_view};
+pub use line_lists::{name_view, verdict_view};
+pub use schedules::schedule_view;
+pub use shop_comparisons::shop_comparison_view;
+pub use shops::shop_view;
+pub use slacks::slack_view;
+pub use solutions::{best_project_view, best_shop_view};

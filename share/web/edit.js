@@ -1,0 +1,114 @@
+// Editing a list as a text; and plan.html without a server: starting from an example or a template,
+// and one file with everything.
+
+import { byId, clear, download, onSubmit } from "./dom.js";
+import { noteFile, takeBytes, takeFile } from "./import.js";
+import { isAlone, isUnsaved, openedFile, replaceFile, savedFile } from "./local.js";
+import { leavePlan } from "./plan.js";
+import { askLists, showPlans } from "./plans.js";
+import { printed } from "./program.js";
+import { newPage, page, recordOf, remember } from "./state.js";
+
+const EXAMPLE = `id,name,duration,predecessors,crew
+A,Measure,1,,1
+B,Order timber,2,A,1
+C,Take down,2,A,3
+D,Floor,4,B C,2
+E,Electrics,3,C,2
+F,Walls,3,E,2
+G,Paint,2,F D,3
+H,Furniture,1,G,2
+capacity,,,,4
+`;
+
+// the texts of the list before each change
+let earlier = [];
+
+/** Shows the list that was taken, to be changed. */
+export function showEdit({ text }) {
+  const form = byId("edit");
+  form.hidden = false;
+  form.elements.list.value = text;
+  byId("undo").hidden = !earlier.length;
+}
+
+// the name of a list makes it one, whatever its text
+const listName = (name) => (/\.(csv|tsv)$/i.test(name) ? name : `${name}.csv`);
+
+const takeText = (text) => takeBytes({ ...page.file, name: listName(page.file.name), text,
+  bytes: new TextEncoder().encode(text) });
+
+async function readAgain({ list }) {
+  const text = list.replaceAll("\r\n", "\n");
+  if (text !== page.file.text) earlier.push(page.file.text);
+  await takeText(text);
+}
+
+const undo = () => earlier.length && takeText(earlier.pop());
+
+/** Keeps the list of a plan, so that it can be changed. */
+export function noteList(n, { name, text, given }) {
+  earlier = [];
+  if (isAlone()) remember(n, { list: { name, text, given: [...given] } });
+}
+
+/** Puts a file in the place of that of a plan, and returns the plan; null for a new plan. */
+export function replacedFile(n, file) {
+  if (!n) return null;
+  replaceFile(n, file);
+  page.projects.delete(n);
+  return { n, kind: file.kind };
+}
+
+function editPlan() {
+  const { n } = page.plan, { list } = recordOf(n);
+  if (!list) return;
+  earlier = [];
+  takeBytes({ ...list, given: new Map(list.given), bytes: new TextEncoder().encode(list.text),
+    replaces: n });
+}
+
+/** Shows whether the list of the open plan can be changed. */
+export function showEditable({ n }) {
+  byId("edit-list").hidden = !isAlone() || !recordOf(n).list;
+}
+
+// -- without a server
+
+/** Opens the page without signing in. */
+export async function openAlone() {
+  document.documentElement.dataset.alone = "";
+  newPage().desk = "own";
+  await askLists();
+}
+
+/** Takes the example, or the template of a project or a job shop. */
+export async function start(kind) {
+  const text = kind === "example" ? EXAMPLE : await printed(["new", kind]);
+  await takeFile(new File([text], kind === "example" ? "example.csv" : `new-${kind}.csv`));
+}
+
+/** Opens a file that has everything; returns whether a text is one. */
+export function openSaved(text) {
+  const plans = isAlone() ? openedFile(text) : null;
+  if (!plans) return false;
+  clear(".answer");
+  leavePlan();
+  newPage().desk = "own";
+  for (const { n, kind, bytes, instance, record } of plans) {
+    page.plans.push({ n, kind });
+    noteFile(n, kind === "project", "", bytes, instance);
+    remember(n, record);
+  }
+  showPlans();
+  return true;
+}
+
+export function letEdit() {
+  onSubmit("edit", readAgain);
+  byId("undo").onclick = undo;
+  byId("edit-list").onclick = editPlan;
+  byId("starters").onclick = ({ target: { value } }) => value && start(value);
+  byId("save-all").onclick = () => download("plans.json", savedFile(recordOf));
+  addEventListener("beforeunload", (event) => isUnsaved() && event.preventDefault());
+}

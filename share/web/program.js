@@ -1,0 +1,103 @@
+// The program: plan.wasm, which runs the commands on files in a worker. It is loaded once, when it is
+// first needed, and refused if it has another SHA-256 than digest.js.
+
+import { Refusal } from "./api.js";
+import { DIGEST } from "./digest.js";
+import { load } from "./engine/runtime.js";
+
+const textOf = (bytes) => new TextDecoder().decode(bytes);
+
+// plan.html has the module and the worker inside
+const inside = (name) => globalThis.document?.getElementById(name);
+
+let address = "worker.js";
+if (inside("worker-text")) {
+  const text = new Blob([inside("worker-text").textContent], { type: "text/javascript" });
+  address = URL.createObjectURL(text);
+}
+
+// the policy passes one address, whatever it is asked for
+const policy = globalThis.trustedTypes?.createPolicy("program", {
+  createScriptURL: () => address,
+});
+
+async function moduleBytes() {
+  const packed = inside("packed-module");
+  if (!packed) {
+    const response = await fetch("plan.wasm", { redirect: "error" });
+    if (!response.ok) throw new Error(`plan.wasm: the server answers ${response.status}`);
+    return response.arrayBuffer();
+  }
+  const bytes = Uint8Array.from(atob(packed.textContent), (letter) => letter.charCodeAt(0));
+  const stream = new Blob([bytes]).stream().pipeThrough(new DecompressionStream("gzip"));
+  return new Response(stream).arrayBuffer();
+}
+
+let module = null;
+
+const loaded = () => (module ??= moduleBytes().then((bytes) => load(bytes, DIGEST)).catch((fault) => {
+  module = null;
+  throw new Refusal(`The program can't be loaded: ${fault.message}.`);
+}));
+
+const newWorker = () => new Worker(policy?.createScriptURL("") ?? address,
+  { type: inside("worker-text") ? "classic" : "module" });
+
+const contentOf = (content) => (typeof content === "string" ? new TextEncoder().encode(content) : content);
+
+// one call in a worker; `told` gets what the program writes to standard error
+async function called(worker, words, files, { isTerminal = false, told = () => {} } = {}) {
+  const call = {
+    words: ["plan", ...words], input: new Uint8Array(0), isTerminal, variables: { PLAN_HINTS: "0" },
+    files: Object.entries(files).map(([name, content]) => [name, contentOf(content)]),
+  };
+  const compiled = await loaded();
+  return new Promise((resolve, reject) => {
+    worker.onmessage = ({ data }) => (data.done ? resolve(data.done)
+      : told(textOf(data.wrote)));
+    worker.onerror = ({ message = "no worker" }) =>
+      reject(new Refusal(`The program can't run: ${message}.`));
+    worker.postMessage({ module: compiled, call });
+  });
+}
+
+// the line of an error, which may be printed as JSON, without the progress before it
+function lineOf(errors) {
+  const told = textOf(errors).split("\x1b[K").at(-1).trim();
+  return told.startsWith("{") ? JSON.parse(told).text : told;
+}
+
+function outputOf({ status, output, errors }) {
+  if (status !== 0) throw new Refusal(lineOf(errors));
+  return textOf(output);
+}
+
+let common = null;
+let waiting = Promise.resolve();
+
+/** Runs a command with named files, after all earlier ones. Returns what it prints; its error is a
+ * refusal. */
+export async function printed(words, files = {}) {
+  const answer = waiting.then(() => called(common ??= newWorker(), words, files));
+  waiting = answer.catch(() => {
+    common?.terminate();
+    common = null;
+  });
+  return outputOf(await answer);
+}
+
+/** Runs a command that takes long, in a worker of its own. `told` gets its lines of progress, and
+ * `signal` ends it. */
+export async function searched(words, files, told, signal) {
+  const worker = newWorker();
+  const stopped = new Promise((_, reject) => {
+    signal.onabort = () => reject(new Refusal("The search was cancelled. Nothing of it is kept."));
+  });
+  const line = (text) => told(text.replaceAll(/[\r\n]|\x1b\[K/g, ""));
+  try {
+    const done = called(worker, words, files, { isTerminal: true, told: line });
+    return outputOf(await Promise.race([done, stopped]));
+  } finally {
+    worker.terminate();
+  }
+}

@@ -1,0 +1,198 @@
+// The file of the open plan, as the program gets it, and what the program says of its schedules:
+// slack, verdicts and calendar days. A lag becomes an activity that needs nothing, behind all others.
+
+import { Refusal, tableOf } from "./api.js";
+import { printed, searched } from "./program.js";
+import { page, recordOf } from "./state.js";
+
+const rowLines = (rows) => rows.map((row) => `${row.join(" ")}\n`).join("");
+
+const nameLines = (word, names) =>
+  Object.entries(names).map(([number, name]) => `${word} ${number} ${name}\n`).join("");
+
+/** Returns a project file of a model. */
+export function projectText({ durations, arcs, needs, capacities }, names = {}, resources = {}) {
+  const lagged = arcs.filter(({ lag }) => lag > 0);
+  const direct = arcs.filter(({ lag }) => !lag);
+  const after = durations.map((_, at) => direct.filter(({ from }) => from === at)
+    .map(({ to }) => to + 1));
+  lagged.forEach(({ from }, at) => after[from].push(durations.length + at + 1));
+  const waiting = lagged.map(({ to, lag }) =>
+    ({ duration: lag, after: [to + 1], needs: capacities.map(() => 0) }));
+  const jobs = [...durations.map((duration, at) =>
+    ({ duration, after: after[at], needs: needs[at] })), ...waiting];
+  return `projects: 1
+jobs: ${jobs.length}
+- renewable: ${capacities.length}
+- nonrenewable: 0
+- doubly constrained: 0
+PRECEDENCE RELATIONS:
+job, modes, count, successors
+${rowLines(jobs.map((job, at) => [at + 1, 1, job.after.length, ...job.after]))
+}REQUESTS/DURATIONS:
+job, mode, duration, needs
+${rowLines(jobs.map((job, at) => [at + 1, 1, job.duration, ...job.needs]))
+}RESOURCEAVAILABILITIES:
+capacities
+${capacities.join(" ")}
+PROJECT INFORMATION:
+${nameLines("name", names)}${nameLines("resource", resources)}`;
+}
+
+/** Returns a job shop file of the rows of a schedule, whose instance is `shop`. */
+export function shopText(rows, names = {}, resources = {}) {
+  const jobs = rows.at(-1).job;
+  const steps = Array.from({ length: jobs }, () => []);
+  for (const { job, mach, d } of rows) steps[job - 1].push(mach, d);
+  return `instance shop\n${nameLines("+ machine", resources)}${nameLines("+ job", names)}a plan
+${jobs} ${rows.length / jobs}\n${rowLines(steps)}`;
+}
+
+/** Returns the model of a job shop: a machine is a resource of 1; each step waits for the one before
+ * it. */
+export function shopModel(rows) {
+  const machines = [...Array(Math.max(...rows.map(({ mach }) => mach)) + 1).keys()];
+  return {
+    durations: rows.map(({ d }) => d),
+    arcs: rows.flatMap(({ step }, to) => (step > 1 ? [{ from: to - 1, to, lag: 0 }] : [])),
+    needs: rows.map(({ mach }) => machines.map((machine) => Number(machine === mach))),
+    capacities: machines.map(() => 1),
+  };
+}
+
+/** Returns the model of a project with the lags and binds that were set here; null without its
+ * file. */
+export function projectModel(plan) {
+  const project = page.projects.get(plan.n);
+  if (!project) return null;
+  const { lag: lags = {}, bind: binds = {} } = recordOf(plan.n).set ?? {};
+  const arcs = project.arcs.map((arc) =>
+    ({ ...arc, lag: lags[`${arc.from + 1}-${arc.to + 1}`]?.lag ?? 0 }));
+  const bound = (code) => page.codes.find((found) => found.code === code)?.capacity;
+  const capacities = project.capacities.map((capacity, place) =>
+    bound(binds[place + 1]?.code) ?? capacity);
+  const isChanged = arcs.some(({ lag }) => lag > 0) || capacities.join() !== project.capacities.join();
+  return { ...project, arcs, capacities, isChanged };
+}
+
+/** Returns the files of a plan for the program, and the words that name the one to schedule. */
+export function subjectOf({ kind, model }, rows, { title, names, resources }) {
+  const project = kind === "project" && !model.isChanged && model.bytes ? model.bytes
+    : projectText(model, kind === "project" ? names : {}, resources);
+  const shop = kind === "shop" && { "plan.txt": shopText(rows, names, resources) };
+  return {
+    files: { "plan.sm": project, ...shop }, title,
+    words: kind === "shop" ? ["plan.txt", "shop"] : ["plan.sm"],
+  };
+}
+
+// -- start times
+
+const lagged = ({ arcs }) => arcs.filter(({ lag }) => lag > 0);
+
+const startLines = (starts) => starts.map((start) => `${start}\n`).join("");
+
+/** Returns start times as a text; the activity of a lag begins as early as it can. */
+export const earlyStarts = (model, starts) => startLines([...starts,
+  ...lagged(model).map(({ from }) => starts[from] + model.durations[from])]);
+
+/** Returns start times as a text; the activity of a lag begins as late as it can. */
+export const lateStarts = (model, starts) => startLines([...starts,
+  ...lagged(model).map(({ to, lag }) => Math.max(0, starts[to] - lag))]);
+
+async function orNull(asking) {
+  try {
+    return await asking;
+  } catch (fault) {
+    if (fault instanceof Refusal) return null;
+    throw fault;
+  }
+}
+
+/** Returns the slack of each activity or step in a schedule; null if it isn't feasible, or if the
+ * plan is beyond the limits of a project. */
+export async function slackOf({ model, subject: { files } }, starts) {
+  const words = ["slack", "plan.sm", "starts"];
+  const text = await orNull(printed(words, { ...files, starts: lateStarts(model, starts) }));
+  return text && tableOf(text).rows.slice(0, starts.length).map(({ slack }) => slack);
+}
+
+async function comparedTo({ words: [file, ...instance], files }, starts) {
+  const words = ["compare", "--format", "json", file, "starts", "starts", ...instance];
+  const { verdict_A: line, makespan_A: total, rows } =
+    JSON.parse(await printed(words, { ...files, starts }));
+  return { line, total, starts: rows.map(({ A }) => A) };
+}
+
+const withoutLags = (model) =>
+  projectText({ ...model, arcs: model.arcs.map((arc) => ({ ...arc, lag: 0 })) });
+
+/** Returns a verdict with the activity before a lag in the place of the lag's own. */
+export function plainLine(line, model) {
+  const count = model.durations.length;
+  return line.replace(/(?<=before )\d+/, (number) =>
+    (number > count ? lagged(model)[number - count - 1].from + 1 : number));
+}
+
+/** Returns the verdict of `plan check` on start times in any form that it reads, with the starts and
+ * the makespan. */
+export async function verdictOf({ model, subject }, text) {
+  if (!lagged(model).length) return comparedTo(subject, text);
+  const files = { "plan.sm": withoutLags(model) };
+  const { starts, total } = await comparedTo({ ...subject, files }, text);
+  const { line } = await comparedTo(subject, earlyStarts(model, starts));
+  return { line: plainLine(line, model), total, starts };
+}
+
+/** Returns whether the office's dates and schedules are those of the plan's file with the changes
+ * that were made here. */
+export async function agrees(plan) {
+  const { model, subject, dates, schedules } = plan;
+  const heads = ["d", "ES", "EF", "LS", "LF"];
+  const cells = ({ rows }) => rows.slice(0, model.durations.length)
+    .map((row) => heads.map((head) => row[head]).join(" ")).join();
+  if (dates?.rows) {
+    const own = await orNull(printed(["cpm", "plan.sm"], subject.files));
+    if (!own || cells(tableOf(own)) !== cells(dates)) return false;
+  }
+  for (const { rows } of schedules.values()) {
+    if (rows.map(({ d }) => d).join() !== model.durations.join()) return false;
+    const verdict = await orNull(verdictOf(plan, startLines(rows.map(({ start }) => start))));
+    if (verdict?.line !== "active") return false;
+  }
+  return true;
+}
+
+const freeOf = ({ holidays }) => (holidays ? ["--holidays", "holidays"] : []);
+
+/** Returns the first and the last day of each activity or step, null if it takes no time. */
+export async function daysOf({ model, subject: { files, words } }, starts, calendar) {
+  const { start, days, holidays = "" } = calendar;
+  const given = ["days", "--format", "json", ...freeOf(calendar), "--starts", "starts", start, days];
+  const text = await printed([...given, ...words],
+    { ...files, holidays, starts: earlyStarts(model, starts) });
+  return JSON.parse(text).rows.slice(0, starts.length)
+    .map(({ first, last }) => (first === null ? null : { first, last }));
+}
+
+/** Searches for a short schedule, and returns it as a table with the verdict and the bound. */
+export async function solved({ model, subject: { files, words } }, seconds, told, signal) {
+  const given = ["solve", "--seconds", `${seconds}`, "--format", "json", ...words];
+  const { status, lower_bound: lower, makespan: total, rows } =
+    JSON.parse(await searched(given, files, told, signal));
+  return { rows: rows.slice(0, model.durations.length), verdict: status, lower, total };
+}
+
+/** Returns a file to save: `report`, `ics` or `svg`. */
+export function savedText({ model, subject: { files, words, title } }, form, starts, calendar) {
+  const { start, days, holidays = "" } = calendar ?? {};
+  const given = { ...files, holidays, starts: earlyStarts(model, starts) };
+  const free = freeOf({ holidays });
+  const dates = start ? ["--start", start, "--days", days, ...free] : [];
+  const commands = {
+    html: ["report", `--title=${title}`, ...dates, "--starts", "starts", ...words],
+    ics: ["days", "--format", "ics", ...free, "--starts", "starts", start, days, ...words],
+    svg: ["chart", "--svg", "--starts", "starts", ...words],
+  };
+  return printed(commands[form], given);
+}
