@@ -142,25 +142,15 @@ impl Lines {
 
     /// The best list of starts of a kernel.
     pub fn schedule(&mut self, kernel: &Kernel) -> Result<(), AllocError> {
-        let Some(starts) = kernel.best() else {
-            return Ok(());
-        };
-        if self.is_on {
-            push(&mut self.text, "schedule", &[kernel.upper()])?;
-            push(&mut self.text, "", starts)?;
-            self.text.push_str("\n")?;
+        match kernel.best() {
+            Some(starts) => self.starts("schedule", kernel.upper(), starts),
+            None => Ok(()),
         }
-        Ok(())
     }
 
     /// The starts of the schedule that the search has come to, as long as the best one of a kernel.
     pub fn solution(&mut self, kernel: &Kernel, starts: &[u32]) -> Result<(), AllocError> {
-        if self.is_on {
-            push(&mut self.text, "solution", &[kernel.upper()])?;
-            push(&mut self.text, "", starts)?;
-            self.text.push_str("\n")?;
-        }
-        Ok(())
+        self.starts("solution", kernel.upper(), starts)
     }
 
     /// A conflict begins with a reason.
@@ -222,6 +212,16 @@ impl Lines {
     /// The lower bound that was proved.
     pub fn lower(&mut self, bound: u32) -> Result<(), AllocError> {
         self.line("lower", bound)
+    }
+
+    // A line of a word, a makespan and starts.
+    fn starts(&mut self, word: &str, makespan: u32, starts: &[u32]) -> Result<(), AllocError> {
+        if self.is_on {
+            push(&mut self.text, word, &[makespan])?;
+            push(&mut self.text, "", starts)?;
+            self.text.push_str("\n")?;
+        }
+        Ok(())
     }
 
     // A line of a word and a number.

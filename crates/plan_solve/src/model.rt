@@ -186,6 +186,12 @@ impl Model {
         at(&self.capacities, resource)
     }
 
+    /// How much of a resource an activity leaves to others.
+    pub fn room(&self, activity: u32, resource: u32) -> u32 {
+        self.capacity(resource)
+            .saturating_sub(self.need(activity, resource))
+    }
+
     /// The link at a place; one from an activity to itself if there is none.
     pub fn link(&self, place: u32) -> Link {
         if (place as usize) < self.links.len() {

@@ -1,9 +1,7 @@
 //! Shortest schedules of projects.
 
-ghost use Rattle.std.specs.Prelude.{◌≡◌, ◌≤◌, IfOk, IfErr, IfSome, IsErrOf};
-ghost use Rattle.plan_sgs.specs.Problem.{IsActive, IsShortest, makespan};
+ghost use Rattle.std.specs.Prelude.{IfOk, IfErr, IsErrOf};
 ghost use Rattle.plan_sgs.specs.Instances.{problem_of};
-ghost use Rattle.plan_sgs.specs.Placement.{AllEndBy, latest_end};
 ghost use Rattle.plan_solve.specs.Progress.{HearsTruth};
 ghost use Rattle.plan_solve.specs.Solutions as spec;
 
@@ -13,7 +11,7 @@ use crate::log::{Log, Unlogged};
 use crate::orders::orders_of;
 use crate::schedules::{by_rules, tightened};
 use crate::solvable::Solvable;
-use crate::solving::{MOST_CONFLICTS, Solved, searched};
+use crate::solving::{Solved, check, searched};
 use crate::watcher::{Unwatched, Watcher};
 use plan_kernel::Input;
 use plan_sgs::{Instance, Schedule};
@@ -50,21 +48,7 @@ impl<'a> Solvable for Instance<'a> {
 /// Refused with [`SolveFault::BadConflicts`] if the number of conflicts is not from 1 to
 /// 1,000,000,000. Out of memory can replace any result.
 pub fn solve(alloc: Global, instance: &Instance, conflicts: u64) -> Result<Solved, SolveFault>
-    ensures active { IfOk result (λ solved.
-        IsActive (problem_of instance.now) solved.schedule.starts.items) }
-    ensures makespan { IfOk result (λ solved.
-        solved.schedule.makespan
-        ≡ makespan (problem_of instance.now) solved.schedule.starts.items) }
-    // No feasible schedule has a makespan below it.
-    ensures lower { IfOk result (λ solved.
-        spec.IsLowerBound (problem_of instance.now) solved.lower) }
-    ensures below { IfOk result (λ solved. solved.lower ≤ solved.schedule.makespan) }
-    ensures optimal { IfOk result (λ solved. solved.lower ≡ solved.schedule.makespan
-        → IsShortest (problem_of instance.now) solved.schedule.starts.items) }
-    ensures ends { IfOk result (λ solved.
-        AllEndBy (problem_of instance.now) solved.schedule.starts.items latest_end) }
-    ensures conflicts { IfOk result (λ solved. solved.conflicts ≤ conflicts) }
-    ensures allowed { IfOk result (λ _. spec.IsConflictLimit conflicts) }
+    ensures solved { IfOk result (spec.IsSolvedProject instance.now conflicts) }
     ensures refused { IfErr result (spec.RefusesSolving conflicts) }
     // What is refused takes no memory.
     ensures early { IsErrOf result SolveFault.NoMemory → spec.IsConflictLimit conflicts }
@@ -79,21 +63,7 @@ pub fn solve_watched<W: Watcher>(
     conflicts: u64,
     watcher: &mut W,
 ) -> Result<Solved, SolveFault>
-    ensures active { IfOk result (λ solved.
-        IsActive (problem_of instance.now) solved.schedule.starts.items) }
-    ensures makespan { IfOk result (λ solved.
-        solved.schedule.makespan
-        ≡ makespan (problem_of instance.now) solved.schedule.starts.items) }
-    // No feasible schedule has a makespan below it.
-    ensures lower { IfOk result (λ solved.
-        spec.IsLowerBound (problem_of instance.now) solved.lower) }
-    ensures below { IfOk result (λ solved. solved.lower ≤ solved.schedule.makespan) }
-    ensures optimal { IfOk result (λ solved. solved.lower ≡ solved.schedule.makespan
-        → IsShortest (problem_of instance.now) solved.schedule.starts.items) }
-    ensures ends { IfOk result (λ solved.
-        AllEndBy (problem_of instance.now) solved.schedule.starts.items latest_end) }
-    ensures conflicts { IfOk result (λ solved. solved.conflicts ≤ conflicts) }
-    ensures allowed { IfOk result (λ _. spec.IsConflictLimit conflicts) }
+    ensures solved { IfOk result (spec.IsSolvedProject instance.now conflicts) }
     ensures refused { IfErr result (spec.RefusesSolving conflicts) }
     // What is refused takes no memory.
     ensures early { IsErrOf result SolveFault.NoMemory → spec.IsConflictLimit conflicts }
@@ -113,21 +83,7 @@ pub fn solve_logged<W: Watcher, L: Log>(
     watcher: &mut W,
     log: &mut L,
 ) -> Result<Solved, SolveFault>
-    ensures active { IfOk result (λ solved.
-        IsActive (problem_of instance.now) solved.schedule.starts.items) }
-    ensures makespan { IfOk result (λ solved.
-        solved.schedule.makespan
-        ≡ makespan (problem_of instance.now) solved.schedule.starts.items) }
-    // No feasible schedule has a makespan below it.
-    ensures lower { IfOk result (λ solved.
-        spec.IsLowerBound (problem_of instance.now) solved.lower) }
-    ensures below { IfOk result (λ solved. solved.lower ≤ solved.schedule.makespan) }
-    ensures optimal { IfOk result (λ solved. solved.lower ≡ solved.schedule.makespan
-        → IsShortest (problem_of instance.now) solved.schedule.starts.items) }
-    ensures ends { IfOk result (λ solved.
-        AllEndBy (problem_of instance.now) solved.schedule.starts.items latest_end) }
-    ensures conflicts { IfOk result (λ solved. solved.conflicts ≤ conflicts) }
-    ensures allowed { IfOk result (λ _. spec.IsConflictLimit conflicts) }
+    ensures solved { IfOk result (spec.IsSolvedProject instance.now conflicts) }
     ensures refused { IfErr result (spec.RefusesSolving conflicts) }
     // What is refused takes no memory.
     ensures early { IsErrOf result SolveFault.NoMemory → spec.IsConflictLimit conflicts }
@@ -135,9 +91,7 @@ pub fn solve_logged<W: Watcher, L: Log>(
     ensures told { HearsTruth (problem_of instance.now) conflicts
         (W.was_told watcher.old) (W.was_told watcher.new) }
 {
-    if conflicts == 0 || conflicts > MOST_CONFLICTS {
-        return Err(SolveFault::BadConflicts);
-    }
+    check(conflicts)?;
     let searched = searched(alloc, instance, conflicts, watcher, log);
     watcher.end();
     Ok(searched?)

@@ -40,10 +40,8 @@ fn take_facts(kernel: &Kernel, state: &mut State) -> Result<bool, AllocError> {
     for half in 0..kernel.halves() {
         let half = (half & 0xffff_ffff) as u32;
         let value = kernel.fact(half);
-        match state.trail.set(Literal { half, value }, Cause::Fact) {
-            Ok(()) => {}
-            Err(Stop::NoMemory) => return Err(AllocError),
-            Err(Stop::Clash(_)) => return Ok(false),
+        if !state.trail.hold(Literal { half, value }, Cause::Fact)? {
+            return Ok(false);
         }
     }
     Ok(true)
@@ -168,17 +166,19 @@ impl Search {
         self.state.trail.work.restart();
     }
 
+    // Keeps what holds at level 0 as facts.
+    fn settle(&mut self, alloc: Global) -> Result<(), AllocError>
+        ensures { self.new.prover.kernel.known.input ≡ self.old.prover.kernel.known.input }
+    {
+        let (model, trail) = (&self.model, &self.state.trail);
+        settle(alloc, &mut self.analysis, model, trail, &mut self.prover)
+    }
+
     // Learns from a clause that is false at level 0 that there is nothing to search for any more.
     fn refute(&mut self, alloc: Global, clash: Clash) -> Result<(), AllocError>
         ensures { self.new.prover.kernel.known.input ≡ self.old.prover.kernel.known.input }
     {
-        settle(
-            alloc,
-            &mut self.analysis,
-            &self.model,
-            &self.state.trail,
-            &mut self.prover,
-        )?;
+        self.settle(alloc)?;
         let trail = &self.state.trail;
         if self
             .analysis
@@ -195,11 +195,7 @@ impl Search {
     {
         self.go_back(0)?;
         let value = self.prover.kernel.fact(half);
-        match self.state.trail.set(Literal { half, value }, Cause::Fact) {
-            Ok(()) => Ok(true),
-            Err(Stop::NoMemory) => Err(AllocError),
-            Err(Stop::Clash(_)) => Ok(false),
-        }
+        self.state.trail.hold(Literal { half, value }, Cause::Fact)
     }
 
     // Goes on from a clause that was learned: its one literal that isn't false holds.
@@ -222,11 +218,7 @@ impl Search {
         self.state
             .watches
             .add(&self.prover.kernel, clause, first, second)?;
-        match self.state.trail.set(asserted, Cause::Kept(clause)) {
-            Ok(()) => Ok(true),
-            Err(Stop::NoMemory) => Err(AllocError),
-            Err(Stop::Clash(_)) => Ok(false),
-        }
+        self.state.trail.hold(asserted, Cause::Kept(clause))
     }
 
     // Learns from the conflict, of which one half began to hold at the last level.
@@ -354,13 +346,7 @@ impl Search {
         ensures { self.new.prover.kernel.known.input ≡ self.old.prover.kernel.known.input }
     {
         if self.state.trail.level() == 0 {
-            settle(
-                alloc,
-                &mut self.analysis,
-                &self.model,
-                &self.state.trail,
-                &mut self.prover,
-            )?;
+            self.settle(alloc)?;
             self.state.trail.forget();
             if let Some(literal) = self.raising() {
                 self.decide(literal)?;
@@ -476,13 +462,7 @@ impl Search {
             }
             Ok(()) => {}
         }
-        settle(
-            alloc,
-            &mut self.analysis,
-            &self.model,
-            &self.state.trail,
-            &mut self.prover,
-        )?;
+        self.settle(alloc)?;
         self.state.trail.forget();
         self.clauses.reduce(&mut self.prover, conflict)?;
         self.clauses.watch_all(

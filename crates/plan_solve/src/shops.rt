@@ -1,7 +1,6 @@
 //! Shortest schedules of job shops.
 
-ghost use Rattle.std.specs.Prelude.{◌≡◌, ◌≤◌, All, IfOk, IfErr, IsErrOf};
-ghost use Rattle.plan_sgs.specs.Problem.{IsActive, IsShortest, makespan};
+ghost use Rattle.std.specs.Prelude.{IfOk, IfErr, IsErrOf};
 ghost use Rattle.plan_shop.specs.Shop.{problem_of};
 ghost use Rattle.plan_solve.specs.Solutions.{IsActiveShopSchedule};
 ghost use Rattle.plan_solve.specs.Progress.{HearsTruth};
@@ -13,7 +12,7 @@ use crate::log::{Log, Unlogged};
 use crate::running::Session;
 use crate::schedules::shorter;
 use crate::solvable::Solvable;
-use crate::solving::{MOST_CONFLICTS, Solved, searched, searched_from, unsearched};
+use crate::solving::{Solved, check, searched, searched_from, unsearched};
 use crate::watcher::{Unwatched, Watcher};
 use plan_active::{active_shop_schedule, shop_bound};
 use plan_kernel::{Input, Order};
@@ -98,21 +97,7 @@ impl Solvable for Shop {
 /// Refused with [`SolveFault::BadConflicts`] if the number of conflicts is not from 1 to
 /// 1,000,000,000. Out of memory can replace any result.
 pub fn solve_shop(alloc: Global, shop: &Shop, conflicts: u64) -> Result<Solved, SolveFault>
-    ensures active { IfOk result (λ solved.
-        IsActive (problem_of shop.now) solved.schedule.starts.items) }
-    ensures makespan { IfOk result (λ solved.
-        solved.schedule.makespan ≡ makespan (problem_of shop.now) solved.schedule.starts.items) }
-    // No feasible schedule has a makespan below it.
-    ensures lower { IfOk result (λ solved.
-        spec.IsLowerBound (problem_of shop.now) solved.lower) }
-    ensures below { IfOk result (λ solved. solved.lower ≤ solved.schedule.makespan) }
-    ensures optimal { IfOk result (λ solved. solved.lower ≡ solved.schedule.makespan
-        → IsShortest (problem_of shop.now) solved.schedule.starts.items) }
-    // All starts can be shown: none is after 10,000,000.
-    ensures within { IfOk result (λ solved.
-        All (λ t. t ≤ 10000000) solved.schedule.starts.items) }
-    ensures conflicts { IfOk result (λ solved. solved.conflicts ≤ conflicts) }
-    ensures allowed { IfOk result (λ _. spec.IsConflictLimit conflicts) }
+    ensures solved { IfOk result (spec.IsSolvedShop shop.now conflicts) }
     ensures refused { IfErr result (spec.RefusesSolving conflicts) }
     // What is refused takes no memory.
     ensures early { IsErrOf result SolveFault.NoMemory → spec.IsConflictLimit conflicts }
@@ -127,21 +112,7 @@ pub fn solve_shop_watched<W: Watcher>(
     conflicts: u64,
     watcher: &mut W,
 ) -> Result<Solved, SolveFault>
-    ensures active { IfOk result (λ solved.
-        IsActive (problem_of shop.now) solved.schedule.starts.items) }
-    ensures makespan { IfOk result (λ solved.
-        solved.schedule.makespan ≡ makespan (problem_of shop.now) solved.schedule.starts.items) }
-    // No feasible schedule has a makespan below it.
-    ensures lower { IfOk result (λ solved.
-        spec.IsLowerBound (problem_of shop.now) solved.lower) }
-    ensures below { IfOk result (λ solved. solved.lower ≤ solved.schedule.makespan) }
-    ensures optimal { IfOk result (λ solved. solved.lower ≡ solved.schedule.makespan
-        → IsShortest (problem_of shop.now) solved.schedule.starts.items) }
-    // All starts can be shown: none is after 10,000,000.
-    ensures within { IfOk result (λ solved.
-        All (λ t. t ≤ 10000000) solved.schedule.starts.items) }
-    ensures conflicts { IfOk result (λ solved. solved.conflicts ≤ conflicts) }
-    ensures allowed { IfOk result (λ _. spec.IsConflictLimit conflicts) }
+    ensures solved { IfOk result (spec.IsSolvedShop shop.now conflicts) }
     ensures refused { IfErr result (spec.RefusesSolving conflicts) }
     // What is refused takes no memory.
     ensures early { IsErrOf result SolveFault.NoMemory → spec.IsConflictLimit conflicts }
@@ -161,21 +132,7 @@ pub fn solve_shop_logged<W: Watcher, L: Log>(
     watcher: &mut W,
     log: &mut L,
 ) -> Result<Solved, SolveFault>
-    ensures active { IfOk result (λ solved.
-        IsActive (problem_of shop.now) solved.schedule.starts.items) }
-    ensures makespan { IfOk result (λ solved.
-        solved.schedule.makespan ≡ makespan (problem_of shop.now) solved.schedule.starts.items) }
-    // No feasible schedule has a makespan below it.
-    ensures lower { IfOk result (λ solved.
-        spec.IsLowerBound (problem_of shop.now) solved.lower) }
-    ensures below { IfOk result (λ solved. solved.lower ≤ solved.schedule.makespan) }
-    ensures optimal { IfOk result (λ solved. solved.lower ≡ solved.schedule.makespan
-        → IsShortest (problem_of shop.now) solved.schedule.starts.items) }
-    // All starts can be shown: none is after 10,000,000.
-    ensures within { IfOk result (λ solved.
-        All (λ t. t ≤ 10000000) solved.schedule.starts.items) }
-    ensures conflicts { IfOk result (λ solved. solved.conflicts ≤ conflicts) }
-    ensures allowed { IfOk result (λ _. spec.IsConflictLimit conflicts) }
+    ensures solved { IfOk result (spec.IsSolvedShop shop.now conflicts) }
     ensures refused { IfErr result (spec.RefusesSolving conflicts) }
     // What is refused takes no memory.
     ensures early { IsErrOf result SolveFault.NoMemory → spec.IsConflictLimit conflicts }
@@ -183,9 +140,7 @@ pub fn solve_shop_logged<W: Watcher, L: Log>(
     ensures told { HearsTruth (problem_of shop.now) conflicts
         (W.was_told watcher.old) (W.was_told watcher.new) }
 {
-    if conflicts == 0 || conflicts > MOST_CONFLICTS {
-        return Err(SolveFault::BadConflicts);
-    }
+    check(conflicts)?;
     let searched = searched(alloc, shop, conflicts, watcher, log);
     watcher.end();
     Ok(searched?)
@@ -194,9 +149,7 @@ pub fn solve_shop_logged<W: Watcher, L: Log>(
 /// Returns the shortest schedule of the priority rules and a lower bound of all makespans that
 /// needs no search.
 pub fn rule_solution(alloc: Global, shop: &Shop) -> Result<Solved, AllocError>
-    ensures schedule { IfOk result (λ solved. IsActiveShopSchedule shop.now solved.schedule) }
-    ensures lower { IfOk result (λ solved.
-        spec.IsLowerBound (problem_of shop.now) solved.lower) }
+    ensures { IfOk result (spec.IsKnown (problem_of shop.now) (IsActiveShopSchedule shop.now)) }
 {
     unsearched(alloc, shop)
 }
@@ -225,39 +178,20 @@ pub fn solve_shop_from<W: Watcher, L: Log>(
     watcher: &mut W,
     log: &mut L,
 ) -> Result<Solved, SolveFault>
-    requires schedule { IsActiveShopSchedule shop.now known.schedule }
-    requires lower { spec.IsLowerBound (problem_of shop.now) known.lower }
+    requires known { spec.IsKnown (problem_of shop.now) (IsActiveShopSchedule shop.now) known }
     requires session { IsSessionOf (problem_of shop.now) session.old }
     ensures session { IsSessionOf (problem_of shop.now) session.new }
-    ensures active { IfOk result (λ solved.
-        IsActive (problem_of shop.now) solved.schedule.starts.items) }
-    ensures makespan { IfOk result (λ solved.
-        solved.schedule.makespan ≡ makespan (problem_of shop.now) solved.schedule.starts.items) }
-    // No feasible schedule has a makespan below it.
-    ensures lower { IfOk result (λ solved.
-        spec.IsLowerBound (problem_of shop.now) solved.lower) }
-    ensures below { IfOk result (λ solved. solved.lower ≤ solved.schedule.makespan) }
-    ensures optimal { IfOk result (λ solved. solved.lower ≡ solved.schedule.makespan
-        → IsShortest (problem_of shop.now) solved.schedule.starts.items) }
-    // All starts can be shown: none is after 10,000,000.
-    ensures within { IfOk result (λ solved.
-        All (λ t. t ≤ 10000000) solved.schedule.starts.items) }
-    ensures conflicts { IfOk result (λ solved. solved.conflicts ≤ conflicts) }
-    ensures allowed { IfOk result (λ _. spec.IsConflictLimit conflicts) }
+    ensures solved { IfOk result (spec.IsSolvedShop shop.now conflicts) }
     ensures refused { IfErr result (spec.RefusesSolving conflicts) }
     // What is refused takes no memory.
     ensures early { IsErrOf result SolveFault.NoMemory → spec.IsConflictLimit conflicts }
     // It is no worse than what was known.
-    ensures no_longer { IfOk result (λ solved.
-        solved.schedule.makespan ≤ known.schedule.makespan) }
-    ensures no_lower { IfOk result (λ solved. known.lower ≤ solved.lower) }
+    ensures no_worse { IfOk result (spec.IsNoWorse known) }
     // All that the watcher is told is true of the shop, whatever the search comes to.
     ensures told { HearsTruth (problem_of shop.now) conflicts
         (W.was_told watcher.old) (W.was_told watcher.new) }
 {
-    if conflicts == 0 || conflicts > MOST_CONFLICTS {
-        return Err(SolveFault::BadConflicts);
-    }
+    check(conflicts)?;
     let searched = searched_from(alloc, shop, known, session, conflicts, watcher, log);
     watcher.end();
     Ok(searched?)

@@ -1,10 +1,11 @@
 //! A schedule and a lower bound that meet, or as near as the conflicts allow.
 
-ghost use Rattle.std.specs.Prelude.{◌≡◌, ◌≤◌, nat_eq, IfOk};
+ghost use Rattle.std.specs.Prelude.{◌≡◌, ◌≤◌, nat_eq, IfOk, IfErr};
 ghost use Rattle.plan_solve.specs.Progress.{HearsTruth};
 ghost use Rattle.plan_solve.specs.Sessions.{IsSessionOf};
 ghost use Rattle.plan_solve.specs.Solutions as spec;
 
+use crate::fault::SolveFault;
 use crate::log::Log;
 use crate::running::Session;
 use crate::schedules::shorter;
@@ -37,6 +38,18 @@ impl Solved {
     }
 }
 
+/// Fails if a number of conflicts isn't allowed.
+pub fn check(conflicts: u64) -> Result<(), SolveFault>
+    ensures allowed { IfOk result (λ _. spec.IsConflictLimit conflicts) }
+    ensures refused { IfErr result (λ fault.
+        (fault ≡ SolveFault.BadConflicts) × (spec.IsConflictLimit conflicts → ⊥)) }
+{
+    if conflicts == 0 || conflicts > MOST_CONFLICTS {
+        return Err(SolveFault::BadConflicts);
+    }
+    Ok(())
+}
+
 // Returns the shorter one of a schedule and the active schedule of starts that were found.
 fn best_of<S: Solvable>(
     alloc: Global,
@@ -65,15 +78,11 @@ pub fn searched_from<S: Solvable, W: Watcher, L: Log>(
     watcher: &mut W,
     log: &mut L,
 ) -> Result<Solved, AllocError>
-    requires schedule { S.is_schedule source.now known.schedule }
-    requires lower { spec.IsLowerBound (S.problem source.now) known.lower }
+    requires known { spec.IsKnown (S.problem source.now) (S.is_schedule source.now) known }
     requires session { IsSessionOf (S.problem source.now) session.old }
     ensures session { IsSessionOf (S.problem source.now) session.new }
-    ensures no_longer { IfOk result (λ solved.
-        solved.schedule.makespan ≤ known.schedule.makespan) }
-    ensures no_lower { IfOk result (λ solved. known.lower ≤ solved.lower) }
-    ensures schedule { IfOk result (λ solved. S.is_schedule source.now solved.schedule) }
-    ensures lower { IfOk result (λ solved. spec.IsLowerBound (S.problem source.now) solved.lower) }
+    ensures no_worse { IfOk result (spec.IsNoWorse known) }
+    ensures known { IfOk result (spec.IsKnown (S.problem source.now) (S.is_schedule source.now)) }
     ensures conflicts { IfOk result (λ solved. solved.conflicts ≤ conflicts) }
     ensures told { HearsTruth (S.problem source.now) conflicts
         (W.was_told watcher.old) (W.was_told watcher.new) }
@@ -89,8 +98,7 @@ pub fn searched_from<S: Solvable, W: Watcher, L: Log>(
 
 /// Returns the schedule of the rules and a lower bound that takes no search.
 pub fn unsearched<S: Solvable>(alloc: Global, source: &S) -> Result<Solved, AllocError>
-    ensures schedule { IfOk result (λ solved. S.is_schedule source.now solved.schedule) }
-    ensures lower { IfOk result (λ solved. spec.IsLowerBound (S.problem source.now) solved.lower) }
+    ensures known { IfOk result (spec.IsKnown (S.problem source.now) (S.is_schedule source.now)) }
     ensures conflicts { IfOk result (λ solved. solved.conflicts ≡ 0) }
 {
     Ok(Solved {
@@ -109,8 +117,7 @@ pub fn searched<S: Solvable, W: Watcher, L: Log>(
     watcher: &mut W,
     log: &mut L,
 ) -> Result<Solved, AllocError>
-    ensures schedule { IfOk result (λ solved. S.is_schedule source.now solved.schedule) }
-    ensures lower { IfOk result (λ solved. spec.IsLowerBound (S.problem source.now) solved.lower) }
+    ensures known { IfOk result (spec.IsKnown (S.problem source.now) (S.is_schedule source.now)) }
     ensures conflicts { IfOk result (λ solved. solved.conflicts ≤ conflicts) }
     ensures told { HearsTruth (S.problem source.now) conflicts
         (W.was_told watcher.old) (W.was_told watcher.new) }

@@ -15,9 +15,7 @@ fn push_up(
     resource: u32,
     activity: u32,
 ) -> Result<(), Stop> {
-    let room = model
-        .capacity(resource)
-        .saturating_sub(model.need(activity, resource));
+    let room = model.room(activity, resource);
     let first = trail.earliest(activity);
     let end = first.saturating_add(model.duration(activity));
     let behind = end.min(trail.latest(activity));
@@ -39,9 +37,7 @@ fn push_down(
     resource: u32,
     activity: u32,
 ) -> Result<(), Stop> {
-    let room = model
-        .capacity(resource)
-        .saturating_sub(model.need(activity, resource));
+    let room = model.room(activity, resource);
     let duration = model.duration(activity);
     let end = trail.earliest(activity).saturating_add(duration);
     let first = end.max(trail.latest(activity));

@@ -124,6 +124,15 @@ impl Trail {
         Ok(())
     }
 
+    /// Makes a literal hold. Returns `false` if its negation does.
+    pub fn hold(&mut self, literal: Literal, cause: Cause) -> Result<bool, AllocError> {
+        match self.set(literal, cause) {
+            Ok(()) => Ok(true),
+            Err(Stop::NoMemory) => Err(AllocError),
+            Err(Stop::Clash(_)) => Ok(false),
+        }
+    }
+
     /// Opens a level by a decision.
     pub fn decide(&mut self, literal: Literal) -> Result<(), AllocError> {
         let start = self.len();

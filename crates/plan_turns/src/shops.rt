@@ -5,7 +5,7 @@ ghost use Rattle.std.specs.Prelude.{◌≡◌, ◌≤◌, ◌<◌, IfOk};
 ghost use Rattle.plan_shop.specs.Shop.{problem_of};
 ghost use Rattle.plan_prove.specs.Proofs.{IsNodeLimit, IsProofOf};
 ghost use Rattle.plan_solve.specs.Sessions.{IsSessionOf};
-ghost use Rattle.plan_solve.specs.Solutions.{IsConflictLimit, IsActiveShopSchedule, IsLowerBound};
+ghost use Rattle.plan_solve.specs.Solutions.{IsActiveShopSchedule, IsConflictLimit, IsKnown};
 
 use crate::moves::Moves;
 use plan_prove::{Course, MOST_NODES, Proof, ProveFault, Watcher as ProofWatcher, prove_from};
@@ -154,8 +154,7 @@ fn search_from<V: ProofWatcher + SolveWatcher, L: Log>(
     watcher: &mut V,
     log: &mut L,
 ) -> Result<Proof, AllocError>
-    requires schedule { IsActiveShopSchedule shop.now known.schedule }
-    requires lower { IsLowerBound (problem_of shop.now) known.lower }
+    requires known { IsKnown (problem_of shop.now) (IsActiveShopSchedule shop.now) known }
     requires most { IsConflictLimit most }
     ensures { IfOk result (IsProofOf shop.now) }
 {
@@ -199,17 +198,13 @@ pub fn search_in_turns<V: ProofWatcher + SolveWatcher, L: Log>(
     let mut moves = Moves::new(alloc, shop)?;
     let (lower, work) = (known.lower, moves.first_work());
     let schedule = moves.search(alloc, shop, known.schedule, lower, work, watcher)?;
-    if lower >= schedule.makespan && !log.is_wanted() {
-        return Ok(Proof {
-            schedule,
-            lower,
-            nodes: 0,
-        });
-    }
     let known = Solved {
         schedule,
         lower,
         conflicts: 0,
     };
+    if lower >= known.schedule.makespan && !log.is_wanted() {
+        return Ok(proof_of(known));
+    }
     search_from(alloc, shop, known, &mut moves, most, watcher, log)
 }
