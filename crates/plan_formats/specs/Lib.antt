@@ -8,14 +8,4 @@ pub mod CsvText
 pub mod JsonData
 pub mod JsonText
 pub mod TableFormats
-pub mod ParsedTables
-pub mod ParsedCsv
-pub mod ParsedJson
 pub mod NameColumns
-pub mod Shapes
-pub mod Parts
-pub mod RowTables
-pub mod LineTables
-pub mod TextTables
-pub mod ErrorLines
-pub mod Formats
