@@ -1,11 +1,10 @@
 -- Cells of a table: in the text, in CSV and in JSON (docs/definitions.md, "Formats").
-use Rattle.std.specs.Prelude.{ℕ, ℤ, ◌==◌, Bool, if◌then◌else◌, List, [], ◌∷◌, ◌++◌, Option, Some, None}
-use Rattle.std.specs.Prelude.{bytes_eq, codes, decimal, nat_le, pos, neg_ℤ}
+use Rattle.std.specs.Prelude.{ℕ, ℤ, Bool, true, false, if◌then◌else◌, List, [], ◌∷◌, ◌++◌, codes}
+use Rattle.std.specs.Prelude.{decimal, pos, neg_ℤ}
 use Rattle.std.specs.Str.Lossy.{utf8_lossy}
 use Rattle.serde_json.specs.Data as data_of
 use Rattle.serde_json.specs.Find.{of_integer}
 use Rattle.jiff_fmt.specs.Text.{year_text, pad2}
-use Rattle.plan_psplib.specs.Numbers as numbers
 use Rattle.plan_formats.specs.declared.cell.Cell as declared
 use Rattle.plan_formats.specs.declared.cell.Cell.TheVariants as kept
 
@@ -33,38 +32,6 @@ cell_of (kept.Text t) = text t.now
 cell_of (kept.Flag b) = flag b
 cell_of kept.Empty = empty
 
--- the greatest number behind a minus sign: the latest start of an activity
-abbrev pub greatest_below : ℕ
-greatest_below = 10000000
-
--- a number behind `+`, or else the text of a word
-abbrev pub plus_word : Option ℕ → List ℕ → Cell
-plus_word (Some n) word = number n
-plus_word None word = text word
-
--- a number behind `-`, or else the text of a word
-abbrev pub minus_word : Option ℕ → List ℕ → Cell
-minus_word (Some n) word = if nat_le n greatest_below then below n else text word
-minus_word None word = text word
-
--- a word that isn't a number without a sign: 43 is `+`, 45 is `-`
-abbrev pub signed : List ℕ → Cell
-signed [] = text []
-signed (sign ∷ digits) =
-    if sign == 43 then plus_word (numbers.number digits) (sign ∷ digits)
-    else if sign == 45 then minus_word (numbers.number digits) (sign ∷ digits)
-    else text (sign ∷ digits)
-
--- a number, or else a number with a sign or a text
-abbrev pub number_or_other : Option ℕ → List ℕ → Cell
-number_or_other (Some n) word = number n
-number_or_other None word = signed word
-
--- the cell that a word spells
-abbrev pub cell_of_word : List ℕ → Cell
-cell_of_word word =
-    if bytes_eq word (codes "-") then empty else number_or_other (numbers.number word) word
-
 -- a cell as a field of a CSV record: digits, the bytes of a text, `true` or `false`, nothing
 abbrev pub field_of : Cell → List ℕ
 field_of (number n) = decimal n
@@ -91,3 +58,12 @@ text_of (below n) = codes "-" ++ decimal n
 text_of (text t) = t
 text_of (flag b) = if b then codes "true" else codes "false"
 text_of empty = codes "-"
+
+-- whether a cell is empty
+abbrev pub is_empty : Cell → Bool
+is_empty (number n) = false
+is_empty (above n) = false
+is_empty (below n) = false
+is_empty (text t) = false
+is_empty (flag b) = false
+is_empty empty = true

@@ -2,11 +2,9 @@
 
 ghost use Rattle.std.specs.Prelude.{◌≡◌};
 ghost use Rattle.jiff.specs.Words.{date_text};
-ghost use Rattle.plan_psplib.specs.Numbers as numbers;
 ghost use Rattle.plan_formats.specs.Cells as spec;
 
 use jiff::civil::Date;
-use plan_psplib::number;
 
 /// A cell of a table.
 #[derive(Clone, Copy)]
@@ -37,50 +35,9 @@ pub fn day_cell<'a>(date: Date) -> Cell<'a>
     }
 }
 
-/// The greatest number behind a minus sign: the latest start of an activity.
-const GREATEST_BELOW: u64 = 10_000_000;
-
-// Returns the cell of digits behind a plus sign in a word.
-fn above<'a>(digits: &[u8], word: &'a [u8]) -> Cell<'a>
-    ensures { spec.cell_of result ≡ spec.plus_word (numbers.number digits.now) word.now }
+/// Whether a cell is empty.
+pub(crate) fn is_empty(cell: &Cell<'_>) -> bool
+    ensures { result ≡ spec.is_empty (spec.cell_of cell.now) }
 {
-    match number(digits) {
-        Some(n) => Cell::Number(n),
-        None => Cell::Text(word),
-    }
-}
-
-// Returns the cell of digits behind a minus sign in a word.
-fn below<'a>(digits: &[u8], word: &'a [u8]) -> Cell<'a>
-    ensures { spec.cell_of result ≡ spec.minus_word (numbers.number digits.now) word.now }
-{
-    match number(digits) {
-        Some(n) if n <= GREATEST_BELOW => Cell::Below(n as u32),
-        _ => Cell::Text(word),
-    }
-}
-
-// Returns the cell of a word that isn't a number without a sign.
-fn signed(word: &[u8]) -> Cell<'_>
-    ensures { spec.cell_of result ≡ spec.signed word.now }
-{
-    match word {
-        [b'+', digits @ ..] => above(digits, word),
-        [b'-', digits @ ..] => below(digits, word),
-        _ => Cell::Text(word),
-    }
-}
-
-/// Returns the cell that a word spells: `-` is an empty cell, one to nine decimal digits with or
-/// without a sign are a number, and any other word is a text.
-pub(crate) fn cell_of_word(word: &[u8]) -> Cell<'_>
-    ensures { spec.cell_of result ≡ spec.cell_of_word word.now }
-{
-    if word == b"-".as_slice() {
-        return Cell::Empty;
-    }
-    match number(word) {
-        Some(n) => Cell::Number(n),
-        None => signed(word),
-    }
+    matches!(cell, Cell::Empty)
 }

@@ -28,12 +28,8 @@ fn record_text(alloc: Global, row: &ByteRecord) -> Result<Vec<u8>, Error>
     }
 }
 
-/// Appends a record. Writing to memory fails only if memory runs out.
-pub(crate) fn push_record(
-    alloc: Global,
-    text: &mut Vec<u8>,
-    row: &ByteRecord,
-) -> Result<(), AllocError>
+// Appends a record. Writing to memory fails only if memory runs out.
+fn push_record(alloc: Global, text: &mut Vec<u8>, row: &ByteRecord) -> Result<(), AllocError>
     ensures { OnOk result (text.new.items
         ≡ text.old.items ++ row_text default_writer (fields_of row.now)) }
 {
@@ -132,12 +128,8 @@ fn push_row(alloc: Global, text: &mut Vec<u8>, cells: &[Cell<'_>]) -> Result<(),
     push_record(alloc, text, &row)
 }
 
-/// Appends the records of rows.
-pub(crate) fn push_rows(
-    alloc: Global,
-    text: &mut Vec<u8>,
-    rows: &[Vec<Cell<'_>>],
-) -> Result<(), AllocError>
+// Appends the records of rows.
+fn push_rows(alloc: Global, text: &mut Vec<u8>, rows: &[Vec<Cell<'_>>]) -> Result<(), AllocError>
     ensures { OnOk result (text.new.items
         ≡ text.old.items ++ spec.csv_text_of (spec.records_of_rows (rows_of rows.now))) }
 {

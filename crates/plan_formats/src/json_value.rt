@@ -16,8 +16,8 @@ use crate::table::Table;
 use serde_json::{Map, Value, put};
 use std::alloc::{AllocError, Global};
 
-/// Returns a cell as JSON.
-pub(crate) fn cell_value(alloc: Global, cell: &Cell<'_>) -> Result<Value, AllocError>
+// Returns a cell as JSON.
+fn cell_value(alloc: Global, cell: &Cell<'_>) -> Result<Value, AllocError>
     ensures { IfOk result (λ value. view value ≡ value_of (cell_of cell.now)) }
 {
     Ok(match cell {

@@ -12,4 +12,3 @@ pub mod SheetLemmas
 pub mod TextLemmas
 pub mod EntryLemmas
 pub mod SentenceLemmas
-pub mod ShiftLemmas

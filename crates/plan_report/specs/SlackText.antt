@@ -1,7 +1,5 @@
 -- The table of slacks (docs/definitions.md, "Reports").
-use Rattle.std.specs.Prelude.{◌≡◌, ℕ, ◌+◌, ◌==◌, List, [], ◌∷◌, ◌++◌, Option, Some, None, Vec}
-use Rattle.std.specs.Prelude.{codes}
-use Rattle.std.specs.declared.alloc.Global.{Global}
+use Rattle.std.specs.Prelude.{◌≡◌, ℕ, ◌+◌, ◌==◌, List, [], ◌∷◌, ◌++◌, Option, Some, None, codes}
 use Rattle.plan_net.specs.Network.{Net, count_of, duration_of}
 use Rattle.plan_sgs.specs.Instances.{Planned, problem_of}
 use Rattle.plan_gantt.specs.Column.{number_column, number_columns, lines_from}
@@ -26,11 +24,6 @@ unfoldable pub slack_line : Net → List ℕ → List ℕ → ℕ → List ℕ
 slack_line net starts slacks j =
     number_column 4 j ++ number_columns (times_of net starts slacks j)
     ++ line_end (start_of slacks j == 0)
-
--- a chain, as the program keeps it
-abbrev pub chain_of : Option (Vec ℕ Global) → Option (List ℕ)
-chain_of None = None
-chain_of (Some chain) = Some chain.items
 
 -- the last line: the chain, if there is one
 abbrev pub chain_line : Option (List ℕ) → List ℕ

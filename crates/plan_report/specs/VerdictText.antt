@@ -1,12 +1,11 @@
 -- Verdicts on starts in a sentence (docs/definitions.md, "Reports"). Steps of a job shop are named
 -- by their number in the job and by the job, both from 1, and machines are numbered from 0, as in
 -- the table of a job shop.
-use Rattle.std.specs.Prelude.{◌≡◌, ℕ, ◌+◌, ◌-◌, ◌/◌, ◌%◌, List, ◌++◌, codes}
+use Rattle.std.specs.Prelude.{ℕ, ◌+◌, ◌-◌, ◌/◌, ◌%◌, List, ◌++◌, codes}
 use Rattle.std.specs.Fmt.{decimal}
-use Rattle.plan_sgs.specs.Verdicts.{IsFirstVerdict}
 use Rattle.plan_sgs.specs.declared.verdict.Verdict.{Verdict}
 use Rattle.plan_sgs.specs.declared.verdict.Verdict.TheVariants.{Arc, Over, Shift, Active}
-use Rattle.plan_shop.specs.Shop.{JobShop, problem_of}
+use Rattle.plan_shop.specs.Shop.{JobShop}
 
 -- an activity starts before its predecessor ends
 abbrev pub broken_text : ℕ → ℕ → List ℕ
@@ -56,9 +55,3 @@ shop_sentence_of s (Arc i j) = broken_job_text s i j
 shop_sentence_of s (Over t k) = crowded_text t k
 shop_sentence_of s (Shift j) = step_text s j ++ codes " can start earlier"
 shop_sentence_of s Active = codes "active"
-
--- a text is the first verdict on starts of a job shop, with an end of line
-pub record IsShopVerdict (s : JobShop) (starts text : List ℕ) : Type 0 where
-  pub verdict : Verdict
-  pub first : IsFirstVerdict (problem_of s) starts verdict
-  pub told : text ≡ shop_sentence_of s verdict ++ codes "\n"

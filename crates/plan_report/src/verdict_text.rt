@@ -1,13 +1,11 @@
 //! Verdicts on starts in a sentence.
 
-ghost use Rattle.std.specs.Prelude.{◌≡◌, ◌≤◌, ◌++◌, All, IfOk, OnOk, codes, length, string_bytes};
-ghost use Rattle.plan_profile.specs.Usage.{IsInTime};
-ghost use Rattle.plan_shop.specs.Shop.{count_steps};
+ghost use Rattle.std.specs.Prelude.{◌≡◌, ◌≤◌, ◌++◌, OnOk, codes, string_bytes};
 ghost use Rattle.plan_report.specs.VerdictText as spec;
 
 use plan_sgs::Verdict;
-use plan_shop::{Shop, check};
-use std::alloc::{AllocError, Global};
+use plan_shop::Shop;
+use std::alloc::AllocError;
 use std::fmt::Write;
 
 // Appends the sentence that an activity starts before its predecessor ends.
@@ -116,29 +114,4 @@ pub fn push_shop_sentence(
         Verdict::Shift(j) => push_shift(text, shop, j),
         Verdict::Active => text.push_str("active"),
     }
-}
-
-// Returns the sentence of a verdict on the starts of a job shop, with an end of line.
-fn shop_sentence(alloc: Global, shop: &Shop, verdict: Verdict) -> Result<String, AllocError>
-    ensures { IfOk result (λ text.
-        string_bytes text ≡ spec.shop_sentence_of shop.now verdict ++ codes "\n") }
-{
-    let mut text = String::new(alloc);
-    push_shop_sentence(&mut text, shop, verdict)?;
-    text.push_str("\n")?;
-    Ok(text)
-}
-
-/// Returns the first verdict on a list of starts of a job shop, as a line: a step that starts
-/// before its predecessor in the job ends, else an instant with more than one step on a machine,
-/// else a step that can start earlier, else `active`. The list has a start for each step in flat
-/// order. Jobs and the steps of a job are named by their numbers from 1, machines from 0.
-pub fn shop_verdict_text(alloc: Global, shop: &Shop, starts: &[u64]) -> Result<String, AllocError>
-    requires whole { length starts.now ≡ count_steps shop.now }
-    requires limit { All IsInTime starts.now }
-    ensures text { IfOk result (λ text.
-        spec.IsShopVerdict shop.now starts.now (string_bytes text)) }
-{
-    let verdict = check(shop, starts);
-    shop_sentence(alloc, shop, verdict)
 }
