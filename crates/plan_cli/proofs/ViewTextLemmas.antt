@@ -11,21 +11,20 @@ use Rattle.plan_report.specs.SlackText.{IsSlackText}
 use Rattle.plan_exact.specs.declared.shop_solution.Solved.{Solved}
 use Rattle.plan_sgs.specs.Instances.{Planned}
 use Rattle.plan_shop.specs.Shop.{JobShop}
-use Rattle.plan_gantt.specs.ProjectBestText.{best_project_text_of}
 use Rattle.plan_gantt.specs.BestText as best
 use Rattle.plan_exact.specs.declared.answer.Kind.{Kind}
 use Rattle.plan_exact.specs.declared.answer.Kind.TheVariants as kind
 use Rattle.plan_formats.specs.TableLines.{line_text}
 use Rattle.plan_formats.specs.TableText.{text_of}
 use Rattle.plan_formats.specs.Tables.{Table}
-use Rattle.plan_views.specs.Bounds.{best_project_view_of, best_shop_view_of, bound_line_of, kind_line_of}
+use Rattle.plan_views.specs.Bounds.{best_text_of, best_view_of, bound_line_of, kind_line_of}
 use Rattle.plan_views.specs.LineLists.{verdict_view_of}
+use Rattle.plan_views.specs.Plans as plans
 use Rattle.plan_views.specs.ScheduleTables.{schedule_view_of}
-use Rattle.plan_views.specs.ShopTables.{shop_view_of}
-use Rattle.plan_views.proofs.ChartLemmas.{activities_text, machines_text}
-use Rattle.plan_views.proofs.DayLemmas.{calendar_text, shop_calendar_text}
-use Rattle.plan_views.proofs.ReportLemmas.{comparison_text, shop_comparison_text, slack_text}
-use Rattle.plan_views.proofs.TextLemmas.{bound_text, date_text, lines_text_of, schedule_text, shop_text}
+use Rattle.plan_views.proofs.ChartLemmas.{chart_text_is}
+use Rattle.plan_views.proofs.DayLemmas.{calendar_text}
+use Rattle.plan_views.proofs.ReportLemmas.{comparison_text, slack_text}
+use Rattle.plan_views.proofs.TextLemmas.{bound_text, date_text, lines_text_of, schedule_text}
 use Rattle.plan_cli.specs.BestRun.{IsBestOf}
 use Rattle.plan_cli.specs.ChartRun.{IsChartFrom}
 use Rattle.plan_cli.specs.ChartRun as charts
@@ -34,6 +33,7 @@ use Rattle.plan_cli.specs.CompareRun.{Compares, IsCompared}
 use Rattle.plan_cli.specs.DaysRun.{IsDaysFrom, IsDaysTable, ShowsDays}
 use Rattle.plan_cli.specs.Documents.{IsOfSubject}
 use Rattle.plan_cli.specs.ImportRun.{IsImportOf, IsShopImportOf}
+use Rattle.plan_cli.specs.PlanRefs.{viewed}
 use Rattle.plan_cli.specs.ProofText.{IsBoundLine}
 use Rattle.plan_cli.specs.ProveRun.{IsProvedOf}
 use Rattle.plan_cli.specs.Run.{IsDateTableOf}
@@ -54,8 +54,7 @@ use Rattle.plan_cli.specs.declared.tasks.Task.{Task}
 use Rattle.plan_cli.specs.declared.tasks.Task.TheVariants as task
 
 table_text : (p : Plan) (starts : List ℕ) (ends : ℕ) → text_of (schedule_of p starts ends) ≡ tables.table_of p starts ends
-table_text (plan.Project i) starts ends = schedule_text i.project.network starts ends
-table_text (plan.Shop s) starts ends = shop_text s starts ends
+table_text p starts ends = schedule_text (viewed p) starts ends
 
 by_rule : (name : List ℕ) (p : Plan) (v : View) → IsTableViewBy name p v → IsTableBy name p (plain_text v)
 by_rule name p v is = record {
@@ -65,8 +64,7 @@ by_rule name p v is = record {
 }
 
 chart_text : (p : Plan) (starts : List ℕ) (ends : ℕ) → plain_text (chart (chart_of p starts ends)) ≡ charts.chart_of p starts ends
-chart_text (plan.Project i) starts ends = activities_text i.project.network starts ends
-chart_text (plan.Shop s) starts ends = machines_text s starts ends
+chart_text p starts ends = chart_text_is (viewed p) starts ends
 
 by_origin : (from : Origin) (p : Plan) (v : View) → IsChartViewFrom from p v → IsChartFrom from p (plain_text v)
 by_origin from p v is = record {
@@ -88,8 +86,7 @@ bound_line : (lower makespan : ℕ) → lower ≤ makespan → IsBoundLine lower
 bound_line lower makespan below = case_bound (nat_lt lower makespan) lower makespan refl below
 
 days_table : (p : Plan) (starts : List ℕ) (c : Workdays) (t : Table) → AreDaysOf p starts c t → IsDaysTable p starts c (text_of t)
-days_table (plan.Project i) starts c t are = calendar_text c i.project.network starts t are
-days_table (plan.Shop s) starts c t are = shop_calendar_text c s starts t are
+days_table p starts c t are = calendar_text c (viewed p) starts t are
 
 by_dates : (from : Origin) (dates : Dates) (p : Plan) (v : View) → IsDaysViewFrom from dates p v → IsDaysFrom from dates p (plain_text v)
 by_dates from dates p v is = record {
@@ -120,8 +117,7 @@ by_slack listed i v is = (
 )
 
 compares : (p : Plan) (a b : List ℕ) (t : Table) → ComparesIn p a b t → Compares p a b (text_of t)
-compares (plan.Project i) a b t is = comparison_text i a b t is
-compares (plan.Shop s) a b t is = shop_comparison_text s a b t is
+compares p a b t is = comparison_text (viewed p) a b t is
 
 by_pair : (first second : List ℕ) (p : Plan) (v : View) → IsComparedView first second p v → IsCompared first second p (plain_text v)
 by_pair first second p v (a, said_a, (b, said_b, (t, is, shown))) =
@@ -131,19 +127,12 @@ kind_text : (k : Kind) (makespan : ℕ) → line_text (kind_line_of k makespan) 
 kind_text kind.Optimal makespan = refl
 kind_text kind.Budget makespan = refl
 
-best_project : (i : Planned) (solved : Solved) → text_of (best_project_view_of i solved) ≡ best_project_text_of i solved
-best_project i solved =
-    let made = schedule_view_of i.project.network solved.schedule.starts.items solved.schedule.makespan in
+best_text : (p : plans.Plan) (solved : Solved) → text_of (best_view_of p solved) ≡ best_text_of p solved
+best_text p solved =
+    let made = schedule_view_of p solved.schedule.starts.items solved.schedule.makespan in
     bound_text (kind_line_of solved.kind solved.schedule.makespan) made
     ∙ ap (λ bytes. bytes ++ text_of made) (kind_text solved.kind solved.schedule.makespan)
-    ∙ ap (λ bytes. best.kind_line solved.kind solved.schedule.makespan ++ bytes) (schedule_text i.project.network solved.schedule.starts.items solved.schedule.makespan)
-
-best_shop : (s : JobShop) (solved : Solved) → text_of (best_shop_view_of s solved) ≡ best.best_text_of s solved
-best_shop s solved =
-    let made = shop_view_of s solved.schedule.starts.items solved.schedule.makespan in
-    bound_text (kind_line_of solved.kind solved.schedule.makespan) made
-    ∙ ap (λ bytes. bytes ++ text_of made) (kind_text solved.kind solved.schedule.makespan)
-    ∙ ap (λ bytes. best.kind_line solved.kind solved.schedule.makespan ++ bytes) (shop_text s solved.schedule.starts.items solved.schedule.makespan)
+    ∙ ap (λ bytes. best.kind_line solved.kind solved.schedule.makespan ++ bytes) (schedule_text p solved.schedule.starts.items solved.schedule.makespan)
 
 by_budget : (argument : List ℕ) (p : Plan) (v : View) → IsBestViewOf argument p v → IsBestOf argument p (plain_text v)
 by_budget argument (plan.Project i) v (budget, spelled, is) = (
@@ -155,7 +144,7 @@ by_budget argument (plan.Project i) v (budget, spelled, is) = (
     shortest = is.shortest;
     active = is.active;
     makespan = is.makespan;
-    shown = ap plain_text is.shown ∙ best_project i is.solved;
+    shown = ap plain_text is.shown ∙ best_text (plans.project i) is.solved;
   },
 )
 by_budget argument (plan.Shop s) v (budget, spelled, is) = (
@@ -167,7 +156,7 @@ by_budget argument (plan.Shop s) v (budget, spelled, is) = (
     shortest = is.shortest;
     active = is.active;
     makespan = is.makespan;
-    shown = ap plain_text is.shown ∙ best_shop s is.solved;
+    shown = ap plain_text is.shown ∙ best_text (plans.shop s) is.solved;
   },
 )
 

@@ -1,8 +1,6 @@
 -- The output of `plan compare` for the bytes that it reads (docs/definitions.md, "Runs").
 use Rattle.std.specs.Prelude.{◌≡◌, ◌⊎◌, ◌++◌, ℕ, List, if◌then◌else◌, bytes_eq, codes}
-use Rattle.plan_report.specs.Comparison.{IsComparison}
 use Rattle.plan_report.specs.Sheet.{Sheet}
-use Rattle.plan_report.specs.ShopComparison.{IsShopComparison}
 use Rattle.plan_report.specs.StartsText.{SaysStarts}
 use Rattle.plan_errors.specs.Faults.{refusal_line}
 use Rattle.plan_errors.specs.Output.{Refuses}
@@ -10,10 +8,11 @@ use Rattle.plan_errors.specs.declared.context.Subject.{Subject}
 use Rattle.plan_errors.specs.declared.context.Subject.TheVariants as subject
 use Rattle.plan_errors.specs.declared.fault.CliFault.{CliFault}
 use Rattle.plan_errors.specs.declared.fault.CliFault.TheVariants as fault
+use Rattle.plan_views.specs.ComparisonTables as views
 use Rattle.plan_cli.specs.Documents.{sheet_of}
+use Rattle.plan_cli.specs.PlanRefs.{viewed}
 use Rattle.plan_cli.specs.Starts.{TellsNoStarts}
 use Rattle.plan_cli.specs.declared.documents.Plan.{Plan}
-use Rattle.plan_cli.specs.declared.documents.Plan.TheVariants as plan
 
 -- the line of an error with the name of a schedule behind it
 abbrev pub named_line : List ℕ → List ℕ → List ℕ
@@ -50,8 +49,7 @@ SayPair sheet first second Holds = (a : List ℕ) × SaysStarts sheet first a
 
 -- a text compares two schedules of a plan by their starts
 abbrev pub Compares : Plan → List ℕ → List ℕ → List ℕ → Type 0
-Compares (plan.Project i) a b text = IsComparison i a b text
-Compares (plan.Shop s) a b text = IsShopComparison s a b text
+Compares p a b text = views.Compares (viewed p) a b text
 
 -- a text compares the schedules with the starts in two texts
 abbrev pub IsCompared : List ℕ → List ℕ → Plan → List ℕ → Type 0

@@ -1,17 +1,16 @@
 -- The output of `plan days` for the bytes that it reads (docs/definitions.md, "Runs").
 use Rattle.std.specs.Prelude.{◌≡◌, ◌⊎◌, ℕ, List}
 use Rattle.plan_calendar.specs.WorkingDay.{Workdays}
-use Rattle.plan_gantt.specs.CalendarTable.{IsCalendarTable, HasActivityBeyond}
-use Rattle.plan_gantt.specs.ShopCharts.{IsShopCalendarTable, HasStepBeyond}
 use Rattle.plan_gantt.specs.CalendarFaultText.{calendar_fault_text_of}
 use Rattle.plan_calendar.specs.declared.calendar.CalendarFault.TheVariants as fault
 use Rattle.plan_gantt.specs.declared.days.DaysFault.{DaysFault}
 use Rattle.plan_gantt.specs.declared.days.DaysFault.TheVariants as days
+use Rattle.plan_views.specs.DayTables as views
 use Rattle.plan_cli.specs.Calendars.{IsDated, TellsNoCalendar}
+use Rattle.plan_cli.specs.PlanRefs.{viewed}
 use Rattle.plan_cli.specs.Scheduled.{IsScheduleFrom, TellsNotMade}
 use Rattle.plan_cli.specs.declared.calendars.Dates.{Dates}
 use Rattle.plan_cli.specs.declared.documents.Plan.{Plan}
-use Rattle.plan_cli.specs.declared.documents.Plan.TheVariants as plan
 use Rattle.plan_cli.specs.declared.origins.Origin.{Origin}
 
 -- a text shows days of the calendar of some texts
@@ -35,13 +34,11 @@ TellsDaysFault first line =
 
 -- a text is the table of the working days of starts on a calendar
 abbrev pub IsDaysTable : Plan → List ℕ → Workdays → List ℕ → Type 0
-IsDaysTable (plan.Project i) starts c text = IsCalendarTable c i.project.network starts text
-IsDaysTable (plan.Shop s) starts c text = IsShopCalendarTable c s starts text
+IsDaysTable p starts c text = views.IsDaysTable c (viewed p) starts text
 
 -- a day of starts is beyond the calendar
 abbrev pub HasDayBeyond : Plan → List ℕ → Workdays → Type 0
-HasDayBeyond (plan.Project i) starts c = HasActivityBeyond c i.project.network starts
-HasDayBeyond (plan.Shop s) starts c = HasStepBeyond c s starts
+HasDayBeyond p starts c = views.HasDayBeyond c (viewed p) starts
 
 -- a text is the table of working days of a plan's schedule
 pub record IsDaysFrom (from : Origin) (dates : Dates) (p : Plan) (text : List ℕ) : Type 0 where

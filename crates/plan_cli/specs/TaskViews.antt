@@ -27,22 +27,21 @@ use Rattle.plan_prove.specs.Nodes.{IsNodesText}
 use Rattle.plan_prove.specs.declared.proof.Proof.{Proof}
 use Rattle.plan_report.specs.StartsText.{SaysStarts, activity_sheet}
 use Rattle.plan_formats.specs.Tables.{Table}
-use Rattle.plan_views.specs.Bounds.{best_project_view_of, best_shop_view_of, bound_line_of}
-use Rattle.plan_views.specs.Bounds.{with_line_of}
-use Rattle.plan_views.specs.Charts.{Chart, chart_view_of, shop_chart_view_of}
+use Rattle.plan_views.specs.Bounds.{best_view_of, bound_line_of, with_line_of}
+use Rattle.plan_views.specs.Charts.{Chart, chart_view_of}
 use Rattle.plan_views.specs.ComparisonTables.{IsComparisonView}
 use Rattle.plan_views.specs.DateTables.{date_view_of}
-use Rattle.plan_views.specs.DayTables.{IsCalendarView, IsShopCalendarView}
+use Rattle.plan_views.specs.DayTables.{IsDaysView}
 use Rattle.plan_views.specs.LineLists.{name_view_of, verdict_view_of}
+use Rattle.plan_views.specs.Plans.{project, shop}
 use Rattle.plan_views.specs.ScheduleTables.{schedule_view_of}
-use Rattle.plan_views.specs.ShopComparisonTables.{IsShopComparisonView}
-use Rattle.plan_views.specs.ShopTables.{shop_view_of}
 use Rattle.plan_views.specs.SlackTables.{IsSlackView}
 use Rattle.plan_cli.specs.Calendars.{IsDated}
 use Rattle.plan_cli.specs.CompareRun.{SayPair}
 use Rattle.plan_cli.specs.Documents.{IsOfSubject, problem_of, sheet_of}
 use Rattle.plan_cli.specs.CheckRun.{sentence_of}
 use Rattle.plan_cli.specs.ImportRun.{IsImportOf, IsShopImportOf}
+use Rattle.plan_cli.specs.PlanRefs.{viewed}
 use Rattle.plan_cli.specs.Plans.{IsOfProject, IsOfShop}
 use Rattle.plan_cli.specs.Scheduled.{IsByRule, IsScheduleFrom}
 use Rattle.plan_cli.specs.Views.{View, table, chart, text}
@@ -62,8 +61,7 @@ IsDateView file view = (p : Project) × SaysProject file p
 
 -- the table of a schedule with these starts and this makespan
 abbrev pub schedule_of : Plan → List ℕ → ℕ → Table
-schedule_of (plan.Project i) starts ends = schedule_view_of i.project.network starts ends
-schedule_of (plan.Shop s) starts ends = shop_view_of s starts ends
+schedule_of p starts ends = schedule_view_of (viewed p) starts ends
 
 -- the table of a plan's schedule by the rule with this name
 pub record IsTableViewBy (name : List ℕ) (p : Plan) (view : View) : Type 0 where
@@ -73,8 +71,7 @@ pub record IsTableViewBy (name : List ℕ) (p : Plan) (view : View) : Type 0 whe
 
 -- the chart of a schedule with these starts and this makespan
 abbrev pub chart_of : Plan → List ℕ → ℕ → Chart
-chart_of (plan.Project i) starts ends = chart_view_of i.project.network starts ends
-chart_of (plan.Shop s) starts ends = shop_chart_view_of s starts ends
+chart_of p starts ends = chart_view_of (viewed p) starts ends
 
 -- the chart of a plan's schedule
 pub record IsChartViewFrom (from : Origin) (p : Plan) (view : View) : Type 0 where
@@ -84,8 +81,7 @@ pub record IsChartViewFrom (from : Origin) (p : Plan) (view : View) : Type 0 whe
 
 -- a table has the working days of starts on a calendar
 abbrev pub AreDaysOf : Plan → List ℕ → Workdays → Table → Type 0
-AreDaysOf (plan.Project i) starts c t = IsCalendarView c i.project.network starts t
-AreDaysOf (plan.Shop s) starts c t = IsShopCalendarView c s starts t
+AreDaysOf p starts c t = IsDaysView c (viewed p) starts t
 
 -- the working days of a plan's schedule
 pub record IsDaysViewFrom (from : Origin) (dates : Dates) (p : Plan) (view : View) : Type 0 where
@@ -115,8 +111,7 @@ pub record IsSlackViewOf (listed : List ℕ) (i : Planned) (view : View) : Type 
 
 -- a table compares two schedules of a plan
 abbrev pub ComparesIn : Plan → List ℕ → List ℕ → Table → Type 0
-ComparesIn (plan.Project i) a b t = IsComparisonView i a b t
-ComparesIn (plan.Shop s) a b t = IsShopComparisonView s a b t
+ComparesIn p a b t = IsComparisonView (viewed p) a b t
 
 -- the comparison of the schedules with the starts in two texts
 abbrev pub IsComparedView : List ℕ → List ℕ → Plan → View → Type 0
@@ -133,7 +128,7 @@ pub record IsBestProjectViewBy (budget : ℕ) (i : Planned) (view : View) : Type
   pub active : IsActive (projects.problem_of i) solved.schedule.starts.items
   pub makespan : solved.schedule.makespan
       ≡ makespan (projects.problem_of i) solved.schedule.starts.items
-  pub shown : view ≡ table (best_project_view_of i solved)
+  pub shown : view ≡ table (best_view_of (project i) solved)
 
 -- the same for a job shop
 pub record IsBestShopViewBy (budget : ℕ) (s : JobShop) (view : View) : Type 0 where
@@ -144,7 +139,7 @@ pub record IsBestShopViewBy (budget : ℕ) (s : JobShop) (view : View) : Type 0 
   pub active : IsActive (shops.problem_of s) solved.schedule.starts.items
   pub makespan : solved.schedule.makespan
       ≡ makespan (shops.problem_of s) solved.schedule.starts.items
-  pub shown : view ≡ table (best_shop_view_of s solved)
+  pub shown : view ≡ table (best_view_of (shop s) solved)
 
 -- the best schedule of a plan within the budget that an argument spells
 abbrev pub IsBestViewOf : List ℕ → Plan → View → Type 0

@@ -10,12 +10,13 @@ ghost use Rattle.plan_cli.specs.Views.{IfView};
 
 use crate::documents::Plan;
 use crate::origins::Origin;
+use crate::plan_refs::plan_ref;
 use crate::schedules::schedule_from;
 use crate::views::View;
 use crate::watchers::{Log, ProofWatcher, SolveWatcher};
 use plan_errors::CliFault;
 use plan_sgs::Schedule;
-use plan_views::{Chart, chart_view, shop_chart_view};
+use plan_views::{Chart, chart_view};
 use std::alloc::{AllocError, Global};
 
 // Returns the chart of a plan's schedule.
@@ -24,11 +25,7 @@ fn chart_of(alloc: Global, plan: &Plan<'_>, schedule: &Schedule) -> Result<Chart
     ensures { IfOk result (λ chart. charts.chart_of chart
         ≡ spec.chart_of plan.now schedule.now.starts.items schedule.now.makespan) }
 {
-    let (starts, makespan) = (&schedule.starts, schedule.makespan);
-    match plan {
-        Plan::Project(instance) => chart_view(alloc, instance.network(), starts, makespan),
-        Plan::Shop(shop) => shop_chart_view(alloc, shop, starts, makespan),
-    }
+    chart_view(alloc, plan_ref(plan), &schedule.starts, schedule.makespan)
 }
 
 /// Returns the chart of a plan.

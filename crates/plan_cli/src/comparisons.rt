@@ -12,11 +12,12 @@ ghost use Rattle.plan_cli.specs.Documents.{count_of, sheet_of};
 ghost use Rattle.plan_cli.specs.CompareRun as spec;
 
 use crate::documents::Plan;
+use crate::plan_refs::plan_ref;
 use crate::starts::starts_of;
 use crate::views::View;
 use plan_errors::{CliFault, Part, Refusal, Subject};
 use plan_formats::Table;
-use plan_views::{comparison_view, shop_comparison_view};
+use plan_views::comparison_view;
 use std::alloc::{AllocError, Global};
 
 /// The texts of the starts of two schedules, A and B.
@@ -93,10 +94,7 @@ fn compared(
     requires limit_b { All IsInTime b.now }
     ensures { IfOk result (λ table. views.ComparesIn plan.now a.now b.now (table_of table)) }
 {
-    match plan {
-        Plan::Project(instance) => comparison_view(alloc, instance, a, b),
-        Plan::Shop(shop) => shop_comparison_view(alloc, shop, a, b),
-    }
+    comparison_view(alloc, plan_ref(plan), a, b)
 }
 
 /// Returns the comparison of the schedules with the starts in two texts.

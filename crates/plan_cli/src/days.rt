@@ -12,6 +12,7 @@ ghost use Rattle.plan_cli.specs.Views.{IfView};
 use crate::calendars::{Dates, calendar_of};
 use crate::documents::Plan;
 use crate::origins::Origin;
+use crate::plan_refs::plan_ref;
 use crate::refusals::days_refusal;
 use crate::schedules::schedule_from;
 use crate::views::View;
@@ -20,7 +21,7 @@ use plan_errors::CliFault;
 use plan_formats::Table;
 use plan_gantt::{Calendar, DaysFault};
 use plan_sgs::Schedule;
-use plan_views::{days_view, shop_days_view};
+use plan_views::days_view;
 use std::alloc::Global;
 
 // Returns the table of the working days of a plan's schedule, or its error.
@@ -36,11 +37,7 @@ fn days_table(
     ensures beyond { IsErrOf result DaysFault.BeyondCalendar →
         days.HasDayBeyond plan.now schedule.now.starts.items calendar.now }
 {
-    let starts = &schedule.starts;
-    match plan {
-        Plan::Project(instance) => days_view(alloc, instance.network(), starts, calendar),
-        Plan::Shop(shop) => shop_days_view(alloc, shop, starts, calendar),
-    }
+    days_view(alloc, plan_ref(plan), &schedule.starts, calendar)
 }
 
 // Returns the working days of a plan's schedule.

@@ -19,6 +19,7 @@ mod inputs;
 mod named_texts;
 mod names;
 mod origins;
+mod plan_refs;
 mod projects;
 mod proof;
 mod refusals;

@@ -20,7 +20,7 @@ use plan_formats::Table;
 use plan_orlib::ShopDoc;
 use plan_prove::{Proof, ProveFault, Watcher, parse_nodes, prove_watched};
 use plan_shop::Shop;
-use plan_views::{bound_line, shop_view, with_line};
+use plan_views::{PlanRef, bound_line, schedule_view, with_line};
 use std::alloc::{AllocError, Global};
 
 // Returns the table of a proof.
@@ -32,7 +32,8 @@ fn proof_table(alloc: Global, shop: &Shop, proof: &Proof) -> Result<Table<'stati
         proof.now.lower proof.now.schedule.starts.items proof.now.schedule.makespan) }
 {
     let schedule = &proof.schedule;
-    let table = shop_view(alloc, shop, &schedule.starts, schedule.makespan)?;
+    let shop = PlanRef::Shop(shop);
+    let table = schedule_view(alloc, shop, &schedule.starts, schedule.makespan)?;
     with_line(bound_line(proof.lower, schedule.makespan), table)
 }
 

@@ -17,7 +17,7 @@ use plan_errors::CliFault;
 use plan_exact::{parse_budget, solve_project, solve_shop};
 use plan_sgs::Instance;
 use plan_shop::Shop;
-use plan_views::{best_project_view, best_shop_view};
+use plan_views::{PlanRef, best_view};
 use std::alloc::Global;
 
 // Returns a job shop's best schedule.
@@ -26,7 +26,7 @@ fn solved_shop(alloc: Global, budget: u64, shop: &Shop) -> Result<View, CliFault
     ensures refused { IfErr result (Refuses (TellsSolvingRefusal budget shop.now)) }
 {
     let solved = solve_shop(alloc, shop, budget).map_err(|fault| exact_refusal(alloc, &fault))?;
-    Ok(View::Table(best_shop_view(alloc, shop, &solved)?))
+    Ok(View::Table(best_view(alloc, PlanRef::Shop(shop), &solved)?))
 }
 
 // Returns the same within the budget that an argument spells. An argument that isn't a budget is
@@ -47,7 +47,7 @@ fn solved_project(alloc: Global, budget: u64, instance: &Instance) -> Result<Vie
     let solved = solve_project(alloc, instance, budget).map_err(|fault| exact_refusal(
         alloc, &fault,
     ))?;
-    Ok(View::Table(best_project_view(alloc, instance, &solved)?))
+    Ok(View::Table(best_view(alloc, PlanRef::Project(instance), &solved)?))
 }
 
 // Returns the same within the budget that an argument spells. An argument that isn't a budget is

@@ -10,6 +10,7 @@ ghost use Rattle.plan_cli.specs.TaskViews as spec;
 ghost use Rattle.plan_cli.specs.Views.{IfView};
 
 use crate::documents::Plan;
+use crate::plan_refs::plan_ref;
 use crate::projects::read_project;
 use crate::schedules::schedule_by;
 use crate::views::View;
@@ -17,7 +18,7 @@ use plan_cpm::dates;
 use plan_errors::CliFault;
 use plan_formats::Table;
 use plan_sgs::Schedule;
-use plan_views::{date_view, schedule_view, shop_view};
+use plan_views::{date_view, schedule_view};
 use std::alloc::{AllocError, Global};
 
 /// Returns the table of the dates of the project in a file.
@@ -41,11 +42,7 @@ pub(crate) fn schedule_table(
     ensures { IfOk result (λ table. table_of table
         ≡ spec.schedule_of plan.now schedule.now.starts.items schedule.now.makespan) }
 {
-    let (starts, makespan) = (&schedule.starts, schedule.makespan);
-    match plan {
-        Plan::Project(instance) => schedule_view(alloc, instance.network(), starts, makespan),
-        Plan::Shop(shop) => shop_view(alloc, shop, starts, makespan),
-    }
+    schedule_view(alloc, plan_ref(plan), &schedule.starts, schedule.makespan)
 }
 
 /// Returns the table of the schedule of a plan by a rule.

@@ -1,16 +1,18 @@
 -- The rows of tables of working days, and their texts.
-use Rattle.std.proofs.Common.{◌≡◌, ℕ, zero, suc, ◌+◌, ◌-◌, ◌<◌, ◌⊎◌, List, [], ◌∷◌, ◌++◌, map, codes, Vec, refl, sym, ap, ◌∙◌, subst, arith}
+use Rattle.std.proofs.Common.{◌≡◌, ℕ, zero, suc, ◌+◌, ◌-◌, ◌<◌, ◌≤◌, ◌⊎◌, List, [], ◌∷◌, ◌++◌, map, codes, slice_index, Vec, refl, sym, ap, ◌∙◌, subst, arith}
 use Rattle.std.proofs.lemmas.List.{append_assoc, append-nil, map-append}
 use Rattle.std.specs.Global.{Global}
 use Rattle.std.specs.List.{flat_map}
-use Rattle.plan_net.specs.Network.{Net, count_of}
-use Rattle.plan_shop.specs.Shop.{JobShop, count_steps}
+use Rattle.plan_net.specs.Network.{IsActivity, duration_of}
+use Rattle.plan_sgs.specs.Instances.{Planned}
+use Rattle.plan_shop.specs.Shop.{JobShop}
 use Rattle.plan_calendar.specs.WorkingDay.{Workdays, IsBeyond}
-use Rattle.plan_gantt.specs.CalendarTable.{IsDayText, IsDaysText, IsDaysLine, AreDaysLines, IsCalendarTable, ShowsBeyond, activity_days_heading}
+use Rattle.plan_gantt.specs.CalendarTable.{IsDayText, IsDaysText, IsDaysLine, AreDaysLines, ShowsBeyond, activity_days_heading}
+use Rattle.plan_gantt.specs.CalendarTable as texts
 use Rattle.plan_gantt.proofs.DayTextLemmas.{shown_beyond}
 use Rattle.plan_gantt.specs.Charts.{activity_interval}
 use Rattle.plan_gantt.specs.Column.{column, number_column}
-use Rattle.plan_gantt.specs.ShopCharts.{IsShopCalendarTable, step_days_heading, step_front, step_interval}
+use Rattle.plan_gantt.specs.ShopCharts.{step_days_heading, step_front, step_interval}
 use Rattle.plan_gantt.specs.declared.interval.Interval.{Interval}
 use Rattle.plan_formats.specs.Cells.{Cell, text, empty}
 use Rattle.plan_formats.specs.Cells as cells
@@ -18,7 +20,8 @@ use Rattle.plan_formats.specs.Columns.{Column}
 use Rattle.plan_formats.specs.TableText.{row_line, row_of, heading_row, label_place, text_of}
 use Rattle.plan_formats.specs.Tables.{Table, cells_of, rows_of}
 use Rattle.plan_formats.specs.declared.cell.Cell as declared
-use Rattle.plan_views.specs.DayTables.{IsDayCell, AreDayCells, IsDaysRow, AreDaysRows, AreStepDaysRows, IsCalendarView, IsShopCalendarView, activity_cells, step_cells, activity_days_columns, step_days_columns}
+use Rattle.plan_views.specs.DayTables.{HasDayBeyond, HasRowBeyond, IsDayCell, AreDayCells, IsDaysRow, AreDaysRows, IsDaysTable, IsDaysView, days_columns}
+use Rattle.plan_views.specs.Plans.{Plan, project, shop, count_of, front_of, interval_of}
 
 -- two cells with P were appended
 abbrev pub Appended : (Cell → Cell → Type 0) → List Cell → List Cell → Type 0
@@ -38,24 +41,14 @@ some_beyond calendar start duration some beyond = shown_beyond calendar start du
 
 -- the rows so far with the next one
 pub next_days_row : (calendar : Workdays) (front : ℕ → List Cell) (interval : ℕ → Interval) (k : ℕ) (old new : List (Vec declared.Cell Global)) (v : Vec declared.Cell Global)
-    → AreDaysRows calendar front interval k (rows_of old) → IsDaysRow calendar (front (k + 1)) (interval (k + 1)) (cells_of v.items)
+    → AreDaysRows calendar front interval k (rows_of old) → IsDaysRow calendar (front k) (interval k) (cells_of v.items)
     → new ≡ old ++ v ∷ [] → AreDaysRows calendar front interval (k + 1) (rows_of new)
 next_days_row calendar front interval k old new v so_far is step =
     let place : k + 1 ≡ suc k = omega arith in
     let made : rows_of new ≡ rows_of old ++ cells_of v.items ∷ [] =
     ap rows_of step ∙ map-append (λ (r : Vec declared.Cell Global). cells_of r.items) old (v ∷ []) in
-    let more : AreDaysRows calendar front interval (suc k) (rows_of new) =
-    (rows_of old, cells_of v.items, so_far, subst (λ j. IsDaysRow calendar (front j) (interval j) (cells_of v.items)) place is, made) in
+    let more : AreDaysRows calendar front interval (suc k) (rows_of new) = (rows_of old, cells_of v.items, so_far, is, made) in
     subst (λ j. AreDaysRows calendar front interval j (rows_of new)) (sym place) more
-
--- the same for steps, numbered from 0
-pub next_step_row : (calendar : Workdays) (s : JobShop) (starts : List ℕ) (x : ℕ) (old new : List (Vec declared.Cell Global)) (v : Vec declared.Cell Global)
-    → AreStepDaysRows calendar s starts x (rows_of old) → IsDaysRow calendar (step_cells s x) (step_interval s starts x) (cells_of v.items)
-    → new ≡ old ++ v ∷ [] → AreStepDaysRows calendar s starts (x + 1) (rows_of new)
-next_step_row calendar s starts x old new v so_far is step =
-    let place : x ≡ x + 1 - 1 = omega arith in
-    next_days_row calendar (λ n. step_cells s (n - 1)) (λ n. step_interval s starts (n - 1)) x old new v so_far
-    (subst (λ n. IsDaysRow calendar (step_cells s n) (step_interval s starts n) (cells_of v.items)) place is) step
 
 day_text : (calendar : Workdays) (t : ℕ) (cell : Cell) → IsDayCell calendar t cell → IsDayText calendar t (column 12 (cells.text_of cell))
 day_text calendar t cell (date, day, is) = (date, day, ap (λ c. column 12 (cells.text_of c)) is)
@@ -90,43 +83,72 @@ lines_append columns place (r ∷ before) row =
     ap (λ bytes. row_line place (row_of columns r) ++ bytes) (lines_append columns place before row)
     ∙ sym (append_assoc (row_line place (row_of columns r)) (flat_map (row_line place) (map (row_of columns) before)) (row_line place (row_of columns row)))
 
-days_lines : (calendar : Workdays) (columns : List Column) (front : ℕ → List Cell) (begin : ℕ → List ℕ) (interval : ℕ → Interval) (place n : ℕ) (rows : List (List Cell))
-    → ((j : ℕ) → FrontsAre columns (front j) (begin j)) → AreDaysRows calendar front interval n rows
-    → AreDaysLines calendar begin interval n (flat_map (row_line place) (map (row_of columns) rows))
-days_lines calendar columns front begin interval place zero rows fronts none = ap (λ rs. flat_map (row_line place) (map (row_of columns) rs)) none
-days_lines calendar columns front begin interval place (suc n) rows fronts (before, row, are, is, made) = (
+-- rows numbered from 0 are the lines that are numbered from 1
+days_lines : (calendar : Workdays) (columns : List Column) (front : ℕ → List Cell) (begin : ℕ → List ℕ) (interval lined : ℕ → Interval) (place n : ℕ) (rows : List (List Cell))
+    → ((k : ℕ) → FrontsAre columns (front k) (begin (suc k))) → ((k : ℕ) → interval k ≡ lined (suc k)) → AreDaysRows calendar front interval n rows
+    → AreDaysLines calendar begin lined n (flat_map (row_line place) (map (row_of columns) rows))
+days_lines calendar columns front begin interval lined place zero rows fronts same none = ap (λ rs. flat_map (row_line place) (map (row_of columns) rs)) none
+days_lines calendar columns front begin interval lined place (suc n) rows fronts same (before, row, are, is, made) = (
   flat_map (row_line place) (map (row_of columns) before),
   row_line place (row_of columns row),
-  days_lines calendar columns front begin interval place n before fronts are,
-  days_line calendar columns (front (suc n)) (begin (suc n)) (interval (suc n)) place row (fronts (suc n)) is,
+  days_lines calendar columns front begin interval lined place n before fronts same are,
+  days_line calendar columns (front n) (begin (suc n)) (lined (suc n)) place row (fronts n) (subst (λ (v : Interval). IsDaysRow calendar (front n) v row) (same n) is),
   ap (λ rs. flat_map (row_line place) (map (row_of columns) rs)) made ∙ lines_append columns place before row,
 )
 
-activity_front : (j : ℕ) → FrontsAre activity_days_columns (activity_cells j) (number_column 4 j)
+activity_front : (i : Planned) (k : ℕ) → FrontsAre (days_columns (project i)) (front_of (project i) k) (number_column 4 (k + 1))
 unfolding number_column
-activity_front j place first last = simp (append_assoc, append-nil)
+activity_front i k place first last = simp (append_assoc, append-nil)
 
-step_fronts : (s : JobShop) (x : ℕ) → FrontsAre step_days_columns (step_cells s x) (step_front s x)
+step_fronts : (s : JobShop) (x : ℕ) → FrontsAre (days_columns (shop s)) (front_of (shop s) x) (step_front s x)
 unfolding number_column
 step_fronts s x place first last = simp (append_assoc, append-nil)
 
--- the table of a project's working days
-pub calendar_text : (calendar : Workdays) (net : Net) (starts : List ℕ) (table : Table) → IsCalendarView calendar net starts table → IsCalendarTable calendar net starts (text_of table)
-calendar_text calendar net starts table (rows, are, is) =
-    let place = label_place (heading_row activity_days_columns ∷ map (row_of activity_days_columns) rows) in
-    let lines = flat_map (row_line place) (map (row_of activity_days_columns) rows) in (
+activity_interval-at : (i : Planned) (starts : List ℕ) (k : ℕ) → interval_of (project i) starts k ≡ activity_interval i.project.network starts (suc k)
+activity_interval-at i starts k =
+    let number : k + 1 ≡ suc k = omega arith in
+    let index : k ≡ suc k - 1 = omega arith in
+    ap (λ x. record { start = slice_index starts x; duration = duration_of i.project.network (k + 1) }) index
+    ∙ ap (λ j. record { start = slice_index starts (suc k - 1); duration = duration_of i.project.network j }) number
+
+step_interval-at : (s : JobShop) (starts : List ℕ) (k : ℕ) → interval_of (shop s) starts k ≡ step_interval s starts (suc k - 1)
+step_interval-at s starts k =
+    let index : k ≡ suc k - 1 = omega arith in
+    ap (step_interval s starts) index
+
+-- the table of working days
+pub calendar_text : (calendar : Workdays) (p : Plan) (starts : List ℕ) (table : Table) → IsDaysView calendar p starts table → IsDaysTable calendar p starts (text_of table)
+calendar_text calendar (project i) starts table (rows, are, is) =
+    let columns = days_columns (project i) in
+    let place = label_place (heading_row columns ∷ map (row_of columns) rows) in
+    let lines = flat_map (row_line place) (map (row_of columns) rows) in (
       lines,
-      days_lines calendar activity_days_columns activity_cells (λ j. number_column 4 j) (activity_interval net starts) place (count_of net) rows activity_front are,
+      days_lines calendar columns (front_of (project i)) (λ j. number_column 4 j) (interval_of (project i) starts) (activity_interval i.project.network starts) place (count_of (project i)) rows
+          (λ k.
+          let number : k + 1 ≡ suc k = omega arith in
+          subst (λ j. FrontsAre columns (front_of (project i) k) (number_column 4 j)) number (activity_front i k))
+          (activity_interval-at i starts) are,
       ap text_of is ∙ append-nil (activity_days_heading ++ lines),
     )
-
--- the table of a job shop's working days
-pub shop_calendar_text : (calendar : Workdays) (s : JobShop) (starts : List ℕ) (table : Table) → IsShopCalendarView calendar s starts table → IsShopCalendarTable calendar s starts (text_of table)
-shop_calendar_text calendar s starts table (rows, are, is) =
-    let place = label_place (heading_row step_days_columns ∷ map (row_of step_days_columns) rows) in
-    let lines = flat_map (row_line place) (map (row_of step_days_columns) rows) in (
+calendar_text calendar (shop s) starts table (rows, are, is) =
+    let columns = days_columns (shop s) in
+    let place = label_place (heading_row columns ∷ map (row_of columns) rows) in
+    let lines = flat_map (row_line place) (map (row_of columns) rows) in (
       lines,
-      days_lines calendar step_days_columns (λ n. step_cells s (n - 1)) (λ n. step_front s (n - 1)) (λ n. step_interval s starts (n - 1)) place (count_steps s) rows
-          (λ n. step_fronts s (n - 1)) are,
+      days_lines calendar columns (front_of (shop s)) (λ n. step_front s (n - 1)) (interval_of (shop s) starts) (λ n. step_interval s starts (n - 1)) place (count_of (shop s)) rows
+          (λ k.
+          let index : k ≡ suc k - 1 = omega arith in
+          subst (λ x. FrontsAre columns (front_of (shop s) k) (step_front s x)) index (step_fronts s k))
+          (step_interval-at s starts) are,
       ap text_of is ∙ append-nil (step_days_heading ++ lines),
     )
+
+-- a day of a row that would be after the last date
+pub days_beyond : (calendar : Workdays) (p : Plan) (starts : List ℕ) → HasRowBeyond calendar p starts → HasDayBeyond calendar p starts
+days_beyond calendar (project i) starts (k, below, beyond) =
+    let number : k + 1 ≡ suc k = omega arith in (
+      suc k,
+      omega (arith, below),
+      subst (λ (v : Interval). texts.HasDayBeyond calendar v) (activity_interval-at i starts k) beyond,
+    )
+days_beyond calendar (shop s) starts beyond = beyond

@@ -1,5 +1,4 @@
 pub mod RowLemmas
-pub mod ShopRowLemmas
 pub mod TextLemmas
 pub mod DayLemmas
 pub mod ReportLemmas

@@ -5,16 +5,17 @@ use Rattle.std.proofs.lemmas.Fmt.{decimal_digit}
 use Rattle.std.specs.Global.{Global}
 use Rattle.std.specs.Option.{IfSome, IfNone}
 use Rattle.std.proofs.lemmas.List.{append_assoc, append-nil}
-use Rattle.plan_net.specs.Network.{Net, count_of}
-use Rattle.plan_shop.specs.Shop.{JobShop, count_steps, idle}
-use Rattle.plan_shop.specs.Shop as shops
+use Rattle.plan_net.specs.Network.{Net}
+use Rattle.plan_net.specs.Network as networks
+use Rattle.plan_shop.specs.Shop.{JobShop, idle}
 use Rattle.plan_sgs.specs.Problem.{makespan}
-use Rattle.plan_sgs.specs.Instances.{Planned, problem_of}
+use Rattle.plan_sgs.specs.Instances.{Planned}
+use Rattle.plan_sgs.specs.Instances as projects
 use Rattle.plan_gantt.specs.Column.{column, lines_from, number_column, number_columns}
 use Rattle.plan_gantt.specs.ScheduleTable.{start_of}
 use Rattle.plan_report.specs.Chain.{IsChain, NoChain}
-use Rattle.plan_report.specs.Comparison.{IsComparison, comparison_heading, shift_line, shift_text}
-use Rattle.plan_report.specs.ShopComparison.{IsShopComparison, shop_comparison_heading, shop_shift_line}
+use Rattle.plan_report.specs.Comparison.{comparison_heading, shift_line, shift_text}
+use Rattle.plan_report.specs.ShopComparison.{shop_comparison_heading, shop_shift_line}
 use Rattle.plan_report.specs.SlackText.{IsChainAnswer, IsSlackText, chain_line, slack_heading, slack_line, slack_table_text, times_of}
 use Rattle.plan_formats.specs.Cells.{Cell, above, below, empty, flag, number}
 use Rattle.plan_formats.specs.Cells as cells
@@ -24,9 +25,9 @@ use Rattle.plan_formats.specs.TableText.{heading_row, row_line, row_of, rows_tex
 use Rattle.plan_formats.specs.Tables.{Table}
 use Rattle.plan_views.specs.Rows.{rows_from}
 use Rattle.plan_views.specs.SlackTables.{IsSlackView, slack_columns, slack_row, slack_view_of}
-use Rattle.plan_views.specs.ComparisonTables.{IsComparisonView, comparison_columns, comparison_row, shift_of, summary_of}
-use Rattle.plan_views.specs.ShopComparisonTables.{IsShopComparisonView, shop_comparison_columns, shop_comparison_row, shop_summary_of}
-use Rattle.plan_views.proofs.TextLemmas.{IsPlainly, body_text, ended_line, mark_end, nested, one_below}
+use Rattle.plan_views.specs.ComparisonTables.{Compares, IsComparisonView, comparison_columns, comparison_row, shift_of, summary_of}
+use Rattle.plan_views.specs.Plans.{Plan, project, shop, count_of, problem_of}
+use Rattle.plan_views.proofs.TextLemmas.{IsPlainly, at_index, body_text, ended_line, lines_by_index, mark_end, nested, one_below}
 
 slack_plainly : (net : Net) (starts slacks : List ℕ) → IsPlainly slack_columns slack_heading (slack_row net starts slacks) (slack_line net starts slacks)
 unfolding slack_row slack_line number_column
@@ -39,8 +40,8 @@ chain_end (Some js) = refl
 
 slack_table : (net : Net) (starts slacks : List ℕ) (found : Option (List ℕ)) → text_of (slack_view_of net starts slacks found) ≡ slack_table_text net starts slacks found
 slack_table net starts slacks found =
-    one_below slack_columns slack_heading (slack_row net starts slacks) (slack_line net starts slacks) (slack_plainly net starts slacks) 1 (count_of net) (chain found)
-    ∙ ap (λ last. slack_heading ++ lines_from (slack_line net starts slacks) 1 (count_of net) ++ last) (chain_end found)
+    one_below slack_columns slack_heading (slack_row net starts slacks) (slack_line net starts slacks) (slack_plainly net starts slacks) 1 (networks.count_of net) (chain found)
+    ∙ ap (λ last. slack_heading ++ lines_from (slack_line net starts slacks) 1 (networks.count_of net) ++ last) (chain_end found)
 
 -- the table of slacks
 pub slack_text : (i : Planned) (starts : List ℕ) (table : Table) → IsSlackView i starts table → IsSlackText i starts (text_of table)
@@ -53,7 +54,7 @@ slack_text i starts table is = record {
 }
 
 -- a chain that was found, or none
-pub answer_of : (i : Planned) (s slacks : List ℕ) (o : Option (Vec ℕ Global)) → IfSome o (λ found. IsChain (problem_of i) s slacks found.items) → IfNone o (NoChain (problem_of i) s slacks)
+pub answer_of : (i : Planned) (s slacks : List ℕ) (o : Option (Vec ℕ Global)) → IfSome o (λ found. IsChain (projects.problem_of i) s slacks found.items) → IfNone o (NoChain (projects.problem_of i) s slacks)
     → IsChainAnswer i s slacks (chain_of o)
 answer_of i s slacks None some none = none
 answer_of i s slacks (Some found) some none = some
@@ -88,43 +89,55 @@ two_below columns heading row line plainly first count a b =
     ∙ ap (λ bytes. heading ++ lines_from line first count ++ (line_text a ++ bytes)) (append-nil (line_text b))
     ∙ sym (append_assoc (heading ++ lines_from line first count) (line_text a) (line_text b))
 
-comparison_plainly : (a b : List ℕ) → IsPlainly comparison_columns comparison_heading (comparison_row a b) (shift_line a b)
+-- the line of activity j with its starts
+abbrev moved_line : ℕ → ℕ → ℕ → List ℕ
+moved_line j before after = number_column 4 j ++ number_column 8 before ++ number_column 8 after ++ column 8 (shift_text before after) ++ codes "\n"
+
+activity_moved : (place j before after : ℕ)
+    → row_line place (record { base = number_column 4 j ++ nested (before ∷ after ∷ []) (column 8 (cells.text_of (shift_of before after)) ++ []); label = empty })
+    ≡ moved_line j before after
+activity_moved place j before after =
+    shifted_line place j (before ∷ after ∷ []) before after
+    ∙ ap (λ bytes. bytes ++ column 8 (shift_text before after) ++ codes "\n")
+    (ap (λ bytes. number_column 4 j ++ (number_column 8 before ++ bytes)) (append-nil (number_column 8 after))
+    ∙ sym (append_assoc (number_column 4 j) (number_column 8 before) (number_column 8 after)))
+
+project_plainly : (i : Planned) (a b : List ℕ) → IsPlainly (comparison_columns (project i)) comparison_heading (comparison_row (project i) a b) (λ k. shift_line a b (k + 1))
 unfolding comparison_row shift_line number_column
-comparison_plainly a b place = (
+project_plainly i a b place = (
   refl,
-  λ j. shifted_line place j (start_of a j ∷ start_of b j ∷ []) (start_of a j) (start_of b j)
-      ∙ ap (λ bytes. bytes ++ column 8 (shift_text (start_of a j) (start_of b j)) ++ codes "\n")
-      (ap (λ bytes. number_column 4 j ++ (number_column 8 (start_of a j) ++ bytes)) (append-nil (number_column 8 (start_of b j)))
-      ∙ sym (append_assoc (number_column 4 j) (number_column 8 (start_of a j)) (number_column 8 (start_of b j)))),
+  λ k. activity_moved place (k + 1) (slice_index a k) (slice_index b k)
+      ∙ ap (λ (t : ℕ). moved_line (k + 1) t (slice_index b k)) (at_index a k)
+      ∙ ap (λ (t : ℕ). moved_line (k + 1) (start_of a (k + 1)) t) (at_index b k),
 )
 
--- the comparison of two schedules of a project
-pub comparison_text : (i : Planned) (a b : List ℕ) (table : Table) → IsComparisonView i a b table → IsComparison i a b (text_of table)
-comparison_text i a b table is = record {
-  verdict_a = is.verdict_a;
-  first_a = is.first_a;
-  verdict_b = is.verdict_b;
-  first_b = is.first_b;
-  shown = ap text_of is.shown
-      ∙ two_below comparison_columns comparison_heading (comparison_row a b) (shift_line a b) (comparison_plainly a b) 1 (count_of i.project.network)
-      (summary_of (codes "A") (makespan (problem_of i) a) is.verdict_a) (summary_of (codes "B") (makespan (problem_of i) b) is.verdict_b);
-}
-
-shop_comparison_plainly : (s : JobShop) (a b : List ℕ) → IsPlainly shop_comparison_columns shop_comparison_heading (shop_comparison_row s a b) (shop_shift_line s a b)
-unfolding shop_comparison_row shop_shift_line number_column
-shop_comparison_plainly s a b place = (
+shop_plainly : (s : JobShop) (a b : List ℕ) → IsPlainly (comparison_columns (shop s)) shop_comparison_heading (comparison_row (shop s) a b) (shop_shift_line s a b)
+unfolding comparison_row shop_shift_line number_column
+shop_plainly s a b place = (
   refl,
   λ x. shifted_line place (x / s.machines + 1) ((x % s.machines + 1) ∷ (get_or s.steps x idle).machine ∷ slice_index a x ∷ slice_index b x ∷ []) (slice_index a x) (slice_index b x),
 )
 
--- the comparison of two schedules of a job shop
-pub shop_comparison_text : (s : JobShop) (a b : List ℕ) (table : Table) → IsShopComparisonView s a b table → IsShopComparison s a b (text_of table)
-shop_comparison_text s a b table is = record {
+-- the comparison of two schedules
+pub comparison_text : (p : Plan) (a b : List ℕ) (table : Table) → IsComparisonView p a b table → Compares p a b (text_of table)
+comparison_text (project i) a b table is =
+    let line_a = summary_of (project i) (codes "A") (makespan (problem_of (project i)) a) is.verdict_a in
+    let line_b = summary_of (project i) (codes "B") (makespan (problem_of (project i)) b) is.verdict_b in
+    record {
+      verdict_a = is.verdict_a;
+      first_a = is.first_a;
+      verdict_b = is.verdict_b;
+      first_b = is.first_b;
+      shown = ap text_of is.shown
+          ∙ two_below (comparison_columns (project i)) comparison_heading (comparison_row (project i) a b) (λ k. shift_line a b (k + 1)) (project_plainly i a b) 0 (count_of (project i)) line_a line_b
+          ∙ ap (λ bytes. comparison_heading ++ bytes ++ line_text line_a ++ line_text line_b) (lines_by_index (shift_line a b) (count_of (project i)));
+    }
+comparison_text (shop s) a b table is = record {
   verdict_a = is.verdict_a;
   first_a = is.first_a;
   verdict_b = is.verdict_b;
   first_b = is.first_b;
   shown = ap text_of is.shown
-      ∙ two_below shop_comparison_columns shop_comparison_heading (shop_comparison_row s a b) (shop_shift_line s a b) (shop_comparison_plainly s a b) 0 (count_steps s)
-      (shop_summary_of s (codes "A") (makespan (shops.problem_of s) a) is.verdict_a) (shop_summary_of s (codes "B") (makespan (shops.problem_of s) b) is.verdict_b);
+      ∙ two_below (comparison_columns (shop s)) shop_comparison_heading (comparison_row (shop s) a b) (shop_shift_line s a b) (shop_plainly s a b) 0 (count_of (shop s))
+      (summary_of (shop s) (codes "A") (makespan (problem_of (shop s)) a) is.verdict_a) (summary_of (shop s) (codes "B") (makespan (problem_of (shop s)) b) is.verdict_b);
 }

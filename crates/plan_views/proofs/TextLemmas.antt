@@ -1,14 +1,16 @@
 -- The texts of tables are the texts that plan_gantt and plan_report define.
-use Rattle.std.proofs.Common.{◌≡◌, ℕ, zero, suc, ◌+◌, ◌==◌, Bool, true, false, List, [], ◌∷◌, ◌++◌, map, codes, refl, sym, ap, ◌∙◌}
+use Rattle.std.proofs.Common.{◌≡◌, ℕ, zero, suc, ◌+◌, ◌-◌, ◌==◌, Bool, true, false, List, [], ◌∷◌, ◌++◌, map, codes, slice_index, refl, sym, ap, ◌∙◌, arith}
 use Rattle.std.proofs.lemmas.List.{append_assoc, append-nil}
 use Rattle.std.specs.List.{flat_map}
-use Rattle.plan_net.specs.Network.{Net, count_of}
+use Rattle.plan_net.specs.Network.{Net, duration_of}
+use Rattle.plan_net.specs.Network as networks
 use Rattle.plan_cpm.specs.Dates.{DateTable, total_float_of}
-use Rattle.plan_shop.specs.Shop.{JobShop, count_steps}
-use Rattle.plan_gantt.specs.Column.{lines_from, number_column, number_columns}
+use Rattle.plan_sgs.specs.Instances.{Planned}
+use Rattle.plan_shop.specs.Shop.{JobShop}
+use Rattle.plan_gantt.specs.Column.{lines_from, number_column, number_columns, number_row}
 use Rattle.plan_gantt.specs.DateTable.{date_heading, date_line, dates_of, line_end, date_table_text}
-use Rattle.plan_gantt.specs.ScheduleTable.{schedule_heading, schedule_line, schedule_table_text}
-use Rattle.plan_gantt.specs.ShopTable.{shop_heading, shop_line, shop_table_text}
+use Rattle.plan_gantt.specs.ScheduleTable.{makespan_line, schedule_heading, schedule_line, start_of}
+use Rattle.plan_gantt.specs.ShopTable.{shop_heading, shop_line}
 use Rattle.plan_formats.specs.Cells.{Cell, empty, flag}
 use Rattle.plan_formats.specs.Columns.{Column, mark_of}
 use Rattle.plan_formats.specs.TableLines.{Line, line_text, lines_text, makespan, duration}
@@ -16,8 +18,8 @@ use Rattle.plan_formats.specs.TableText.{text_of, row_line, row_of, rows_text, t
 use Rattle.plan_formats.specs.Tables.{Table}
 use Rattle.plan_views.specs.Bounds.{with_line_of}
 use Rattle.plan_views.specs.Rows.{rows_from}
-use Rattle.plan_views.specs.ScheduleTables.{schedule_columns, schedule_row, schedule_view_of}
-use Rattle.plan_views.specs.ShopTables.{shop_columns, shop_row, shop_view_of}
+use Rattle.plan_views.specs.Plans.{Plan, project, shop, count_of}
+use Rattle.plan_views.specs.ScheduleTables.{schedule_columns, schedule_row, schedule_text_of, schedule_view_of}
 use Rattle.plan_views.specs.Headings.{line_column}
 use Rattle.plan_views.specs.LineLists.{line_row, line_view_of, text_of_lines}
 use Rattle.plan_views.specs.DateTables.{date_columns, date_row, date_view_of}
@@ -78,23 +80,43 @@ ended_line place first ns end rest is =
     ∙ append_assoc (number_column 4 first ++ number_columns ns) end (codes "\n")
     ∙ ap (λ bytes. number_column 4 first ++ number_columns ns ++ bytes) is
 
-schedule_plainly : (net : Net) (starts : List ℕ) → IsPlainly schedule_columns schedule_heading (schedule_row net starts) (schedule_line net starts)
+-- the start of activity k + 1
+pub at_index : (starts : List ℕ) (k : ℕ) → slice_index starts k ≡ start_of starts (k + 1)
+at_index starts k =
+    let e : k ≡ k + 1 - 1 = omega arith in
+    ap (slice_index starts) e
+
+later_lines : (line : ℕ → List ℕ) (first count : ℕ) → lines_from (λ k. line (k + 1)) first count ≡ lines_from line (first + 1) count
+later_lines line first zero = refl
+later_lines line first (suc count) = ap (λ bytes. line (first + 1) ++ bytes) (later_lines line (first + 1) count)
+
+-- lines of the numbers from 1 on, by indices from 0 on
+pub lines_by_index : (line : ℕ → List ℕ) (count : ℕ) → lines_from (λ k. line (k + 1)) 0 count ≡ lines_from line 1 count
+lines_by_index line count =
+    let e : 0 + 1 ≡ 1 = omega arith in
+    later_lines line 0 count ∙ ap (λ first. lines_from line first count) e
+
+project_plainly : (i : Planned) (starts : List ℕ)
+    → IsPlainly (schedule_columns (project i)) schedule_heading (schedule_row (project i) starts) (λ k. schedule_line i.project.network starts (k + 1))
 unfolding schedule_row schedule_line number_column
-schedule_plainly net starts place = (refl, λ j. plain_line place _)
+project_plainly i starts place = (
+  refl,
+  λ k. plain_line place _
+      ∙ ap (λ (t : ℕ). number_row (k + 1) (duration_of i.project.network (k + 1) ∷ t ∷ (t + duration_of i.project.network (k + 1)) ∷ [])) (at_index starts k),
+)
 
--- the table of a schedule
-pub schedule_text : (net : Net) (starts : List ℕ) (ends : ℕ) → text_of (schedule_view_of net starts ends) ≡ schedule_table_text net starts ends
-schedule_text net starts ends =
-    one_below schedule_columns schedule_heading (schedule_row net starts) (schedule_line net starts) (schedule_plainly net starts) 1 (count_of net) (makespan ends)
-
-shop_plainly : (s : JobShop) (starts : List ℕ) → IsPlainly shop_columns shop_heading (shop_row s starts) (shop_line s starts)
-unfolding shop_row shop_line number_column
+shop_plainly : (s : JobShop) (starts : List ℕ) → IsPlainly (schedule_columns (shop s)) shop_heading (schedule_row (shop s) starts) (shop_line s starts)
+unfolding schedule_row shop_line number_column
 shop_plainly s starts place = (refl, λ x. plain_line place _)
 
--- the table of a job shop's schedule
-pub shop_text : (s : JobShop) (starts : List ℕ) (ends : ℕ) → text_of (shop_view_of s starts ends) ≡ shop_table_text s starts ends
-shop_text s starts ends =
-    one_below shop_columns shop_heading (shop_row s starts) (shop_line s starts) (shop_plainly s starts) 0 (count_steps s) (makespan ends)
+-- the table of a schedule
+pub schedule_text : (p : Plan) (starts : List ℕ) (ends : ℕ) → text_of (schedule_view_of p starts ends) ≡ schedule_text_of p starts ends
+schedule_text (project i) starts ends =
+    one_below (schedule_columns (project i)) schedule_heading (schedule_row (project i) starts) (λ k. schedule_line i.project.network starts (k + 1)) (project_plainly i starts) 0
+    (count_of (project i)) (makespan ends)
+    ∙ ap (λ bytes. schedule_heading ++ bytes ++ makespan_line ends) (lines_by_index (schedule_line i.project.network starts) (count_of (project i)))
+schedule_text (shop s) starts ends =
+    one_below (schedule_columns (shop s)) shop_heading (schedule_row (shop s) starts) (shop_line s starts) (shop_plainly s starts) 0 (count_of (shop s)) (makespan ends)
 
 pub mark_end : (critical : Bool) → mark_of (flag critical) ++ [] ++ codes "\n" ≡ line_end critical
 mark_end true = refl
@@ -107,7 +129,7 @@ date_plainly net dates place = (refl, λ j. ended_line place j (dates_of net dat
 -- the date table
 pub date_text : (net : Net) (dates : DateTable) → text_of (date_view_of net dates) ≡ date_table_text net dates
 date_text net dates =
-    one_below date_columns date_heading (date_row net dates) (date_line net dates) (date_plainly net dates) 1 (count_of net) (duration dates.duration)
+    one_below date_columns date_heading (date_row net dates) (date_line net dates) (date_plainly net dates) 1 (networks.count_of net) (duration dates.duration)
 
 line_texts : (word : List ℕ) (place : ℕ) (lines : List (List ℕ))
     → flat_map (row_line place) (map (row_of (line_column word ∷ [])) (map line_row lines)) ≡ text_of_lines lines

@@ -1,15 +1,14 @@
 -- The line with the bounds of the least makespan above a table (docs/definitions.md, "Tables and
 -- charts").
-use Rattle.std.specs.Prelude.{ℕ, if◌then◌else◌, ◌∷◌, nat_lt}
-use Rattle.plan_sgs.specs.Instances.{Planned}
-use Rattle.plan_shop.specs.Shop.{JobShop}
+use Rattle.std.specs.Prelude.{ℕ, if◌then◌else◌, List, ◌∷◌, ◌++◌, nat_lt}
 use Rattle.plan_exact.specs.declared.shop_solution.Solved.{Solved}
 use Rattle.plan_exact.specs.declared.answer.Kind.{Kind}
 use Rattle.plan_exact.specs.declared.answer.Kind.TheVariants as kind
+use Rattle.plan_gantt.specs.BestText.{kind_line}
 use Rattle.plan_formats.specs.TableLines.{Line, optimal, between, budget}
 use Rattle.plan_formats.specs.Tables.{Table}
-use Rattle.plan_views.specs.ScheduleTables.{schedule_view_of}
-use Rattle.plan_views.specs.ShopTables.{shop_view_of}
+use Rattle.plan_views.specs.Plans.{Plan}
+use Rattle.plan_views.specs.ScheduleTables.{schedule_view_of, schedule_text_of}
 
 -- the line of a search within a budget
 abbrev pub kind_line_of : Kind → ℕ → Line
@@ -30,13 +29,12 @@ with_line_of line t = record {
   below = t.below;
 }
 
--- the table of the best schedule of a project, and of a job shop
-abbrev pub best_project_view_of : Planned → Solved → Table
-best_project_view_of i solved =
+-- the table of the best schedule, and its text
+abbrev pub best_view_of : Plan → Solved → Table
+best_view_of p solved =
     with_line_of (kind_line_of solved.kind solved.schedule.makespan)
-    (schedule_view_of i.project.network solved.schedule.starts.items solved.schedule.makespan)
+    (schedule_view_of p solved.schedule.starts.items solved.schedule.makespan)
 
-abbrev pub best_shop_view_of : JobShop → Solved → Table
-best_shop_view_of s solved =
-    with_line_of (kind_line_of solved.kind solved.schedule.makespan)
-    (shop_view_of s solved.schedule.starts.items solved.schedule.makespan)
+abbrev pub best_text_of : Plan → Solved → List ℕ
+best_text_of p solved = kind_line solved.kind solved.schedule.makespan
+    ++ schedule_text_of p solved.schedule.starts.items solved.schedule.makespan

@@ -1,11 +1,11 @@
 -- Gantt charts as values (docs/definitions.md, "Tables and charts"; Gantt 1910, Clark 1922).
-use Rattle.std.specs.Prelude.{ℕ, ◌+◌, List, [], ◌∷◌, ◌++◌, Some, None, map, nat_eq, codes}
-use Rattle.std.specs.Prelude.{slice_index, string_bytes}
+use Rattle.std.specs.Prelude.{ℕ, ◌+◌, List, [], ◌∷◌, ◌++◌, Option, Some, None, map, nat_eq}
+use Rattle.std.specs.Prelude.{codes, slice_index, string_bytes}
 use Rattle.std.specs.List.{range_with_len}
-use Rattle.plan_net.specs.Network.{Net, count_of, duration_of}
-use Rattle.plan_shop.specs.Shop.{JobShop, count_steps, time_of, machine_of, those_below}
-use Rattle.plan_gantt.specs.Chart.{chart_unit, chart_cells, cell_texts, unit_line}
-use Rattle.plan_gantt.specs.ScheduleTable.{start_of}
+use Rattle.plan_shop.specs.Shop.{JobShop, count_steps, machine_of, those_below}
+use Rattle.plan_gantt.specs.Chart.{chart_text, chart_unit, chart_cells, cell_texts, unit_line}
+use Rattle.plan_gantt.specs.Charts.{activity_intervals}
+use Rattle.plan_gantt.specs.ShopCharts.{machine_intervals}
 use Rattle.plan_gantt.specs.ShopTable.{job_number, step_number}
 use Rattle.plan_table.specs.Names.{Name}
 use Rattle.plan_formats.specs.Cells.{Cell, number, text}
@@ -15,6 +15,7 @@ use Rattle.plan_formats.specs.Tables.{Table}
 use Rattle.plan_formats.specs.TableText.{text_of}
 use Rattle.plan_views.specs.Bars.{Bar, ChartRow, row_of, intervals_of}
 use Rattle.plan_views.specs.Headings.{right_column, line_column}
+use Rattle.plan_views.specs.Plans.{Plan, project, shop, count_of, duration_of}
 use Rattle.plan_views.specs.declared.chart.Chart as declared
 use Rattle.plan_views.specs.declared.chart_texts.DrawnRow as declared_row
 use Rattle.plan_views.specs.declared.chart.Owner.{Owner}
@@ -30,49 +31,52 @@ pub record Chart : Type 0 where
 abbrev pub chart_of : declared.Chart → Chart
 chart_of c = record { makespan = c.makespan; owner = c.owner; rows = map row_of c.rows.items }
 
--- the bar of activity j
-abbrev pub activity_bar : Net → List ℕ → ℕ → Bar
-activity_bar net starts j = record {
-  start = start_of starts j;
-  end = start_of starts j + duration_of net j;
-  step = None;
+-- the numbers of the step in row k of a table, none for an activity
+abbrev pub step_at : Plan → ℕ → Option (ℕ × ℕ)
+step_at (project i) k = None
+step_at (shop s) k = Some (job_number s k, step_number s k)
+
+-- the bar of the activity or step in row k of a table
+abbrev pub bar_at : Plan → List ℕ → ℕ → Bar
+bar_at p starts k = record {
+  start = slice_index starts k;
+  end = slice_index starts k + duration_of p k;
+  step = step_at p k;
 }
 
--- the row of activity j
-abbrev pub activity_row : Net → List ℕ → ℕ → ChartRow
-activity_row net starts j = record { number = j; bars = activity_bar net starts j ∷ [] }
-
--- the chart of a project's schedule: a row for each activity, numbered from 1
-abbrev pub chart_view_of : Net → List ℕ → ℕ → Chart
-chart_view_of net starts ends = record {
-  makespan = ends;
-  owner = owner.Activity;
-  rows = map (activity_row net starts) (range_with_len 1 (count_of net));
-}
-
--- the bar of step x
-abbrev pub step_bar : JobShop → List ℕ → ℕ → Bar
-step_bar s starts x = record {
-  start = slice_index starts x;
-  end = slice_index starts x + time_of s x;
-  step = Some (job_number s x, step_number s x);
-}
+-- the row of the activity in row k of a table
+abbrev pub activity_row : Plan → List ℕ → ℕ → ChartRow
+activity_row p starts k = record { number = k + 1; bars = bar_at p starts k ∷ [] }
 
 -- the row of machine m: a bar for each of its steps
 abbrev pub machine_row : JobShop → List ℕ → ℕ → ChartRow
 machine_row s starts m = record {
   number = m;
-  bars = map (step_bar s starts)
+  bars = map (bar_at (shop s) starts)
       (those_below (count_steps s) (λ x. nat_eq (machine_of s x) m));
 }
 
--- the chart of a job shop's schedule: a row for each machine, numbered from 0
-abbrev pub shop_chart_view_of : JobShop → List ℕ → ℕ → Chart
-shop_chart_view_of s starts ends = record {
-  makespan = ends;
-  owner = owner.Machine;
-  rows = map (machine_row s starts) (range_with_len 0 s.machines);
-}
+-- the rows of a schedule: one for each activity of a project, numbered from 1, or for each machine
+-- of a job shop, numbered from 0
+abbrev pub owner_of : Plan → Owner
+owner_of (project i) = owner.Activity
+owner_of (shop s) = owner.Machine
+
+abbrev pub chart_rows : Plan → List ℕ → List ChartRow
+chart_rows (project i) starts =
+    map (activity_row (project i) starts) (range_with_len 0 (count_of (project i)))
+chart_rows (shop s) starts = map (machine_row s starts) (range_with_len 0 s.machines)
+
+-- the chart of a schedule
+abbrev pub chart_view_of : Plan → List ℕ → ℕ → Chart
+chart_view_of p starts ends =
+    record { makespan = ends; owner = owner_of p; rows = chart_rows p starts }
+
+-- its text
+abbrev pub chart_text_of : Plan → List ℕ → ℕ → List ℕ
+chart_text_of (project i) starts ends =
+    chart_text ends (activity_intervals i.project.network starts) 1 (count_of (project i))
+chart_text_of (shop s) starts ends = chart_text ends (machine_intervals s starts) 0 s.machines
 
 -- the word of an owner
 abbrev pub word_of : Owner → List ℕ

@@ -1,8 +1,8 @@
 pub mod Headings
 pub mod Rows
+pub mod Plans
 pub mod Bounds
 pub mod ScheduleTables
-pub mod ShopTables
 pub mod DateTables
 pub use Rattle.plan_net.specs.Network
 pub use Rattle.plan_cpm.specs.Dates
@@ -15,7 +15,6 @@ pub mod LineLists
 pub mod DayTables
 pub mod SlackTables
 pub mod ComparisonTables
-pub mod ShopComparisonTables
 pub mod Bars
 pub mod Charts
 pub mod ChartData

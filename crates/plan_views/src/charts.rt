@@ -1,121 +1,83 @@
 //! The Gantt charts of schedules.
 
-ghost use Rattle.std.specs.Prelude.{◌≡◌, ◌≤◌, ◌<◌, ◌∷◌, [], map, length, slice_index};
+ghost use Rattle.std.specs.Prelude.{◌≡◌, ◌≤◌, ◌<◌, [], map, length, slice_index};
 ghost use Rattle.std.specs.Prelude.{EachIndex, IfOk};
 ghost use Rattle.std.specs.List.{range_with_len};
-ghost use Rattle.plan_net.specs.Network.{IsActivity, count_of};
-ghost use Rattle.plan_shop.specs.Shop.{count_steps, machine_of};
-ghost use Rattle.plan_gantt.specs.Chart.{chart_text};
-ghost use Rattle.plan_gantt.specs.Charts.{activity_intervals};
-ghost use Rattle.plan_gantt.specs.ShopCharts.{machine_intervals};
+ghost use Rattle.plan_shop.specs.Shop.{count_steps};
 ghost use Rattle.plan_gantt.specs.Limits.{latest_start, latest_end};
-ghost use Rattle.plan_views.specs.Bars.{bar_of, row_of};
+ghost use Rattle.plan_views.specs.Bars.{bar_of, row_of, step_of};
 ghost use Rattle.plan_views.specs.Charts as spec;
+ghost use Rattle.plan_views.specs.Plans.{count_of, plan_of};
 
 use crate::bars::{Bar, ChartRow, StepNumber};
 use crate::chart::{Chart, Owner};
-use crate::shops::step_count;
-use plan_net::{Network, index_of};
+use crate::plans::{PlanRef, count, duration_at};
+use crate::steps::{machine_at, number_at, step_count};
 use plan_shop::Shop;
 use std::alloc::{AllocError, Global};
 
-// Returns the bar of activity `j`.
-fn activity_bar(network: &Network, starts: &[u64], j: u32) -> Bar
-    requires activity { IsActivity network.now j }
-    requires starts { length starts.now ≡ count_of network.now }
-    requires limit { EachIndex starts.now (λ k. slice_index starts.now k ≤ latest_start) }
-    ensures { bar_of result ≡ spec.activity_bar network.now starts.now j }
+// Returns the number of the step in row `k` of a table, or `None` for an activity.
+fn step_at(plan: PlanRef<'_>, k: u32) -> Option<StepNumber>
+    requires { k < count_of (plan_of plan.entry) }
+    ensures { step_of result ≡ spec.step_at (plan_of plan.entry) k }
 {
-    let start = starts[index_of(j)];
-    let end = start + network.duration(j);
-    let step = None;
+    match plan {
+        PlanRef::Project(_) => None,
+        PlanRef::Shop(shop) => Some(number_at(shop, k)),
+    }
+}
+
+// Returns the bar of the activity or step in row `k` of a table.
+fn bar_at(plan: PlanRef<'_>, starts: &[u64], k: u32) -> Bar
+    requires row { k < count_of (plan_of plan.entry) }
+    requires starts { length starts.now ≡ count_of (plan_of plan.entry) }
+    requires limit { EachIndex starts.now (λ k. slice_index starts.now k ≤ latest_start) }
+    ensures { bar_of result ≡ spec.bar_at (plan_of plan.entry) starts.now k }
+{
+    let start = starts[k as usize];
+    let end = start + duration_at(plan, k);
+    let step = step_at(plan, k);
     Bar { start, end, step }
 }
 
-// Returns the row of activity `j`.
+// Returns the row with the bar of the activity in row `k` of a table.
 fn activity_row(
     alloc: Global,
-    network: &Network,
+    plan: PlanRef<'_>,
     starts: &[u64],
-    j: u32,
+    k: u32,
 ) -> Result<ChartRow, AllocError>
-    requires activity { IsActivity network.now j }
-    requires starts { length starts.now ≡ count_of network.now }
+    requires row { k < count_of (plan_of plan.entry) }
+    requires starts { length starts.now ≡ count_of (plan_of plan.entry) }
     requires limit { EachIndex starts.now (λ k. slice_index starts.now k ≤ latest_start) }
-    ensures { IfOk result (λ row. row_of row ≡ spec.activity_row network.now starts.now j) }
+    ensures { IfOk result (λ row.
+        row_of row ≡ spec.activity_row (plan_of plan.entry) starts.now k) }
 {
     let mut bars = Vec::new(alloc);
-    bars.push(activity_bar(network, starts, j))?;
-    Ok(ChartRow { number: j, bars })
+    bars.push(bar_at(plan, starts, k))?;
+    Ok(ChartRow {
+        number: k + 1,
+        bars,
+    })
 }
 
 // Returns the rows of all activities.
 fn activity_rows(
     alloc: Global,
-    network: &Network,
+    plan: PlanRef<'_>,
     starts: &[u64],
 ) -> Result<Vec<ChartRow>, AllocError>
-    requires starts { length starts.now ≡ count_of network.now }
+    requires starts { length starts.now ≡ count_of (plan_of plan.entry) }
     requires limit { EachIndex starts.now (λ k. slice_index starts.now k ≤ latest_start) }
-    ensures { IfOk result (λ rows. map row_of rows.items ≡ map
-        (spec.activity_row network.now starts.now) (range_with_len 1 (count_of network.now))) }
+    ensures { IfOk result (λ rows. map row_of rows.items
+        ≡ map (spec.activity_row (plan_of plan.entry) starts.now)
+        (range_with_len 0 (count_of (plan_of plan.entry)))) }
 {
     let mut rows = Vec::new(alloc);
-    for k in 0..network.len() {
-        rows.push(activity_row(alloc, network, starts, k as u32 + 1)?)?;
+    for k in 0..count(plan) {
+        rows.push(activity_row(alloc, plan, starts, k)?)?;
     }
     Ok(rows)
-}
-
-/// Returns the Gantt chart of a schedule: a row for each activity with one bar. Index `k` of
-/// `starts` is activity `k + 1`.
-pub fn chart_view(
-    alloc: Global,
-    network: &Network,
-    starts: &[u64],
-    makespan: u64,
-) -> Result<Chart, AllocError>
-    requires starts { length starts.now ≡ count_of network.now }
-    requires limit { EachIndex starts.now (λ k. slice_index starts.now k ≤ latest_start) }
-    requires makespan { makespan ≤ latest_end }
-    ensures value { IfOk result (λ chart.
-        spec.chart_of chart ≡ spec.chart_view_of network.now starts.now makespan) }
-    ensures text { IfOk result (λ chart. spec.named_text_of [] (spec.chart_of chart)
-        ≡ chart_text makespan (activity_intervals network.now starts.now) 1
-        (count_of network.now)) }
-{
-    Ok(Chart {
-        makespan,
-        owner: Owner::Activity,
-        rows: activity_rows(alloc, network, starts)?,
-    })
-}
-
-// Returns the bar of step `x`.
-fn step_bar(shop: &Shop, starts: &[u64], x: u32) -> Bar
-    requires step { x < count_steps shop.now }
-    requires starts { length starts.now ≡ count_steps shop.now }
-    requires limit { EachIndex starts.now (λ k. slice_index starts.now k ≤ latest_start) }
-    ensures { bar_of result ≡ spec.step_bar shop.now starts.now x }
-{
-    let machines = shop.machines();
-    let start = starts[x as usize];
-    Bar {
-        start,
-        end: start + shop.step(x).time,
-        step: Some(StepNumber {
-            job: x / machines + 1,
-            step: x % machines + 1,
-        }),
-    }
-}
-
-// Returns the machine of step `x`.
-fn machine_at(shop: &Shop, x: u32) -> u32
-    requires { x < count_steps shop.now }
-    ensures { result ≡ machine_of shop.now x }
-{
-    shop.step(x).machine
 }
 
 // Returns the row of a machine.
@@ -132,7 +94,7 @@ fn machine_row(
     let mut bars = Vec::new(alloc);
     for x in 0..step_count(shop) {
         if machine_at(shop, x) == machine {
-            bars.push(step_bar(shop, starts, x))?;
+            bars.push(bar_at(PlanRef::Shop(shop), starts, x))?;
         }
     }
     Ok(ChartRow {
@@ -155,25 +117,45 @@ fn machine_rows(alloc: Global, shop: &Shop, starts: &[u64]) -> Result<Vec<ChartR
     Ok(rows)
 }
 
-/// Returns the Gantt chart of a job shop's schedule: a row for each machine with a bar for each of
-/// its steps. Index `x` of `starts` is flat step `x`.
-pub fn shop_chart_view(
+// Returns the rows of a plan, and what they belong to.
+fn rows(
     alloc: Global,
-    shop: &Shop,
+    plan: PlanRef<'_>,
+    starts: &[u64],
+) -> Result<(Owner, Vec<ChartRow>), AllocError>
+    requires starts { length starts.now ≡ count_of (plan_of plan.entry) }
+    requires limit { EachIndex starts.now (λ k. slice_index starts.now k ≤ latest_start) }
+    ensures owner { IfOk result (λ made. made.0 ≡ spec.owner_of (plan_of plan.entry)) }
+    ensures rows { IfOk result (λ made.
+        map row_of made.1.items ≡ spec.chart_rows (plan_of plan.entry) starts.now) }
+{
+    match plan {
+        PlanRef::Project(_) => Ok((Owner::Activity, activity_rows(alloc, plan, starts)?)),
+        PlanRef::Shop(shop) => Ok((Owner::Machine, machine_rows(alloc, shop, starts)?)),
+    }
+}
+
+/// Returns the Gantt chart of a schedule: a row for each activity of a project with one bar, or for
+/// each machine of a job shop with a bar for each of its steps. Index `k` of `starts` is activity
+/// `k + 1` or flat step `k`.
+pub fn chart_view(
+    alloc: Global,
+    plan: PlanRef<'_>,
     starts: &[u64],
     makespan: u64,
 ) -> Result<Chart, AllocError>
-    requires starts { length starts.now ≡ count_steps shop.now }
+    requires starts { length starts.now ≡ count_of (plan_of plan.entry) }
     requires limit { EachIndex starts.now (λ k. slice_index starts.now k ≤ latest_start) }
     requires makespan { makespan ≤ latest_end }
-    ensures value { IfOk result (λ chart.
-        spec.chart_of chart ≡ spec.shop_chart_view_of shop.now starts.now makespan) }
+    ensures value { IfOk result (λ chart. spec.chart_of chart
+        ≡ spec.chart_view_of (plan_of plan.entry) starts.now makespan) }
     ensures text { IfOk result (λ chart. spec.named_text_of [] (spec.chart_of chart)
-        ≡ chart_text makespan (machine_intervals shop.now starts.now) 0 shop.now.machines) }
+        ≡ spec.chart_text_of (plan_of plan.entry) starts.now makespan) }
 {
+    let (owner, rows) = rows(alloc, plan, starts)?;
     Ok(Chart {
         makespan,
-        owner: Owner::Machine,
-        rows: machine_rows(alloc, shop, starts)?,
+        owner,
+        rows,
     })
 }

@@ -1,90 +1,91 @@
-//! The table of a project's schedule.
+//! The tables of schedules.
 
-ghost use Rattle.std.specs.Prelude.{◌≡◌, ◌≤◌, map, length, slice_index, EachIndex, IfOk};
-ghost use Rattle.plan_net.specs.Network.{IsActivity, count_of};
+ghost use Rattle.std.specs.Prelude.{◌≡◌, ◌≤◌, ◌<◌, map, length, slice_index, EachIndex, IfOk};
 ghost use Rattle.plan_gantt.specs.Limits.{latest_start};
-ghost use Rattle.plan_gantt.specs.ScheduleTable.{schedule_table_text};
 ghost use Rattle.plan_formats.specs.Columns.{column_of};
 ghost use Rattle.plan_formats.specs.Tables.{cells_of, rows_of, table_of};
 ghost use Rattle.plan_formats.specs.TableText.{text_of};
+ghost use Rattle.plan_views.specs.Plans.{count_of, plan_of};
 ghost use Rattle.plan_views.specs.Rows.{rows_from};
 ghost use Rattle.plan_views.specs.ScheduleTables as spec;
 
-use crate::headings::{activity, duration, end, start};
-use crate::rows::row_of;
+use crate::headings::{duration, end, start};
+use crate::plans::{PlanRef, count, duration_at, placed_columns, placed_front};
 use plan_formats::{Cell, Column, Line, Table};
-use plan_net::{Network, index_of};
 use std::alloc::{AllocError, Global};
 
 // Returns the columns.
-fn columns(alloc: Global) -> Result<Vec<Column>, AllocError>
-    ensures { IfOk result (λ columns. map column_of columns.items ≡ spec.schedule_columns) }
+fn columns(alloc: Global, plan: PlanRef<'_>) -> Result<Vec<Column>, AllocError>
+    ensures { IfOk result (λ columns.
+        map column_of columns.items ≡ spec.schedule_columns (plan_of plan.entry)) }
 {
-    Ok(Vec::from_array(alloc, [activity(), duration(), start(), end()])?)
+    let mut columns = placed_columns(alloc, plan)?;
+    columns.extend_from_slice(&[duration(), start(), end()])?;
+    Ok(columns)
 }
 
-// Returns the row of activity `j`.
+// Returns row `k`.
 #[tactic(auto, unfolding(crate::specs::ScheduleTables::schedule_row))]
 fn row<'a>(
     alloc: Global,
-    network: &Network,
+    plan: PlanRef<'_>,
     starts: &[u64],
-    j: u32,
+    k: u32,
 ) -> Result<Vec<Cell<'a>>, AllocError>
-    requires activity { IsActivity network.now j }
-    requires starts { length starts.now ≡ count_of network.now }
+    requires row { k < count_of (plan_of plan.entry) }
+    requires starts { length starts.now ≡ count_of (plan_of plan.entry) }
     requires limit { EachIndex starts.now (λ k. slice_index starts.now k ≤ latest_start) }
     ensures { IfOk result (λ cells.
-        cells_of cells.items ≡ spec.schedule_row network.now starts.now j) }
+        cells_of cells.items ≡ spec.schedule_row (plan_of plan.entry) starts.now k) }
 {
-    let duration = network.duration(j);
-    let start = starts[index_of(j)];
-    let cells = [
-        Cell::Number(j as u64),
-        Cell::Number(duration),
-        Cell::Number(start),
-        Cell::Number(start + duration),
-    ];
-    row_of(alloc, &cells)
+    let duration = duration_at(plan, k);
+    let start = starts[k as usize];
+    let mut row = placed_front(alloc, plan, k)?;
+    row.push(Cell::Number(duration))?;
+    row.push(Cell::Number(start))?;
+    row.push(Cell::Number(start + duration))?;
+    Ok(row)
 }
 
-// Returns the rows of all activities.
+// Returns the rows of all activities or steps.
 fn rows<'a>(
     alloc: Global,
-    network: &Network,
+    plan: PlanRef<'_>,
     starts: &[u64],
 ) -> Result<Vec<Vec<Cell<'a>>>, AllocError>
-    requires starts { length starts.now ≡ count_of network.now }
+    requires starts { length starts.now ≡ count_of (plan_of plan.entry) }
     requires limit { EachIndex starts.now (λ k. slice_index starts.now k ≤ latest_start) }
-    ensures { IfOk result (λ rows. rows_of rows.items
-        ≡ rows_from (spec.schedule_row network.now starts.now) 1 (count_of network.now)) }
+    ensures { IfOk result (λ rows. rows_of rows.items ≡ rows_from
+        (spec.schedule_row (plan_of plan.entry) starts.now) 0 (count_of (plan_of plan.entry))) }
 {
     let mut rows = Vec::new(alloc);
-    for k in 0..network.len() {
-        rows.push(row(alloc, network, starts, k as u32 + 1)?)?;
+    for k in 0..count(plan) {
+        rows.push(row(alloc, plan, starts, k)?)?;
     }
     Ok(rows)
 }
 
-/// Returns the table of a schedule: a row for each activity with its duration, start and end, and
-/// the makespan below. Index `k` of `starts` is activity `k + 1`.
+/// Returns the table of a schedule: a row for each activity of a project, or for each step of a job
+/// shop in flat order, and the makespan below. A row has the activity's number, or the step's job
+/// and number in the job (both from 1) and its machine (from 0), then the duration, start and end.
+/// Index `k` of `starts` is activity `k + 1` or flat step `k`.
 pub fn schedule_view<'a>(
     alloc: Global,
-    network: &Network,
+    plan: PlanRef<'_>,
     starts: &[u64],
     makespan: u64,
 ) -> Result<Table<'a>, AllocError>
-    requires starts { length starts.now ≡ count_of network.now }
+    requires starts { length starts.now ≡ count_of (plan_of plan.entry) }
     requires limit { EachIndex starts.now (λ k. slice_index starts.now k ≤ latest_start) }
-    ensures value { IfOk result (λ table.
-        table_of table ≡ spec.schedule_view_of network.now starts.now makespan) }
+    ensures value { IfOk result (λ table. table_of table
+        ≡ spec.schedule_view_of (plan_of plan.entry) starts.now makespan) }
     ensures text { IfOk result (λ table. text_of (table_of table)
-        ≡ schedule_table_text network.now starts.now makespan) }
+        ≡ spec.schedule_text_of (plan_of plan.entry) starts.now makespan) }
 {
     Ok(Table {
         above: Vec::new(alloc),
-        columns: columns(alloc)?,
-        rows: rows(alloc, network, starts)?,
+        columns: columns(alloc, plan)?,
+        rows: rows(alloc, plan, starts)?,
         below: Vec::from_array(alloc, [Line::Makespan(makespan)])?,
     })
 }

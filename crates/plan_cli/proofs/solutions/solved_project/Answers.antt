@@ -11,8 +11,8 @@ use Rattle.plan_cli.proofs.SearchLemmas.{project_refused}
 use Rattle.plan_cli.specs.Views.{table}
 use Rattle.plan_cli.proofs.solutions.solved_project.Goals as goal
 
-pub best_project_view-requires-clause-starts : goal.best_project_view-requires-clause-starts
-best_project_view-requires-clause-starts c =
+pub best_view-requires-clause-starts : goal.best_view-requires-clause-starts
+best_view-requires-clause-starts c =
     let found = c.solve_project.result in
     let solved = c.in_ok-solved.solved in
     let was = mapped_ok found c.map_err.result solved _ c.map_err.ensures.cases c.in_ok-solved.was in
@@ -31,7 +31,7 @@ returns-clause-made c =
       shortest = if_was_ok found solved _ was e.shortest;
       active = if_was_ok found solved _ was e.active;
       makespan = if_was_ok found solved _ was e.makespan;
-      shown = ap table c.in_ok-best_project_view.ensures.value;
+      shown = ap table c.in_ok-best_view.ensures.value;
     }
 
 pub returns-in_err-solved-clause-refused : goal.returns-in_err-solved-clause-refused

@@ -10,8 +10,8 @@ use Rattle.plan_cli.proofs.SearchLemmas.{shop_refused}
 use Rattle.plan_cli.specs.Views.{table}
 use Rattle.plan_cli.proofs.solutions.solved_shop.Goals as goal
 
-pub best_shop_view-requires-clause-starts : goal.best_shop_view-requires-clause-starts
-best_shop_view-requires-clause-starts c =
+pub best_view-requires-clause-starts : goal.best_view-requires-clause-starts
+best_view-requires-clause-starts c =
     let found = c.solve_shop.result in
     let solved = c.in_ok-solved.solved in
     let was = mapped_ok found c.map_err.result solved _ c.map_err.ensures.cases c.in_ok-solved.was in
@@ -30,7 +30,7 @@ returns-clause-made c =
       shortest = if_was_ok found solved _ was e.shortest;
       active = if_was_ok found solved _ was e.active;
       makespan = if_was_ok found solved _ was e.makespan;
-      shown = ap table c.in_ok-best_shop_view.ensures.value;
+      shown = ap table c.in_ok-best_view.ensures.value;
     }
 
 pub returns-in_err-solved-clause-refused : goal.returns-in_err-solved-clause-refused

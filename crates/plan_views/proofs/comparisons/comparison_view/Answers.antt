@@ -1,5 +1,6 @@
 use Rattle.std.proofs.lemmas.Result.{IfOk-weaker}
 use Rattle.plan_formats.specs.Tables.{table_of}
+use Rattle.plan_views.specs.Plans.{plan_of}
 use Rattle.plan_views.proofs.ReportLemmas.{comparison_text}
 use Rattle.plan_views.proofs.comparisons.comparison_view.Goals as goal
 
@@ -13,4 +14,4 @@ returns-clause-value c = IfOk-weaker c.comparison.result _ _ (λ table shown. re
 }) c.comparison.ensures
 
 pub returns-clause-text : goal.returns-clause-text
-returns-clause-text c = IfOk-weaker c.comparison.result _ _ (λ table is. comparison_text c.args.instance.now c.args.a.now c.args.b.now (table_of table) is) (returns-clause-value c)
+returns-clause-text c = IfOk-weaker c.comparison.result _ _ (λ table is. comparison_text (plan_of c.args.plan) c.args.a.now c.args.b.now (table_of table) is) (returns-clause-value c)

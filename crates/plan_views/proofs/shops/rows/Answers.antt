@@ -1,8 +1,0 @@
-use Rattle.plan_views.specs.ShopTables.{shop_row}
-use Rattle.plan_views.proofs.RowLemmas.{next_from_zero}
-use Rattle.plan_views.proofs.shops.rows.Goals as goal
-
-pub loop-x-preserved : goal.loop-x-preserved
-loop-x-preserved c =
-    next_from_zero (shop_row c.args.shop.now c.args.starts.now) c.loop-x.x _ _ c.in_ok-row.field-0
-    c.loop-x.invariant c.in_ok-row.ensures c.in_ok-push.ensures.items
