@@ -11,7 +11,7 @@ use crate::sheets::{Sheet, sheet_text};
 use plan_cli::{
     CliFault, Dates, Inputs, Origin, ProofWatcher, SolveWatcher, Subject, SystemInputs, read_named,
 };
-use plan_errors::write_text;
+use plan_errors::{About, write_text};
 use plan_io::Sink;
 use std::alloc::Global;
 use std::rt::Files;
@@ -98,7 +98,7 @@ fn print_from<I: Inputs, W: Sink, V: ProofWatcher + SolveWatcher>(
     ensures fine { OnOk result (W.faults writer.new ≡ W.faults writer.old) }
     ensures output { IsErrOf result CliFault.Output → HasSinkFailed W.Sink writer.old writer.new }
 {
-    let bytes = read_named(alloc, inputs, file)?;
+    let bytes = read_named(alloc, inputs, About::Plan, file)?;
     let text = sheet_text(alloc, sheet, subject, origin, &bytes, watcher)?;
     write_text(writer, text.as_bytes())
 }
@@ -148,7 +148,7 @@ fn print_by<I: Inputs, W: Sink, V: ProofWatcher + SolveWatcher>(
             )
         }
         NamedOrigin::Starts(name) => {
-            let starts = read_named(alloc, inputs, name)?;
+            let starts = read_named(alloc, inputs, About::Starts, name)?;
             let origin = Origin::Starts(&starts);
             print_from(alloc, inputs, sheet, subject, origin, file, watcher, writer)
         }
@@ -188,7 +188,7 @@ pub fn print_on_named<I: Inputs, W: Sink, V: ProofWatcher + SolveWatcher>(
     let Some(name) = holidays else {
         return print_by(alloc, inputs, sheet, subject, origin, file, watcher, writer);
     };
-    let days = read_named(alloc, inputs, name)?;
+    let days = read_named(alloc, inputs, About::Holidays, name)?;
     print_by(
         alloc,
         inputs,
