@@ -57,8 +57,7 @@ use Rattle.plan_cli.specs.declared.tasks.Task.TheVariants as task
 use Rattle.plan_cli.specs.ScheduleRun.{TellsNeed}
 use Rattle.plan_errors.specs.declared.fault.CliFault.{CliFault}
 use Rattle.plan_errors.specs.declared.fault.CliFault.TheVariants as cli
-use Rattle.plan_errors.specs.declared.context.About.{About}
-use Rattle.plan_errors.specs.Faults.{refusal_line, IsUnread}
+use Rattle.plan_errors.specs.Faults.{refusal_line}
 use Rattle.plan_errors.specs.Output.{Writes, Refuses, Sends}
 use Rattle.plan_cli.specs.Run.{IsDateTableOf, JudgesFront, ReadsFront, Tells}
 use Rattle.plan_cli.specs.TaskViews.{IsViewOf}
@@ -72,13 +71,6 @@ refuses_as IsLine IsOther (cli.Refused refusal) same r = same (refusal_line refu
 refuses_as IsLine IsOther cli.Memory same r = tt
 refuses_as IsLine IsOther (cli.Input unread) same r = absurd r
 refuses_as IsLine IsOther cli.Output same r = absurd r
-
--- an error that refuses a file isn't that of a file that can't be read
-pub refuses_read : (IsLine : List ℕ → Type 0) (about : About) (e : CliFault) → Refuses IsLine e → IsUnread about e
-refuses_read IsLine about (cli.Refused refusal) r = tt
-refuses_read IsLine about cli.Memory r = tt
-refuses_read IsLine about (cli.Input unread) r = absurd r
-refuses_read IsLine about cli.Output r = tt
 
 -- a fact on an error implies another
 pub if_err_weaker : {T E : Type 0} (r : Result T E) (P Q : E → Type 0) → ((e : E) → P e → Q e) → IfErr r P → IfErr r Q

@@ -90,25 +90,15 @@ names_under (subject.Shop instance) file key = shop_names instance.now file key
 abbrev pub name_under : Subject → List ℕ → Key → ℕ → Option (List ℕ)
 name_under s file key n = option_map (λ name. name.name) (first_name n (names_under s file key))
 
--- a name in a sentence: that of an order has the word in front
-abbrev pub name_shown : Key → List ℕ → List ℕ
-name_shown key.Job name = codes "order " ++ utf8_lossy name
-name_shown _ name = utf8_lossy name
-
--- a number with a key in a sentence: its name, or else the word of the key and the number
-abbrev pub called : Key → ℕ → Option (List ℕ) → List ℕ
-called key n None = word_of key ++ codes " " ++ decimal n
-called key n (Some name) = name_shown key name
-
 -- a number without the name of its key: an activity of a project, a step of a job shop
 abbrev pub bare_called : Subject → ℕ → Option (List ℕ) → List ℕ
-bare_called (subject.Project given) n name = called key.Activity n name
+bare_called (subject.Project given) n name = name_or (codes "activity") n name
 bare_called (subject.Shop instance) n name = decimal n
 
 -- a part of an error of starts, with the names in a file
 abbrev pub words_of : Subject → List ℕ → Part → List ℕ
 words_of s file (part.Words words) = words.now
-words_of s file (part.Number key n) = called key n (name_under s file key n)
+words_of s file (part.Number key n) = name_or (word_of key) n (name_under s file key n)
 words_of s file (part.Bare key n) = bare_called s n (name_under s file key n)
 words_of s file (part.Text text) = string_bytes text
 words_of s file (part.Numbers key ns) = []

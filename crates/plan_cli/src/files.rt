@@ -22,6 +22,7 @@ use std::rt::Files;
 /// Runs a task on the file with this name, or on standard input if the name is `-`. The watcher is
 /// called during a search of `prove` or `solve`. A file that can't be opened or read is
 /// [`CliFault::Input`].
+#[tactic(auto, using(plan_errors::proofs::RefusalLemmas::input_unread))]
 pub fn run_on_named<I: Inputs, W: Sink, V: ProofWatcher + SolveWatcher, L: Log>(
     alloc: Global,
     inputs: &I,
@@ -75,6 +76,7 @@ pub fn read_named<I: Inputs>(
 /// be `-` for standard input. The texts are read first, in their order. Each replaces the text with
 /// its role in the task. The watcher is called during a search. A file that can't be opened or read
 /// is [`CliFault::Input`] of its argument.
+#[tactic(auto, using(plan_errors::proofs::RefusalLemmas::input_unread))]
 pub fn run_on_texts<I: Inputs, W: Sink, V: ProofWatcher + SolveWatcher>(
     alloc: Global,
     inputs: &I,

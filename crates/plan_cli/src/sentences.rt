@@ -85,42 +85,23 @@ fn name_under<'a>(
     Ok(first_name(&names, n))
 }
 
-// Appends a name of a number with a key.
-fn push_name(alloc: Global, text: &mut String, key: Key, name: &[u8]) -> Result<(), AllocError>
-    ensures { OnOk result
-        (string_bytes text.new ≡ string_bytes text.old ++ spec.name_shown key name.now) }
-{
-    let name = String::from_utf8_lossy(alloc, name)?;
-    match key {
-        Key::Job => write!(text, "order {name}"),
-        Key::Activity
-        | Key::Cycle
-        | Key::Line
-        | Key::Machine
-        | Key::Predecessor
-        | Key::Resource
-        | Key::Step
-        | Key::Time => text.push_str(name.as_str()),
-    }
-}
-
-// Appends a number with a key by its name, if it has one.
+// Appends a number by its name, or else behind a word.
 fn push_called(
     alloc: Global,
     text: &mut String,
-    key: Key,
+    word: &str,
     n: u64,
     name: Option<&[u8]>,
 ) -> Result<(), AllocError>
     ensures { OnOk result (string_bytes text.new ≡ string_bytes text.old
-        ++ spec.called key n (option_map (λ bytes. bytes.now) name.entry)) }
+        ++ spec.name_or word.now n (option_map (λ bytes. bytes.now) name.entry)) }
 {
     match name {
-        Some(name) => push_name(alloc, text, key, name),
-        None => {
-            let word = key.word();
-            write!(text, "{word} {n}")
+        Some(name) => {
+            let name = String::from_utf8_lossy(alloc, name)?;
+            text.push_str(name.as_str())
         }
+        None => write!(text, "{word} {n}"),
     }
 }
 
@@ -136,7 +117,7 @@ fn push_bare(
         ++ spec.bare_called subject.entry n (option_map (λ bytes. bytes.now) name.entry)) }
 {
     match subject {
-        Subject::Project(_) => push_called(alloc, text, Key::Activity, n, name),
+        Subject::Project(_) => push_called(alloc, text, "activity", n, name),
         Subject::Shop(_) => write!(text, "{n}"),
     }
 }
@@ -156,7 +137,7 @@ fn push_words(
         Part::Words(words) => text.push_str(words),
         Part::Number(key, n) => {
             let name = name_under(alloc, subject, file, *key, *n)?;
-            push_called(alloc, text, *key, *n, name)
+            push_called(alloc, text, key.word(), *n, name)
         }
         Part::Bare(key, n) => {
             let name = name_under(alloc, subject, file, *key, *n)?;

@@ -1,9 +1,9 @@
 -- Refusals by their lines.
-use Rattle.std.proofs.Common.{◌≡◌, ℕ, List, ◌++◌, Option, String, Result, Ok, Err, Vec, refl, sym, subst}
+use Rattle.std.proofs.Common.{◌≡◌, ◌⊎◌, inl, inr, ℕ, List, ◌++◌, Option, String, Result, Ok, Err, Vec, refl, sym, subst}
 use Rattle.std.specs.Prelude.{IfOk, IfErr}
 use Rattle.std.specs.Global.{Global}
 use Rattle.plan_errors.specs.Codes.{name_of}
-use Rattle.plan_errors.specs.Faults.{refusal_of, IsAbout, with_contents, with_detail}
+use Rattle.plan_errors.specs.Faults.{refusal_of, IsAbout, IsUnread, with_contents, with_detail}
 use Rattle.plan_errors.specs.Output.{Refuses}
 use Rattle.plan_errors.specs.Parts.{parts_text}
 use Rattle.plan_errors.specs.declared.codes.Code.{Code}
@@ -60,3 +60,25 @@ detail_about about detail (cli.Refused refusal) is = is
 detail_about about detail cli.Memory is = tt
 detail_about about detail (cli.Input unread) is = absurd is
 detail_about about detail cli.Output is = absurd is
+
+-- an error that refuses isn't that of a file that can't be read
+pub refuses_unread : (IsLine : List ℕ → Type 0) (about : About) (e : CliFault) → Refuses IsLine e → IsUnread about e
+refuses_unread IsLine about (cli.Refused refusal) refuses = tt
+refuses_unread IsLine about cli.Memory refuses = tt
+refuses_unread IsLine about (cli.Input unread) refuses = absurd refuses
+refuses_unread IsLine about cli.Output refuses = tt
+
+-- the error of a file that isn't read is that of this file
+pub input_unread : (about : About) (e : CliFault) → (e ≡ cli.Memory) ⊎ (e ≡ cli.Input about) → IsUnread about e
+input_unread about e (inl is) = subst (λ (f : CliFault). IsUnread about f) (sym is) tt
+input_unread about e (inr is) = subst (λ (f : CliFault). IsUnread about f) (sym is) refl
+
+-- the same with other facts
+pub read_unread : (about : About) (e : CliFault) (Same More : Type 0)
+    → ((e ≡ cli.Memory) × Same) ⊎ ((e ≡ cli.Input about) × More) → IsUnread about e
+read_unread about e Same More (inl is) = input_unread about e (inl is.0)
+read_unread about e Same More (inr is) = input_unread about e (inr is.0)
+
+-- the error of the output is that of no file that can't be read
+pub output_unread : (about : About) (e : CliFault) (More : Type 0) → (e ≡ cli.Output) × More → IsUnread about e
+output_unread about e More is = subst (λ (f : CliFault). IsUnread about f) (sym is.0) tt

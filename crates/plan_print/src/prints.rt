@@ -2,6 +2,7 @@
 
 ghost use Rattle.std.specs.Prelude.{◌≡◌, ◌⊎◌, ◌+◌, ◌≤◌, None, IfErr, IsErrOf, OnOk};
 ghost use Rattle.plan_io.specs.Devices.{most_calls};
+ghost use Rattle.plan_errors.specs.Faults.{IsUnread};
 ghost use Rattle.plan_errors.specs.Output.{HasSinkFailed};
 ghost use Rattle.plan_cli.specs.NamedTexts.{dates_with};
 ghost use Rattle.plan_cli.specs.Tasks.{bytes_behind};
@@ -81,6 +82,11 @@ fn sheet_with<'a>(sheet: Sheet<'a>, holidays: &'a [u8]) -> Sheet<'a>
 }
 
 // Prints a sheet of the file with this name.
+#[tactic(auto, using(
+    plan_errors::proofs::RefusalLemmas::input_unread,
+    plan_errors::proofs::RefusalLemmas::refuses_unread,
+    plan_errors::proofs::RefusalLemmas::output_unread,
+))]
 fn print_from<I: Inputs, W: Sink, V: ProofWatcher + SolveWatcher>(
     alloc: Global,
     inputs: &I,
@@ -94,6 +100,7 @@ fn print_from<I: Inputs, W: Sink, V: ProofWatcher + SolveWatcher>(
     ensures does { spec.PrintsFrom (bytes_behind I.Inputs inputs.now file.now)
         sheet.entry subject.entry origin.entry (W.taken writer.old) (W.taken writer.new) result }
     ensures writes { W.calls writer.new ≤ W.calls writer.old + most_calls }
+    ensures unread { IfErr result (IsUnread About.Plan) }
     ensures quiet { IfErr result (λ e. (e ≡ CliFault.Output) ⊎ (writer.new ≡ writer.old)) }
     ensures fine { OnOk result (W.faults writer.new ≡ W.faults writer.old) }
     ensures output { IsErrOf result CliFault.Output → HasSinkFailed W.Sink writer.old writer.new }
@@ -105,6 +112,7 @@ fn print_from<I: Inputs, W: Sink, V: ProofWatcher + SolveWatcher>(
 
 // Prints a sheet of the file with this name. If the schedule has its starts in a file, that one is
 // read first.
+#[tactic(auto, using(plan_errors::proofs::RefusalLemmas::input_unread))]
 fn print_by<I: Inputs, W: Sink, V: ProofWatcher + SolveWatcher>(
     alloc: Global,
     inputs: &I,
@@ -118,6 +126,7 @@ fn print_by<I: Inputs, W: Sink, V: ProofWatcher + SolveWatcher>(
     ensures does { spec.PrintsNamed (bytes_behind I.Inputs inputs.now) sheet.entry subject.entry
         origin.entry file.now (W.taken writer.old) (W.taken writer.new) result }
     ensures writes { W.calls writer.new ≤ W.calls writer.old + most_calls }
+    ensures unread { IfErr result (spec.IsUnreadBy origin.entry) }
     ensures quiet { IfErr result (λ e. (e ≡ CliFault.Output) ⊎ (writer.new ≡ writer.old)) }
     ensures fine { OnOk result (W.faults writer.new ≡ W.faults writer.old) }
     ensures output { IsErrOf result CliFault.Output → HasSinkFailed W.Sink writer.old writer.new }
@@ -157,11 +166,12 @@ fn print_by<I: Inputs, W: Sink, V: ProofWatcher + SolveWatcher>(
 
 /// Prints a sheet. The file of the holidays is read first, then that of the starts, then that of
 /// the project or the job shop. The watcher is called during a search, and can stop it. A file that
-/// can't be opened or read is [`CliFault::Input`].
+/// can't be opened or read is [`CliFault::Input`] of its argument.
 ///
 /// Nothing is written unless the whole sheet was made. If several errors apply, that of the file
 /// comes first, then those of the capacities, of the schedule, of the calendar, and of a day after
 /// 9999-12-31.
+#[tactic(auto, using(plan_errors::proofs::RefusalLemmas::input_unread))]
 pub fn print_on_named<I: Inputs, W: Sink, V: ProofWatcher + SolveWatcher>(
     alloc: Global,
     inputs: &I,
@@ -173,6 +183,8 @@ pub fn print_on_named<I: Inputs, W: Sink, V: ProofWatcher + SolveWatcher>(
     ensures does { spec.Prints (bytes_behind I.Inputs inputs.now) print.entry
         (W.taken writer.old) (W.taken writer.new) result }
     ensures writes { W.calls writer.new ≤ W.calls writer.old + most_calls }
+    // If a file can't be read, the error tells which one.
+    ensures unread { IfErr result (spec.IsUnreadIn print.entry) }
     // With any other error than that of the output, nothing is written.
     ensures quiet { IfErr result (λ e. (e ≡ CliFault.Output) ⊎ (writer.new ≡ writer.old)) }
     ensures fine { OnOk result (W.faults writer.new ≡ W.faults writer.old) }
@@ -212,6 +224,8 @@ pub fn print_on_files<R: Files + Input + AllocGlobal, W: Sink, V: ProofWatcher +
     ensures does { spec.Prints (λ _. None) print.entry
         (W.taken writer.old) (W.taken writer.new) result }
     ensures writes { W.calls writer.new ≤ W.calls writer.old + most_calls }
+    // If a file can't be read, the error tells which one.
+    ensures unread { IfErr result (spec.IsUnreadIn print.entry) }
     // With any other error than that of the output, nothing is written.
     ensures quiet { IfErr result (λ e. (e ≡ CliFault.Output) ⊎ (writer.new ≡ writer.old)) }
     ensures fine { OnOk result (W.faults writer.new ≡ W.faults writer.old) }
