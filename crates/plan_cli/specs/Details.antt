@@ -1,6 +1,7 @@
 -- The causes of errors with the names in a file (docs/definitions.md, "Runs").
 use Rattle.std.specs.Prelude.{◌≡◌, ◌⊎◌, ℕ, ◌-◌, List, [], ◌∷◌, ◌++◌, Option, Some, None}
-use Rattle.std.specs.Prelude.{option_map, IfSome, bytes_eq, codes, if◌then◌else◌, string_bytes, String}
+use Rattle.std.specs.Prelude.{option_map, IfSome, bytes_eq, codes, if◌then◌else◌, String}
+use Rattle.std.specs.Prelude.{string_bytes}
 use Rattle.std.specs.List.{flat_map}
 use Rattle.std.specs.Global.{Global}
 use Rattle.std.specs.Fmt.{decimal}

@@ -21,11 +21,7 @@ use plan_io::{Sink, Source};
 use std::alloc::Global;
 
 // Reads a file, and writes the text of a task for it.
-#[tactic(auto, using(
-    plan_errors::proofs::RefusalLemmas::refuses_unread,
-    plan_errors::proofs::RefusalLemmas::read_unread,
-    plan_errors::proofs::RefusalLemmas::output_unread,
-))]
+#[tactic(auto, using(plan_errors::proofs::RefusalLemmas::refuses_unread, plan_errors::proofs::RefusalLemmas::read_unread, plan_errors::proofs::RefusalLemmas::output_unread,))]
 fn answer<R: Source, W: Sink, V: ProofWatcher + SolveWatcher, L: Log>(
     alloc: Global,
     task: Task<'_>,

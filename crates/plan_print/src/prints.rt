@@ -82,11 +82,7 @@ fn sheet_with<'a>(sheet: Sheet<'a>, holidays: &'a [u8]) -> Sheet<'a>
 }
 
 // Prints a sheet of the file with this name.
-#[tactic(auto, using(
-    plan_errors::proofs::RefusalLemmas::input_unread,
-    plan_errors::proofs::RefusalLemmas::refuses_unread,
-    plan_errors::proofs::RefusalLemmas::output_unread,
-))]
+#[tactic(auto, using(plan_errors::proofs::RefusalLemmas::input_unread, plan_errors::proofs::RefusalLemmas::refuses_unread, plan_errors::proofs::RefusalLemmas::output_unread,))]
 fn print_from<I: Inputs, W: Sink, V: ProofWatcher + SolveWatcher>(
     alloc: Global,
     inputs: &I,
