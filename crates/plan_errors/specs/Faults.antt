@@ -1,8 +1,6 @@
 -- The error of a command, and its line of text (docs/definitions.md, "Runs").
 use Rattle.std.specs.Prelude.{◌≡◌, ℕ, List, ◌++◌, Option, None, String, Vec, codes}
 use Rattle.std.specs.Global.{Global}
-use Rattle.plan_io.specs.declared.whole.InputError.{InputError}
-use Rattle.plan_io.specs.declared.whole.InputError.TheVariants as input
 use Rattle.plan_errors.specs.Codes.{name_of}
 use Rattle.plan_errors.specs.Parts.{parts_text}
 use Rattle.plan_errors.specs.declared.codes.Code.{Code}
@@ -15,11 +13,6 @@ use Rattle.plan_errors.specs.declared.fault.CliFault.{CliFault}
 use Rattle.plan_errors.specs.declared.fault.CliFault.TheVariants as fault
 use Rattle.plan_errors.specs.declared.parts.Part.{Part}
 use Rattle.plan_errors.specs.declared.refusal.Refusal.{Refusal}
-
--- the error of a command that can't read the file that is this argument
-abbrev pub input_fault : About → InputError → CliFault
-input_fault unread input.Memory = fault.Memory
-input_fault unread input.Failed = fault.Input unread
 
 -- the line of a refusal, without its end: the code, and each part behind a blank
 abbrev pub refusal_line : Refusal → List ℕ

@@ -7,8 +7,8 @@ ghost use Rattle.plan_psplib.specs.Plain.{longest_text};
 ghost use Rattle.plan_errors.specs.Output.{HasSinkFailed, Sends};
 
 use crate::context::About;
-use crate::fault::{CliFault, input_fault};
-use plan_io::{Sink, Source, read_beyond, write_whole};
+use crate::fault::CliFault;
+use plan_io::{InputError, Sink, Source, read_beyond, write_whole};
 use plan_psplib::LONGEST_TEXT;
 use std::alloc::Global;
 
@@ -31,7 +31,8 @@ pub fn read_file<R: Source>(
 {
     match read_beyond(alloc, reader, LONGEST_TEXT) {
         Ok(bytes) => Ok(bytes),
-        Err(error) => Err(input_fault(error, about)),
+        Err(InputError::Memory) => Err(CliFault::Memory),
+        Err(InputError::Failed) => Err(CliFault::Input(about)),
     }
 }
 

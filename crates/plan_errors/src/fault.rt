@@ -7,7 +7,6 @@ ghost use Rattle.plan_errors.specs.declared.fault.CliFault.TheVariants.{Memory};
 use crate::codes::Code;
 use crate::context::{About, Contents};
 use crate::refusal::Refusal;
-use plan_io::InputError;
 use std::alloc::{AllocError, Global};
 
 /// The error of a command.
@@ -87,16 +86,6 @@ impl CliFault {
             CliFault::Input(unread) => CliFault::Input(unread),
             CliFault::Output => CliFault::Output,
         }
-    }
-}
-
-/// Returns the error of a command that can't read the file that is this argument.
-pub(crate) fn input_fault(error: InputError, unread: About) -> CliFault
-    ensures { result ≡ spec.input_fault unread error }
-{
-    match error {
-        InputError::Memory => CliFault::Memory,
-        InputError::Failed => CliFault::Input(unread),
     }
 }
 
