@@ -34,6 +34,11 @@ pub verdict_names : (s : Subject) (file : List ℕ) (plain e : CliFault) (detail
 verdict_names s file plain e detail made is =
     subst (λ (f : CliFault). NamesVerdict s file f) (sym made) (detail_names s file plain detail is)
 
+-- an error with another detail
+pub with_other_detail : (detail : Option (String Global)) (plain e : CliFault) → e ≡ with_detail detail plain
+    → IsDetailed plain e
+with_other_detail detail plain e made = inr (inr (detail, made))
+
 -- a detail doesn't change the line of an error
 pub detailed_refuses : (IsLine : List ℕ → Type 0) (plain e : CliFault) → IsDetailed plain e
     → Refuses IsLine plain → Refuses IsLine e

@@ -235,7 +235,7 @@ fn fault_sentence(
 
 /// Returns an error of a schedule. If its starts aren't feasible, its detail is their verdict with
 /// the names in the file of the project or the job shop. Without such names there is no detail.
-#[tactic(auto, using(crate::proofs::SentenceLemmas::other_names, crate::proofs::SentenceLemmas::verdict_names,))]
+#[tactic(auto, using(crate::proofs::SentenceLemmas::other_names, crate::proofs::SentenceLemmas::verdict_names, crate::proofs::SentenceLemmas::with_other_detail))]
 pub fn with_names(alloc: Global, subject: Subject<'_>, file: &[u8], fault: CliFault) -> CliFault
     ensures same { spec.IsDetailed fault result }
     ensures names { spec.NamesVerdict subject.entry file.now result }
