@@ -61,8 +61,47 @@ R 1
 1
 """
 NEEDY = PROJECT.replace("2 1 2 1", "2 1 2 2")
+# 1 is before 2, 2 before 3 and 4, these before 5. Activity 2 takes 2, the others 1.
+PLAIN = """projects: 1
+jobs: 5
+- renewable: 1
+- nonrenewable: 0
+- doubly constrained: 0
+PRECEDENCE RELATIONS:
+jobnr. #modes #successors successors
+1 1 1 2
+2 1 2 3 4
+3 1 1 5
+4 1 1 5
+5 1 0
+REQUESTS/DURATIONS:
+jobnr. mode duration R 1
+------------------------
+1 1 0 0
+2 1 2 1
+3 1 1 1
+4 1 1 1
+5 1 0 0
+RESOURCEAVAILABILITIES:
+R 1
+2
+"""
 FILES = {
     "p.sm": PROJECT,
+    "plain.sm": PLAIN,
+    "wired.sm": PLAIN
+    + "PROJECT INFORMATION:\nname 2 Demolition\nname 3 Wiring\nname 4 Painting\nresource 1 crew\n",
+    "early.txt": "0 0 1 2 3\n",
+    "before.txt": "1 0 2 2 3\n",
+    "both.txt": "0 0 2 2 3\n",
+    "last.txt": "0 0 2 3 3\n",
+    "named.shops.txt": "instance shop\n+ machine 0 saw\n+ machine 1 press\n+ job 1 order 4711\n"
+    + "+ job 2 order 4712\nplan import\n2 2\n0 4 1 1\n0 1 1 3\n",
+    "steps.txt": "0 3 4 5\n",
+    "clash.txt": "0 4 1 5\n",
+    "bad.csv": "id,name,duration\nA,Dig,4 weeks\n",
+    "bad.orders.csv": "order,machine,time\nA,saw,x\n",
+    "empty.csv": "id,name,duration\nA,Dig,\n",
     "needy.sm": NEEDY,
     "named.sm": NEEDY + "PROJECT INFORMATION:\nname 2 Dig \x07 deep\nresource 1 crew\n",
     "shops.txt": "2 2\n0 4 1 1\n0 1 1 3\n",
@@ -142,6 +181,44 @@ SUBJECTS = [
         "I1",
         "nowhere.txt: a file can't be read",
     ),
+    ("check nowhere.sm nowhere.txt", "I1", "nowhere.txt: a file can't be read"),
+    ("check --status nowhere.sm nowhere.txt", "I1", "nowhere.txt: a file can't be read"),
+    ("check nowhere.sm good.txt", "I1", "nowhere.sm: a file can't be read"),
+    ("compare nowhere.sm nowhere.txt .", "I1", "nowhere.txt: a file can't be read"),
+    ("compare p.sm . nowhere.txt", "I1", ".: a file can't be read"),
+    ("report --starts good.txt --start 2024-03-01 --holidays . p.sm", "I1", ".: a file can't be read"),
+    ("verify p.sm nowhere.log", "I1", "nowhere.log: a file can't be read"),
+    ("verify nowhere.sm good.txt", "I1", "nowhere.sm: a file can't be read"),
+    ("chart --starts early.txt wired.sm", "S10", "early.txt: Wiring starts before Demolition ends"),
+    ("report --starts early.txt wired.sm", "S10", "early.txt: Wiring starts before Demolition ends"),
+    ("slack wired.sm early.txt", "S10", "early.txt: Wiring starts before Demolition ends"),
+    (
+        "days --format ics --starts early.txt 2024-03-01 1111100 wired.sm",
+        "S10",
+        "early.txt: Wiring starts before Demolition ends",
+    ),
+    ("chart --starts before.txt wired.sm", "S10", "before.txt: Demolition starts before activity 1 ends"),
+    (
+        "chart --starts both.txt --capacity crew=1 wired.sm",
+        "S10",
+        "both.txt: at time 2 more of crew is needed than there is",
+    ),
+    ("chart --starts last.txt wired.sm", "S10", "last.txt: activity 5 starts before Painting ends"),
+    ("chart --starts early.txt plain.sm", "S10", "early.txt: the start times aren't feasible"),
+    (
+        "chart --starts steps.txt named.shops.txt shop",
+        "S10",
+        "steps.txt: step 2 of order 4711 starts before step 1 ends",
+    ),
+    (
+        "report --starts clash.txt named.shops.txt shop",
+        "S10",
+        "clash.txt: at time 1 more than one step is on saw",
+    ),
+    ("chart --starts clash.txt shops.txt -", "S10", "clash.txt: the start times aren't feasible"),
+    ("import bad.csv", "T5", "bad.csv: \"4 weeks\" isn't a whole number of at most 10000"),
+    ("import --shop bad.orders.csv", "T5", "bad.orders.csv: \"x\" isn't a whole number of at most 10000"),
+    ("import empty.csv", "T5", "empty.csv: a duration isn't a number"),
     ("cpm list.csv", "F3", "list.csv: this is a list of activities; plan import converts it"),
     (
         "shop spt orders.csv -",

@@ -1,7 +1,7 @@
 //! The errors of the commands on offices, and their hints.
 
 use plan_copies::CopyFault;
-use plan_errors::{Code, Subject, code_hint, masked};
+use plan_errors::{About, Code, code_hint, masked};
 use plan_orders::OfficeOrder;
 use plan_program::{Status, has_hints, print_hint};
 use plan_serve::{ServeFault, Target};
@@ -41,9 +41,9 @@ fn code_of(fault: ServeFault) -> Code {
 fn hint_for(alloc: Global, database: Option<&str>, code: Code) -> Result<String, AllocError> {
     match code {
         Code::NotOurs | Code::Version | Code::NoKey | Code::StoreRefused => {
-            code_hint(alloc, Subject::Office, database, code)
+            code_hint(alloc, About::Office, database, code)
         }
-        _ => code_hint(alloc, Subject::Other, None, code),
+        _ => code_hint(alloc, About::Other, None, code),
     }
 }
 

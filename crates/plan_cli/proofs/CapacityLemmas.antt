@@ -9,7 +9,7 @@ use Rattle.std.proofs.lemmas.List.{take_more, length-set, map-append, length-map
 use Rattle.plan_table.specs.Names.{Name, first_name}
 use Rattle.plan_errors.specs.Faults.{IsAbout, with_detail}
 use Rattle.plan_errors.specs.Output.{Refuses}
-use Rattle.plan_errors.specs.declared.context.Subject.{Subject}
+use Rattle.plan_errors.specs.declared.context.About.{About}
 use Rattle.plan_errors.specs.declared.fault.CliFault.{CliFault}
 use Rattle.plan_errors.specs.declared.fault.CliFault.TheVariants as cli
 use Rattle.plan_errors.proofs.RefusalLemmas.{detail_refuses, detail_about}
@@ -108,20 +108,20 @@ pub unknown_told : (IsLine : List ℕ → Type 0) (detail : Option (String Globa
     → e ≡ with_detail detail plain → Refuses IsLine plain → Refuses IsLine e
 unknown_told IsLine detail plain e is refuses = subst (λ (f : CliFault). Refuses IsLine f) (sym is) (detail_refuses IsLine detail plain refuses)
 
-pub unknown_about : (about : Subject) (detail : Option (String Global)) (plain e : CliFault)
+pub unknown_about : (about : About) (detail : Option (String Global)) (plain e : CliFault)
     → e ≡ with_detail detail plain → IsAbout about plain → IsAbout about e
 unknown_about about detail plain e is same = subst (λ (f : CliFault). IsAbout about f) (sym is) (detail_about about detail plain same)
 
-with_resources : (names : List Name) (count : ℕ) (about : Subject) (text : String Global) (plain : CliFault)
+with_resources : (names : List Name) (count : ℕ) (about : About) (text : String Global) (plain : CliFault)
     → IsAbout about plain → IsResourcesText names count (string_bytes text)
     → NamesResources names count (with_detail (Some text) plain)
 with_resources names count about text (cli.Refused refusal) same named = named
 with_resources names count about text cli.Memory same named = tt
-with_resources names count about text cli.Input same named = absurd same
+with_resources names count about text (cli.Input unread) same named = absurd same
 with_resources names count about text cli.Output same named = absurd same
 
 -- they are in it
-pub unknown_named : (names : List Name) (count : ℕ) (about : Subject) (text : String Global) (plain e : CliFault)
+pub unknown_named : (names : List Name) (count : ℕ) (about : About) (text : String Global) (plain e : CliFault)
     → e ≡ with_detail (Some text) plain → IsAbout about plain → IsResourcesText names count (string_bytes text)
     → NamesResources names count e
 unknown_named names count about text plain e is same named =

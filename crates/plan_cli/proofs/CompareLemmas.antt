@@ -34,7 +34,7 @@ named_refuses name sheet text (cli.Refused refusal) named told is =
     (λ said same. (refusal_line refusal, told, same)) is
 named_refuses name sheet text cli.Memory named told is =
     subst (λ (f : CliFault). Refuses (TellsNoStartsOf name sheet text) f) (sym is) tt
-named_refuses name sheet text cli.Input named told is = absurd told
+named_refuses name sheet text (cli.Input unread) named told is = absurd told
 named_refuses name sheet text cli.Output named told is = absurd told
 
 -- the starts of schedule A are refused

@@ -50,7 +50,7 @@ with_names : (file : List ℕ) (i : Planned) (activity resource : ℕ) (detail :
 with_names file i activity resource None (cli.Refused refusal) first named = tt
 with_names file i activity resource (Some text) (cli.Refused refusal) first named = (activity, resource, first, named)
 with_names file i activity resource detail cli.Memory first named = tt
-with_names file i activity resource detail cli.Input first named = tt
+with_names file i activity resource detail (cli.Input unread) first named = tt
 with_names file i activity resource detail cli.Output first named = tt
 
 -- it names the first need above a capacity

@@ -4,6 +4,7 @@ use denote.Ref.{Bor}
 use Rattle.std.specs.Prelude.{IfSome, IfOk, bytes_eq, codes}
 use Rattle.std.specs.Global.{Global}
 use Rattle.plan_psplib.specs.Plain.{longest_text}
+use Rattle.plan_errors.specs.declared.context.About.{About}
 use Rattle.plan_errors.specs.declared.fault.CliFault.{CliFault}
 use Rattle.plan_errors.specs.declared.fault.CliFault.TheVariants as cli
 use Rattle.plan_cli.specs.declared.tasks.Task.{Task}
@@ -53,10 +54,10 @@ task_named task rows known named remaining rest taken after r is had judged =
     subst (λ (k : Option (List ℕ)). DoesTask task rows k taken after r) (sym is) (task_known task rows known remaining rest taken after r had judged)
 
 -- a task writes nothing if the file can't be opened
-pub task_unopened : (task : Task) (rows : Rows) (known taken : Option (List ℕ)) (e : CliFault)
-    → (e ≡ cli.Memory) ⊎ (e ≡ cli.Input) → DoesTask task rows known taken taken (Err e)
-task_unopened task rows known taken e (inl is) = subst (λ (f : CliFault). DoesTask task rows known taken taken (Err f)) (sym is) (None, tt)
-task_unopened task rows known taken e (inr is) = subst (λ (f : CliFault). DoesTask task rows known taken taken (Err f)) (sym is) (None, tt)
+pub task_unopened : (task : Task) (rows : Rows) (about : About) (known taken : Option (List ℕ)) (e : CliFault)
+    → (e ≡ cli.Memory) ⊎ (e ≡ cli.Input about) → DoesTask task rows known taken taken (Err e)
+task_unopened task rows about known taken e (inl is) = subst (λ (f : CliFault). DoesTask task rows known taken taken (Err f)) (sym is) (None, tt)
+task_unopened task rows about known taken e (inr is) = subst (λ (f : CliFault). DoesTask task rows known taken taken (Err f)) (sym is) (None, tt)
 
 -- a task that wrote for the bytes of a file wrote for bytes that aren't known
 unknown_task : (task : Task) (rows : Rows) (file taken after : Option (List ℕ)) (r : Result (Unit {0}) CliFault)
@@ -68,7 +69,7 @@ unknown_with : (bytes : Option (List ℕ)) (r : Result (Unit {0}) CliFault) (D E
     → ((text : Bor (List ℕ)) → D text → E text) → DoesWith bytes r D → DoesWith None r E
 unknown_with bytes (Ok x) D E f (text, short, read, does) = (text, short, tt, f text does)
 unknown_with bytes (Err cli.Memory) D E f does = tt
-unknown_with bytes (Err cli.Input) D E f does = tt
+unknown_with bytes (Err (cli.Input unread)) D E f does = tt
 unknown_with bytes (Err cli.Output) D E f (text, short, read, does) = (text, short, tt, f text does)
 unknown_with bytes (Err (cli.Refused refusal)) D E f (text, short, read, does) = (text, short, tt, f text does)
 

@@ -4,6 +4,7 @@ pub mod RefusalLemmas
 pub mod RuleLemmas
 pub mod ContentsLemmas
 pub mod DetailLemmas
+pub mod SentenceLemmas
 pub mod PlanLemmas
 pub mod SlackLemmas
 pub mod CompareLemmas

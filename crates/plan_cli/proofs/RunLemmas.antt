@@ -69,7 +69,7 @@ pub refuses_as : (IsLine IsOther : List ℕ → Type 0) (e : CliFault)
     → ((line : List ℕ) → IsLine line → IsOther line) → Refuses IsLine e → Refuses IsOther e
 refuses_as IsLine IsOther (cli.Refused refusal) same r = same (refusal_line refusal) r
 refuses_as IsLine IsOther cli.Memory same r = tt
-refuses_as IsLine IsOther cli.Input same r = absurd r
+refuses_as IsLine IsOther (cli.Input unread) same r = absurd r
 refuses_as IsLine IsOther cli.Output same r = absurd r
 
 -- a fact on an error implies another
@@ -144,7 +144,7 @@ writes_front : (IsText IsLine : List ℕ → List ℕ → Type 0) (file : List �
 writes_front IsText IsLine file taken after (Ok u) texts lines (text, is, took) = (text, texts file text is, took)
 writes_front IsText IsLine file taken after (Err (cli.Refused refusal)) texts lines (is, same) = (lines file (refusal_line refusal) is, same)
 writes_front IsText IsLine file taken after (Err cli.Memory) texts lines same = same
-writes_front IsText IsLine file taken after (Err cli.Input) texts lines same = same
+writes_front IsText IsLine file taken after (Err (cli.Input unread)) texts lines same = same
 writes_front IsText IsLine file taken after (Err cli.Output) texts lines (text, n, is, part, took) = (text, n, texts file text is, part, took)
 
 -- the output for the bytes that were read is the output for the whole file
@@ -174,7 +174,7 @@ reads_front IsText IsLine known rest read front taken after (Ok u) same short e 
 reads_front IsText IsLine known rest read front taken after (Err (cli.Refused refusal)) same short e used w =
     judges_front known rest read front (λ bytes. Writes (IsText bytes) (IsLine bytes) taken after (Err (cli.Refused refusal))) same short e used w
 reads_front IsText IsLine known rest read front taken after (Err cli.Memory) same short e used w = tt
-reads_front IsText IsLine known rest read front taken after (Err cli.Input) same short e used w = tt
+reads_front IsText IsLine known rest read front taken after (Err (cli.Input unread)) same short e used w = tt
 reads_front IsText IsLine known rest read front taken after (Err cli.Output) same short e used w =
     judges_front known rest read front (λ bytes. Writes (IsText bytes) (IsLine bytes) taken after (Err cli.Output)) same short e used w
 
@@ -186,14 +186,14 @@ sent_writes IsText IsLine text taken after (Ok u) is sent = (text, is, sent)
 sent_writes IsText IsLine text taken after (Err cli.Output) is (n, part, took) = (text, n, is, part, took)
 sent_writes IsText IsLine text taken after (Err (cli.Refused refusal)) is sent = absurd sent
 sent_writes IsText IsLine text taken after (Err cli.Memory) is sent = absurd sent
-sent_writes IsText IsLine text taken after (Err cli.Input) is sent = absurd sent
+sent_writes IsText IsLine text taken after (Err (cli.Input unread)) is sent = absurd sent
 
 -- nothing is written for a file that is refused
 pub refused_writes : (IsText IsLine : List ℕ → Type 0) (taken : Option (List ℕ)) (e : CliFault)
     → Refuses IsLine e → Writes IsText IsLine taken taken (Err e)
 refused_writes IsText IsLine taken (cli.Refused refusal) refuses = (refuses, refl)
 refused_writes IsText IsLine taken cli.Memory refuses = refl
-refused_writes IsText IsLine taken cli.Input refuses = absurd refuses
+refused_writes IsText IsLine taken (cli.Input unread) refuses = absurd refuses
 refused_writes IsText IsLine taken cli.Output refuses = absurd refuses
 
 -- the same, without the bytes of the source
@@ -203,7 +203,7 @@ pub judged_bytes : (IsText IsLine : List ℕ → List ℕ → Type 0) (known res
 judged_bytes IsText IsLine known rest taken after (Ok u) (front, short, e, used, does) = (front, short, tt, tt, does)
 judged_bytes IsText IsLine known rest taken after (Err (cli.Refused refusal)) (front, short, e, used, does) = (front, short, tt, tt, does)
 judged_bytes IsText IsLine known rest taken after (Err cli.Memory) w = tt
-judged_bytes IsText IsLine known rest taken after (Err cli.Input) w = tt
+judged_bytes IsText IsLine known rest taken after (Err (cli.Input unread)) w = tt
 judged_bytes IsText IsLine known rest taken after (Err cli.Output) (front, short, e, used, does) = (front, short, tt, tt, does)
 
 -- what is written as a text or a line of one kind is written as one of another kind
@@ -214,7 +214,7 @@ writes_as : (IsText IsOther IsLine IsOtherLine : List ℕ → Type 0) (taken aft
 writes_as IsText IsOther IsLine IsOtherLine taken after (Ok u) texts lines (text, is, took) = (text, texts text is, took)
 writes_as IsText IsOther IsLine IsOtherLine taken after (Err (cli.Refused refusal)) texts lines (is, same) = (lines (refusal_line refusal) is, same)
 writes_as IsText IsOther IsLine IsOtherLine taken after (Err cli.Memory) texts lines same = same
-writes_as IsText IsOther IsLine IsOtherLine taken after (Err cli.Input) texts lines same = same
+writes_as IsText IsOther IsLine IsOtherLine taken after (Err (cli.Input unread)) texts lines same = same
 writes_as IsText IsOther IsLine IsOtherLine taken after (Err cli.Output) texts lines (text, n, is, part, took) = (text, n, texts text is, part, took)
 
 pub text_as : (IsText IsOther IsLine IsOtherLine : List ℕ → List ℕ → Type 0) (known taken after : Option (List ℕ))
@@ -237,7 +237,7 @@ front_as IsText IsOther IsLine IsOtherLine known rest taken after (Ok u) texts l
 front_as IsText IsOther IsLine IsOtherLine known rest taken after (Err (cli.Refused refusal)) texts lines (front, short, e, used, does) =
     (front, short, e, used, writes_as (IsText front) (IsOther front) (IsLine front) (IsOtherLine front) taken after (Err (cli.Refused refusal)) (texts front) (lines front) does)
 front_as IsText IsOther IsLine IsOtherLine known rest taken after (Err cli.Memory) texts lines w = tt
-front_as IsText IsOther IsLine IsOtherLine known rest taken after (Err cli.Input) texts lines w = tt
+front_as IsText IsOther IsLine IsOtherLine known rest taken after (Err (cli.Input unread)) texts lines w = tt
 front_as IsText IsOther IsLine IsOtherLine known rest taken after (Err cli.Output) texts lines (front, short, e, used, does) =
     (front, short, e, used, writes_as (IsText front) (IsOther front) (IsLine front) (IsOtherLine front) taken after (Err cli.Output) (texts front) (lines front) does)
 

@@ -88,7 +88,7 @@ abbrev pub NamesResources : List Name → ℕ → CliFault → Type 0
 NamesResources names count (fault.Refused refusal) =
     IfSome refusal.detail (λ detail. IsResourcesText names count (string_bytes detail))
 NamesResources names count fault.Memory = Unit {0}
-NamesResources names count fault.Input = ⊥
+NamesResources names count (fault.Input unread) = ⊥
 NamesResources names count fault.Output = ⊥
 
 -- a line names the resource of the first given capacity that no resource has

@@ -4,8 +4,8 @@ use Rattle.plan_report.specs.Sheet.{Sheet}
 use Rattle.plan_report.specs.StartsText.{SaysStarts}
 use Rattle.plan_errors.specs.Faults.{refusal_line}
 use Rattle.plan_errors.specs.Output.{Refuses}
-use Rattle.plan_errors.specs.declared.context.Subject.{Subject}
-use Rattle.plan_errors.specs.declared.context.Subject.TheVariants as subject
+use Rattle.plan_errors.specs.declared.context.About.{About}
+use Rattle.plan_errors.specs.declared.context.About.TheVariants as subject
 use Rattle.plan_errors.specs.declared.fault.CliFault.{CliFault}
 use Rattle.plan_errors.specs.declared.fault.CliFault.TheVariants as fault
 use Rattle.plan_views.specs.ComparisonTables as views
@@ -23,11 +23,11 @@ abbrev pub IsNamedFault : List ℕ → CliFault → CliFault → Type 0
 IsNamedFault name (fault.Refused refusal) named =
     Refuses (λ told. told ≡ named_line name (refusal_line refusal)) named
 IsNamedFault name fault.Memory named = named ≡ fault.Memory
-IsNamedFault name fault.Input named = named ≡ fault.Input
+IsNamedFault name (fault.Input unread) named = named ≡ fault.Input unread
 IsNamedFault name fault.Output named = named ≡ fault.Output
 
 -- the argument with the starts of the schedule with this name
-abbrev pub subject_of : List ℕ → Subject
+abbrev pub subject_of : List ℕ → About
 subject_of name =
     if bytes_eq name (codes "A") then subject.StartsA else subject.StartsB
 

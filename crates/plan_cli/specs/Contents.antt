@@ -55,5 +55,5 @@ HasContents text contents.OrderList = IsOrderList text
 abbrev pub KnowsFile : List ℕ → CliFault → Type 0
 KnowsFile file (fault.Refused refusal) = HasContents file refusal.contents
 KnowsFile file fault.Memory = Unit {0}
-KnowsFile file fault.Input = Unit {0}
+KnowsFile file (fault.Input unread) = Unit {0}
 KnowsFile file fault.Output = Unit {0}

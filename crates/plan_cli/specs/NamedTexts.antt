@@ -1,7 +1,10 @@
 -- Tasks with texts in files of their own (docs/definitions.md, "Runs").
-use Rattle.std.specs.Prelude.{ℕ, ◌+◌, ◌≤◌, List, [], ◌∷◌, Option, Result, Err, length}
+use Rattle.std.specs.Prelude.{◌⊎◌, ℕ, ◌+◌, ◌≤◌, List, [], ◌∷◌, Option, Result, Err, length}
 use denote.Ref.{Bor}
 use Rattle.plan_psplib.specs.Plain.{longest_text}
+use Rattle.plan_errors.specs.Faults.{IsUnread}
+use Rattle.plan_errors.specs.declared.context.About.{About}
+use Rattle.plan_errors.specs.declared.context.About.TheVariants as about
 use Rattle.plan_errors.specs.declared.fault.CliFault.{CliFault}
 use Rattle.plan_errors.specs.declared.fault.CliFault.TheVariants as fault
 use Rattle.plan_cli.specs.Tasks.{AreRead, DoesTask}
@@ -62,7 +65,7 @@ with_text t role.Holidays text = with_holidays t text
 abbrev pub DoesWith : Option (List ℕ) → Result (Unit {0}) CliFault → (Bor (List ℕ) → Type 0)
     → Type 0
 DoesWith bytes (Err fault.Memory) Does = Unit {0}
-DoesWith bytes (Err fault.Input) Does = Unit {0}
+DoesWith bytes (Err (fault.Input unread)) Does = Unit {0}
 DoesWith bytes result Does =
     (text : Bor (List ℕ)) × (length text.now ≤ longest_text + 1) × AreRead text.now bytes
     × Does text
@@ -75,3 +78,16 @@ DoesTexts behind t rows [] file taken after result = DoesTask t rows file taken 
 DoesTexts behind t rows (named ∷ rest) file taken after result =
     DoesWith (behind named.name.now) result
     (λ text. DoesTexts behind (with_text t named.role text) rows rest file taken after result)
+
+-- the argument with a text of this role
+abbrev pub about_of : Role → About
+about_of role.Starts = about.Starts
+about_of role.StartsA = about.StartsA
+about_of role.StartsB = about.StartsB
+about_of role.Holidays = about.Holidays
+
+-- if a file can't be read, it is that of the project, the job shop or the list, or that of one of
+-- these texts
+abbrev pub IsUnreadAmong : List NamedText → CliFault → Type 0
+IsUnreadAmong [] e = IsUnread about.Plan e
+IsUnreadAmong (named ∷ rest) e = IsUnread (about_of named.role) e ⊎ IsUnreadAmong rest e

@@ -9,8 +9,8 @@ use Rattle.plan_table.specs.declared.fault.TableCode.TheVariants as table
 use Rattle.plan_errors.specs.Parts.{spaced}
 use Rattle.plan_errors.specs.declared.codes.Code.{Code}
 use Rattle.plan_errors.specs.declared.codes.Code.TheVariants as code
-use Rattle.plan_errors.specs.declared.context.Subject.{Subject}
-use Rattle.plan_errors.specs.declared.context.Subject.TheVariants as subject
+use Rattle.plan_errors.specs.declared.context.About.{About}
+use Rattle.plan_errors.specs.declared.context.About.TheVariants as subject
 
 -- the code of a check that a file fails
 abbrev pub file_code : FileCode → Code
@@ -59,6 +59,6 @@ table_code table.TooManySteps = code.ManySteps
 
 -- the argument that the error of a list is about: the option with the capacities if a given
 -- resource isn't in the list, or else the file
-abbrev pub table_subject : TableCode → Subject
+abbrev pub table_subject : TableCode → About
 table_subject table.NoResource = subject.Capacity
 table_subject _ = subject.List

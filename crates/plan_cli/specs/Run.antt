@@ -14,6 +14,8 @@ use Rattle.plan_gantt.specs.DateTable.{IsDateText}
 use Rattle.plan_gantt.specs.FaultText.{file_fault_text_of}
 use Rattle.plan_errors.specs.declared.fault.CliFault.{CliFault}
 use Rattle.plan_errors.specs.declared.fault.CliFault.TheVariants as fault
+use Rattle.plan_errors.specs.declared.context.About.TheVariants as about
+use Rattle.plan_errors.specs.Faults.{IsUnread}
 use Rattle.plan_errors.specs.Output.{HasSinkFailed, Writes}
 
 -- a call that makes a text makes one of this kind
@@ -36,7 +38,7 @@ abbrev pub ReadsFront : (List ℕ → List ℕ → Type 0) → (List ℕ → Lis
     → Option (List ℕ) → Option (List ℕ) → Option (List ℕ) → Option (List ℕ)
     → Result (Unit {0}) CliFault → Type 0
 ReadsFront IsText IsLine remaining rest taken after (Err fault.Memory) = Unit {0}
-ReadsFront IsText IsLine remaining rest taken after (Err fault.Input) = Unit {0}
+ReadsFront IsText IsLine remaining rest taken after (Err (fault.Input unread)) = Unit {0}
 ReadsFront IsText IsLine remaining rest taken after result =
     JudgesFront remaining rest (λ front. Writes (IsText front) (IsLine front) taken after result)
 
@@ -66,6 +68,8 @@ module _ {R W : Type 0} (source : sources.Ghosts R) (sink : sinks.Ghosts W)
         × (sink.faults writer_after ≡ sink.faults writer))
     -- a call of the reader that fails is reported as the error of the input
     pub heard : IfErr result (λ e.
-        (e ≡ fault.Input) ⊎ (source.faults reader_after ≡ source.faults reader))
-    pub input : IsErrOf result fault.Input → source.faults reader_after ≡ source.faults reader + 1
+        (e ≡ fault.Input about.Plan) ⊎ (source.faults reader_after ≡ source.faults reader))
+    pub unread : IfErr result (IsUnread about.Plan)
+    pub input : IsErrOf result (fault.Input about.Plan)
+        → source.faults reader_after ≡ source.faults reader + 1
     pub output : IsErrOf result fault.Output → HasSinkFailed sink writer writer_after

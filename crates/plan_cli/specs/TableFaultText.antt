@@ -1,10 +1,13 @@
 -- The errors of a table as lines of text (docs/definitions.md, "Runs").
-use Rattle.std.specs.Prelude.{ℕ, List, [], ◌∷◌, ◌++◌, codes}
+use Rattle.std.specs.Prelude.{◌≡◌, ℕ, List, [], ◌∷◌, ◌++◌, Option, Some, None, codes}
+use Rattle.std.specs.Prelude.{option_map, string_bytes}
 use Rattle.std.specs.Fmt.{decimal}
 use Rattle.std.specs.Str.Lossy.{utf8_lossy}
 use Rattle.plan_table.specs.declared.fault.TableCode.{TableCode}
 use Rattle.plan_table.specs.declared.fault.TableCode.TheVariants as code
 use Rattle.plan_table.specs.Reading.{Fault}
+use Rattle.plan_errors.specs.declared.fault.CliFault.{CliFault}
+use Rattle.plan_errors.specs.declared.fault.CliFault.TheVariants as fault
 
 -- words, the number of a line, and words behind it
 abbrev pub lined : List ℕ → ℕ → List ℕ → List ℕ
@@ -37,3 +40,28 @@ line_by code.TooManySteps line word = codes "T15 steps " ++ word
 -- the line of an error; a byte of its word that isn't UTF-8 becomes the replacement character
 abbrev pub fault_text_of : Fault → List ℕ
 fault_text_of f = line_by f.code f.line (utf8_lossy f.word)
+
+-- the sentence that a word isn't a duration or a time
+abbrev pub duration_sentence : List ℕ → List ℕ
+duration_sentence word = codes "\"" ++ word ++ codes "\" isn't a whole number of at most 10000"
+
+-- the sentence that quotes a cell without a duration or a time, unless the cell is empty
+abbrev pub quoted_duration : List ℕ → Option (List ℕ)
+quoted_duration [] = None
+quoted_duration (byte ∷ cell) = Some (duration_sentence (utf8_lossy (byte ∷ cell)))
+
+-- the sentence that quotes the cell of an error, if the cell explains it
+abbrev pub quoted_by : TableCode → List ℕ → Option (List ℕ)
+quoted_by code.BadDuration word = quoted_duration word
+quoted_by _ word = None
+
+abbrev pub quoted_cell : Fault → Option (List ℕ)
+quoted_cell f = quoted_by f.code f.word
+
+-- the detail of an error quotes the cell of a list that explains it
+abbrev pub QuotesCell : Fault → CliFault → Type 0
+QuotesCell f (fault.Refused refusal) =
+    option_map string_bytes refusal.detail ≡ quoted_cell f
+QuotesCell f fault.Memory = Unit {0}
+QuotesCell f (fault.Input unread) = ⊥
+QuotesCell f fault.Output = ⊥

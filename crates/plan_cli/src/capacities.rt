@@ -8,7 +8,7 @@ ghost use Rattle.plan_errors.specs.Output.{Refuses};
 ghost use Rattle.plan_errors.specs.Parts.{parts_text};
 ghost use Rattle.plan_cli.specs.Capacities as spec;
 
-use plan_errors::{CliFault, Code, Part, Subject, refuse};
+use plan_errors::{About, CliFault, Code, Part, refuse};
 use plan_table::{NameLine, first_name};
 use std::alloc::{AllocError, Global};
 use std::fmt::Write;
@@ -175,16 +175,16 @@ fn resources(alloc: Global, names: &[NameLine<'_>], count: usize) -> Result<Stri
 // Returns the error of a name that no resource has, without the resources that there are.
 fn plain_unknown(alloc: Global, name: &str) -> CliFault
     ensures told { Refuses (spec.SaysUnknown name.now) result }
-    ensures about { IsAbout Subject.Capacity result }
+    ensures about { IsAbout About.Capacity result }
 {
-    refuse(Code::NoResource, Subject::Capacity, name_parts(alloc, name))
+    refuse(Code::NoResource, About::Capacity, name_parts(alloc, name))
 }
 
 // Returns the error of a name that none of so many resources has.
 #[tactic(auto, using(crate::proofs::CapacityLemmas::unknown_told, crate::proofs::CapacityLemmas::unknown_about, crate::proofs::CapacityLemmas::unknown_named))]
 fn unknown(alloc: Global, names: &[NameLine<'_>], name: &str, count: usize) -> CliFault
     ensures told { Refuses (spec.SaysUnknown name.now) result }
-    ensures about { IsAbout Subject.Capacity result }
+    ensures about { IsAbout About.Capacity result }
     ensures detail { spec.NamesResources (map name_of names.now) count result }
 {
     match resources(alloc, names, count) {

@@ -4,6 +4,7 @@ ghost use Rattle.std.specs.Prelude.{IfOk, IfErr};
 ghost use Rattle.plan_errors.specs.Output.{Refuses};
 ghost use Rattle.plan_cli.specs.Documents.{IsOfSubject, RefusesSubject, HasFit};
 ghost use Rattle.plan_cli.specs.Commands as spec;
+ghost use Rattle.plan_cli.specs.Details.{NamesVerdict};
 ghost use Rattle.plan_cli.specs.Views.{IfView};
 
 use crate::calendars::Dates;
@@ -12,6 +13,7 @@ use crate::comparisons::{Pair, comparison_of};
 use crate::days::days_from;
 use crate::documents::{Plan, Subject, plan_of, read_document};
 use crate::origins::Origin;
+use crate::sentences::with_names;
 use crate::solutions::best_of;
 use crate::solver::solution_view;
 use crate::tables::schedule_of;
@@ -55,6 +57,27 @@ fn plan_view<V: ProofWatcher + SolveWatcher, L: Log>(
     }
 }
 
+// Returns what a command shows for a plan. Its error has the names in the file of the plan.
+#[tactic(auto, using(crate::proofs::SentenceLemmas::detailed_refuses))]
+fn named_view<V: ProofWatcher + SolveWatcher, L: Log>(
+    alloc: Global,
+    command: Command<'_>,
+    subject: Subject<'_>,
+    file: &[u8],
+    plan: &Plan<'_>,
+    watcher: &mut V,
+    log: &mut L,
+) -> Result<View, CliFault>
+    ensures made { IfView result (spec.IsPlanView command.entry plan.now) }
+    ensures refused { IfErr result (Refuses (spec.IsPlanLine command.entry plan.now)) }
+    ensures names { IfErr result (NamesVerdict subject.entry file.now) }
+{
+    match plan_view(alloc, command, plan, watcher, log) {
+        Ok(view) => Ok(view),
+        Err(fault) => Err(with_names(alloc, subject, file, fault)),
+    }
+}
+
 /// Returns what a command shows for the project or the job shop in a file.
 pub(crate) fn subject_view<V: ProofWatcher + SolveWatcher, L: Log>(
     alloc: Global,
@@ -71,5 +94,5 @@ pub(crate) fn subject_view<V: ProofWatcher + SolveWatcher, L: Log>(
 {
     let document = read_document(alloc, subject, file)?;
     let plan = plan_of(alloc, &document, file)?;
-    plan_view(alloc, command, &plan, watcher, log)
+    named_view(alloc, command, subject, file, &plan, watcher, log)
 }

@@ -15,7 +15,7 @@ use crate::documents::Plan;
 use crate::plan_refs::plan_ref;
 use crate::starts::starts_of;
 use crate::views::View;
-use plan_errors::{CliFault, Part, Refusal, Subject};
+use plan_errors::{About, CliFault, Part, Refusal};
 use plan_formats::Table;
 use plan_views::comparison_view;
 use std::alloc::{AllocError, Global};
@@ -28,13 +28,13 @@ pub struct Pair<'a> {
 }
 
 // Returns the argument with the starts of a schedule.
-fn subject_of(name: &str) -> Subject
+fn subject_of(name: &str) -> About
     ensures { result ≡ spec.subject_of name.now }
 {
     if name == "A" {
-        Subject::StartsA
+        About::StartsA
     } else {
-        Subject::StartsB
+        About::StartsB
     }
 }
 
@@ -59,7 +59,7 @@ fn named_fault(fault: CliFault, name: &'static str) -> CliFault
     match fault {
         CliFault::Refused(refusal) => named_refusal(refusal, name),
         CliFault::Memory => CliFault::Memory,
-        CliFault::Input => CliFault::Input,
+        CliFault::Input(unread) => CliFault::Input(unread),
         CliFault::Output => CliFault::Output,
     }
 }

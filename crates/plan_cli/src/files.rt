@@ -4,16 +4,17 @@ ghost use Rattle.std.specs.Prelude.{◌≡◌, ◌⊎◌, ◌+◌, ◌≤◌, le
 ghost use Rattle.std.specs.Prelude.{IfOk, IfErr, IsErrOf, OnOk};
 ghost use Rattle.plan_io.specs.Devices.{most_calls};
 ghost use Rattle.plan_psplib.specs.Plain.{longest_text};
+ghost use Rattle.plan_errors.specs.Faults.{IsUnread};
 ghost use Rattle.plan_errors.specs.Output.{HasSinkFailed};
 ghost use Rattle.plan_cli.specs.Tasks.{DoesTask, AreRead, bytes_behind};
-ghost use Rattle.plan_cli.specs.NamedTexts.{DoesTexts};
+ghost use Rattle.plan_cli.specs.NamedTexts.{DoesTexts, IsUnreadAmong};
 
 use crate::inputs::{Inputs, SystemInputs};
 use crate::named_texts::{NamedText, with_text};
 use crate::runs::run_task;
 use crate::tasks::{Rows, Task};
 use crate::watchers::{Log, ProofWatcher, SolveWatcher, Unlogged};
-use plan_errors::{CliFault, read_file};
+use plan_errors::{About, CliFault, read_file};
 use plan_io::Sink;
 use std::alloc::Global;
 use std::rt::Files;
@@ -21,6 +22,7 @@ use std::rt::Files;
 /// Runs a task on the file with this name, or on standard input if the name is `-`. The watcher is
 /// called during a search of `prove` or `solve`. A file that can't be opened or read is
 /// [`CliFault::Input`].
+#[tactic(auto, using(plan_errors::proofs::RefusalLemmas::input_unread))]
 pub fn run_on_named<I: Inputs, W: Sink, V: ProofWatcher + SolveWatcher, L: Log>(
     alloc: Global,
     inputs: &I,
@@ -35,6 +37,8 @@ pub fn run_on_named<I: Inputs, W: Sink, V: ProofWatcher + SolveWatcher, L: Log>(
     ensures does { DoesTask task.entry rows (bytes_behind I.Inputs inputs.now path.now)
         (W.taken writer.old) (W.taken writer.new) result }
     ensures writes { W.calls writer.new ≤ W.calls writer.old + most_calls }
+    // If a file can't be read, the error tells which one.
+    ensures unread { IfErr result (IsUnread About.Plan) }
     // With any other error than that of the output, nothing is written.
     ensures quiet { IfErr result (λ e. (e ≡ CliFault.Output) ⊎ (writer.new ≡ writer.old)) }
     ensures fine { OnOk result (W.faults writer.new ≡ W.faults writer.old) }
@@ -44,28 +48,35 @@ pub fn run_on_named<I: Inputs, W: Sink, V: ProofWatcher + SolveWatcher, L: Log>(
         let mut reader = inputs.standard();
         return run_task(alloc, task, rows, watcher, log, &mut reader, writer);
     }
-    let mut reader = inputs.open(path)?;
+    let mut reader = inputs.open(path, About::Plan)?;
     run_task(alloc, task, rows, watcher, log, &mut reader, writer)
 }
 
 /// Reads the file with this name, or standard input if the name is `-`: at most one byte more than
-/// the longest text has. A file that can't be opened or read is [`CliFault::Input`].
-pub fn read_named<I: Inputs>(alloc: Global, inputs: &I, name: &str) -> Result<Vec<u8>, CliFault>
+/// the longest text has. A file that can't be opened or read is [`CliFault::Input`] of this
+/// argument.
+pub fn read_named<I: Inputs>(
+    alloc: Global,
+    inputs: &I,
+    about: About,
+    name: &str,
+) -> Result<Vec<u8>, CliFault>
     ensures short { IfOk result (λ bytes. length bytes.items ≤ longest_text + 1) }
     ensures bytes { IfOk result (λ read.
         AreRead read.items (bytes_behind I.Inputs inputs.now name.now)) }
-    ensures refused { IfErr result (λ e. (e ≡ CliFault.Memory) ⊎ (e ≡ CliFault.Input)) }
+    ensures refused { IfErr result (λ e. (e ≡ CliFault.Memory) ⊎ (e ≡ CliFault.Input about)) }
 {
     if name == "-" {
-        return read_file(alloc, &mut inputs.standard());
+        return read_file(alloc, &mut inputs.standard(), about);
     }
-    read_file(alloc, &mut inputs.open(name)?)
+    read_file(alloc, &mut inputs.open(name, about)?, about)
 }
 
 /// Runs a task on a file and on the files of texts with a role in the task. One of all names may
 /// be `-` for standard input. The texts are read first, in their order. Each replaces the text with
 /// its role in the task. The watcher is called during a search. A file that can't be opened or read
-/// is [`CliFault::Input`].
+/// is [`CliFault::Input`] of its argument.
+#[tactic(auto, using(plan_errors::proofs::RefusalLemmas::input_unread))]
 pub fn run_on_texts<I: Inputs, W: Sink, V: ProofWatcher + SolveWatcher>(
     alloc: Global,
     inputs: &I,
@@ -81,6 +92,8 @@ pub fn run_on_texts<I: Inputs, W: Sink, V: ProofWatcher + SolveWatcher>(
         (bytes_behind I.Inputs inputs.now path.now)
         (W.taken writer.old) (W.taken writer.new) result }
     ensures writes { W.calls writer.new ≤ W.calls writer.old + most_calls }
+    // If a file can't be read, the error tells which one.
+    ensures unread { IfErr result (IsUnreadAmong texts.now) }
     // With any other error than that of the output, nothing is written.
     ensures quiet { IfErr result (λ e. (e ≡ CliFault.Output) ⊎ (writer.new ≡ writer.old)) }
     ensures fine { OnOk result (W.faults writer.new ≡ W.faults writer.old) }
@@ -98,7 +111,7 @@ pub fn run_on_texts<I: Inputs, W: Sink, V: ProofWatcher + SolveWatcher>(
             writer,
         );
     };
-    let text = read_named(alloc, inputs, first.name)?;
+    let text = read_named(alloc, inputs, first.role.about(), first.name)?;
     let task = with_text(task, first.role, &text);
     run_on_texts(alloc, inputs, task, rows, watcher, rest, path, writer)
 }
@@ -116,6 +129,8 @@ pub fn run_on_file<R: Files + Input + AllocGlobal, W: Sink, V: ProofWatcher + So
     // The text of the task is written for the bytes that were read.
     ensures does { DoesTask task.entry rows None (W.taken writer.old) (W.taken writer.new) result }
     ensures writes { W.calls writer.new ≤ W.calls writer.old + most_calls }
+    // If a file can't be read, the error tells which one.
+    ensures unread { IfErr result (IsUnread About.Plan) }
     // With any other error than that of the output, nothing is written.
     ensures quiet { IfErr result (λ e. (e ≡ CliFault.Output) ⊎ (writer.new ≡ writer.old)) }
     ensures fine { OnOk result (W.faults writer.new ≡ W.faults writer.old) }
@@ -147,6 +162,8 @@ pub fn run_on_files<R: Files + Input + AllocGlobal, W: Sink, V: ProofWatcher + S
     ensures does { DoesTexts (λ name. None) task.entry rows texts.now None
         (W.taken writer.old) (W.taken writer.new) result }
     ensures writes { W.calls writer.new ≤ W.calls writer.old + most_calls }
+    // If a file can't be read, the error tells which one.
+    ensures unread { IfErr result (IsUnreadAmong texts.now) }
     // With any other error than that of the output, nothing is written.
     ensures quiet { IfErr result (λ e. (e ≡ CliFault.Output) ⊎ (writer.new ≡ writer.old)) }
     ensures fine { OnOk result (W.faults writer.new ≡ W.faults writer.old) }

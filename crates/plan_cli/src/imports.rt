@@ -12,7 +12,7 @@ ghost use Rattle.plan_cli.specs.Run.{IfText};
 ghost use Rattle.plan_cli.specs.ImportRun as spec;
 
 use crate::table_faults::table_refusal;
-use plan_errors::{CliFault, Code, Subject, refuse_words};
+use plan_errors::{About, CliFault, Code, refuse_words};
 use plan_table::{
     Override, ReadError, ShopTable, Table, TextFault, project_text, read_shop_table,
     read_table_with, shop_text,
@@ -23,7 +23,7 @@ use std::alloc::Global;
 fn long_refusal(alloc: Global) -> CliFault
     ensures { Refuses (λ line. line ≡ codes "T1 too long") result }
 {
-    refuse_words(alloc, Code::LongTable, Subject::List, "too long")
+    refuse_words(alloc, Code::LongTable, About::List, "too long")
 }
 
 // Reads a table, with capacities that are given.

@@ -8,7 +8,7 @@ ghost use Rattle.plan_errors.specs.Output.{Refuses};
 ghost use Rattle.plan_errors.specs.Parts.{parts_text};
 ghost use Rattle.plan_cli.specs.VerdictText.{infeasible_line};
 
-use plan_errors::{CliFault, Code, Key, Part, Subject, refuse};
+use plan_errors::{About, CliFault, Code, Key, Part, refuse};
 use plan_sgs::Verdict;
 use plan_shop::Shop;
 use std::alloc::{AllocError, Global};
@@ -80,11 +80,11 @@ fn verdict_parts(alloc: Global, verdict: Verdict) -> Result<Vec<Part>, AllocErro
 pub(crate) fn infeasible_refusal(alloc: Global, verdict: Verdict) -> CliFault
     ensures told { Refuses
         (λ line. line ≡ infeasible_line (sentences.sentence_of verdict)) result }
-    ensures about { IsAbout Subject.Starts result }
+    ensures about { IsAbout About.Starts result }
 {
     refuse(
         Code::Infeasible,
-        Subject::Starts,
+        About::Starts,
         verdict_parts(alloc, verdict),
     )
 }
@@ -175,11 +175,11 @@ fn shop_verdict_parts(alloc: Global, shop: &Shop, verdict: Verdict) -> Result<Ve
 pub(crate) fn shop_infeasible_refusal(alloc: Global, shop: &Shop, verdict: Verdict) -> CliFault
     ensures told { Refuses
         (λ line. line ≡ infeasible_line (sentences.shop_sentence_of shop.now verdict)) result }
-    ensures about { IsAbout Subject.Starts result }
+    ensures about { IsAbout About.Starts result }
 {
     refuse(
         Code::Infeasible,
-        Subject::Starts,
+        About::Starts,
         shop_verdict_parts(alloc, shop, verdict),
     )
 }

@@ -3,7 +3,7 @@
 ghost use Rattle.std.specs.Prelude.{◌≡◌, ◌⊎◌, ◌↔◌, ℕ, List, Option, Some, IfOk, IfErr, IfSome};
 ghost use Rattle.std.specs.IoError.{error_kind};
 
-use plan_errors::CliFault;
+use plan_errors::{About, CliFault};
 use plan_io::{Source, StdSource};
 use std::fs;
 use std::io::{self, ErrorKind};
@@ -21,11 +21,12 @@ pub trait Inputs {
     /// The bytes of standard input, if they are known.
     ghost standard_bytes: { Self → Option (List ℕ) };
 
-    /// Opens the file with this name, at its first byte.
-    fn open(&self, path: &str) -> Result<Self::File, CliFault>
+    /// Opens the file with this name, at its first byte. It is this argument.
+    fn open(&self, path: &str, about: About) -> Result<Self::File, CliFault>
         ensures opened { IfOk result (λ file. IfSome (file_bytes self.now path.now) (λ bytes.
             Self.File.remaining file ≡ Some bytes)) }
-        ensures refused { IfErr result (λ e. (e ≡ CliFault.Memory) ⊎ (e ≡ CliFault.Input)) };
+        ensures refused { IfErr result (λ e.
+            (e ≡ CliFault.Memory) ⊎ (e ≡ CliFault.Input about)) };
 
     /// Returns standard input.
     fn standard(&self) -> Self::Standard
@@ -39,16 +40,16 @@ pub struct SystemInputs<'a, R> {
     rt: &'a R,
 }
 
-// Returns the error of a file that can't be opened.
-fn open_fault(error: &io::Error) -> CliFault
+// Returns the error of a file that can't be opened. It is this argument.
+fn open_fault(error: &io::Error, about: About) -> CliFault
     ensures memory { (result ≡ CliFault.Memory)
         ↔ (error_kind error.now ≡ ErrorKind.OutOfMemory) }
-    ensures input { (result ≡ CliFault.Memory) ⊎ (result ≡ CliFault.Input) }
+    ensures input { (result ≡ CliFault.Memory) ⊎ (result ≡ CliFault.Input about) }
 {
     if error.kind() == ErrorKind::OutOfMemory {
         return CliFault::Memory;
     }
-    CliFault::Input
+    CliFault::Input(about)
 }
 
 impl<'a, R> SystemInputs<'a, R> {
@@ -69,8 +70,8 @@ impl<'a, R: Files + Input> Inputs for SystemInputs<'a, R> {
 
     ghost standard_bytes = { λ _. None };
 
-    fn open(&self, path: &str) -> Result<StdSource<R::File>, CliFault> {
-        let file = fs::open(self.rt, path).map_err(|error| open_fault(&error))?;
+    fn open(&self, path: &str, about: About) -> Result<StdSource<R::File>, CliFault> {
+        let file = fs::open(self.rt, path).map_err(|error| open_fault(&error, about))?;
         Ok(StdSource::new(file))
     }
 

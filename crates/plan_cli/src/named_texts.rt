@@ -7,6 +7,7 @@ use crate::calendars::Dates;
 use crate::comparisons::Pair;
 use crate::origins::Origin;
 use crate::tasks::Task;
+use plan_errors::About;
 
 /// The use of a text in a task.
 #[derive(Clone, Copy, Debug, PartialEq, Eq)]
@@ -19,6 +20,20 @@ pub enum Role {
     StartsB,
     /// The holidays of a calendar.
     Holidays,
+}
+
+impl Role {
+    // Returns the argument with the text.
+    pub(crate) fn about(self) -> About
+        ensures { result ≡ spec.about_of self }
+    {
+        match self {
+            Role::Starts => About::Starts,
+            Role::StartsA => About::StartsA,
+            Role::StartsB => About::StartsB,
+            Role::Holidays => About::Holidays,
+        }
+    }
 }
 
 /// A text in the file with this name, or in standard input if the name is `-`.

@@ -15,7 +15,7 @@ ghost use Rattle.plan_cli.specs.Views.{IfView};
 use crate::documents::Plan;
 use crate::shops::{open_shop, read_instance};
 use crate::views::View;
-use plan_errors::{CliFault, Code, Subject, refuse_words};
+use plan_errors::{About, CliFault, Code, refuse_words};
 use plan_formats::Table;
 use plan_orlib::ShopDoc;
 use plan_prove::{Proof, ProveFault, Watcher, parse_nodes, prove_watched};
@@ -59,7 +59,7 @@ fn proved<V: Watcher>(
 fn no_nodes(alloc: Global) -> CliFault
     ensures { Refuses (λ line. line ≡ codes "S7 nodes") result }
 {
-    refuse_words(alloc, Code::BadNodes, Subject::Limit, "nodes")
+    refuse_words(alloc, Code::BadNodes, About::Limit, "nodes")
 }
 
 // Returns the proof for a file's job shop.

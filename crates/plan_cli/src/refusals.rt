@@ -16,7 +16,7 @@ ghost use Rattle.plan_cli.specs.DaysRun.{TellsDaysFault};
 ghost use Rattle.plan_cli.specs.Refusals as spec;
 
 use crate::contents::contents_of;
-use plan_errors::{CliFault, Code, Key, Part, Subject, refuse, refuse_words};
+use plan_errors::{About, CliFault, Code, Key, Part, refuse, refuse_words};
 use plan_exact::ExactFault;
 use plan_gantt::{CalendarFault, DaysFault};
 use plan_holidays::HolidayFault;
@@ -76,14 +76,14 @@ pub(crate) fn place_parts(alloc: Global, fault: &FileFault) -> Result<Vec<Part>,
 // Returns the error of a file without its contents.
 fn plain_refusal(alloc: Global, fault: &FileFault) -> CliFault
     ensures told { Refuses (Tells fault.now) result }
-    ensures about { IsAbout Subject.Plan result }
+    ensures about { IsAbout About.Plan result }
 {
     if fault.code == FileCode::Memory {
         return CliFault::Memory;
     }
     refuse(
         file_code(fault.code),
-        Subject::Plan,
+        About::Plan,
         place_parts(alloc, fault),
     )
 }
@@ -92,7 +92,7 @@ fn plain_refusal(alloc: Global, fault: &FileFault) -> CliFault
 #[tactic(auto, using(crate::proofs::RefusalLemmas::known_refused))]
 pub fn file_refusal(alloc: Global, fault: &FileFault, file: &[u8]) -> CliFault
     ensures told { Refuses (Tells fault.now) result }
-    ensures about { IsAbout Subject.Plan result }
+    ensures about { IsAbout About.Plan result }
     ensures contents { KnowsFile file.now result }
 {
     plain_refusal(alloc, fault).with_contents(contents_of(alloc, file))
@@ -111,11 +111,11 @@ fn need_parts(alloc: Global, activity: u32, resource: u32) -> Result<Vec<Part>, 
 /// Returns the error of a project with a need above a capacity.
 pub fn need_refusal(alloc: Global, activity: u32, resource: u32) -> CliFault
     ensures told { Refuses (λ line. line ≡ need_text activity resource) result }
-    ensures about { IsAbout Subject.Plan result }
+    ensures about { IsAbout About.Plan result }
 {
     refuse(
         Code::NeedsTooMuch,
-        Subject::Plan,
+        About::Plan,
         need_parts(alloc, activity, resource),
     )
 }
@@ -123,9 +123,9 @@ pub fn need_refusal(alloc: Global, activity: u32, resource: u32) -> CliFault
 /// Returns the error of a name that no rule has.
 pub(crate) fn rule_refusal(alloc: Global) -> CliFault
     ensures told { Refuses (λ line. line ≡ codes "S3 unknown rule") result }
-    ensures about { IsAbout Subject.Rule result }
+    ensures about { IsAbout About.Rule result }
 {
-    refuse_words(alloc, Code::UnknownRule, Subject::Rule, "unknown rule")
+    refuse_words(alloc, Code::UnknownRule, About::Rule, "unknown rule")
 }
 
 // Returns a machine that is closed.
@@ -147,7 +147,7 @@ pub(crate) fn shop_refusal(alloc: Global, fault: &ShopFault) -> CliFault
         ShopFault::MachineClosed(machine) => {
             refuse(
                 Code::MachineClosed,
-                Subject::Plan,
+                About::Plan,
                 closed_parts(alloc, machine),
             )
         }
@@ -160,8 +160,8 @@ pub(crate) fn exact_refusal(alloc: Global, fault: &ExactFault) -> CliFault
 {
     match fault {
         ExactFault::NoMemory => CliFault::Memory,
-        ExactFault::TooLarge => refuse_words(alloc, Code::TooLarge, Subject::Plan, "too large"),
-        ExactFault::BadBudget => refuse_words(alloc, Code::BadBudget, Subject::Limit, "budget"),
+        ExactFault::TooLarge => refuse_words(alloc, Code::TooLarge, About::Plan, "too large"),
+        ExactFault::BadBudget => refuse_words(alloc, Code::BadBudget, About::Limit, "budget"),
     }
 }
 
@@ -170,15 +170,10 @@ pub(crate) fn calendar_refusal(alloc: Global, fault: CalendarFault) -> CliFault
     ensures { Refuses (TellsCalendarFault fault) result }
 {
     match fault {
-        CalendarFault::BadDate => refuse_words(alloc, Code::BadDate, Subject::FirstDate, "date"),
-        CalendarFault::BadDays => refuse_words(alloc, Code::BadDays, Subject::Weekdays, "days"),
+        CalendarFault::BadDate => refuse_words(alloc, Code::BadDate, About::FirstDate, "date"),
+        CalendarFault::BadDays => refuse_words(alloc, Code::BadDays, About::Weekdays, "days"),
         CalendarFault::BeyondCalendar => {
-            refuse_words(
-                alloc,
-                Code::BeyondCalendar,
-                Subject::Plan,
-                "beyond calendar",
-            )
+            refuse_words(alloc, Code::BeyondCalendar, About::Plan, "beyond calendar")
         }
     }
 }
@@ -194,14 +189,14 @@ fn date_parts(alloc: Global, line: u64) -> Result<Vec<Part>, AllocError>
 /// Returns the error of a text of holidays.
 pub(crate) fn holiday_refusal(alloc: Global, fault: HolidayFault) -> CliFault
     ensures told { Refuses (TellsHolidayFault fault) result }
-    ensures about { IsAbout Subject.Holidays result }
+    ensures about { IsAbout About.Holidays result }
 {
     match fault {
         HolidayFault::BadLine(line) => {
-            refuse(Code::BadHoliday, Subject::Holidays, date_parts(alloc, line))
+            refuse(Code::BadHoliday, About::Holidays, date_parts(alloc, line))
         }
         HolidayFault::TooMany => {
-            refuse_words(alloc, Code::ManyHolidays, Subject::Holidays, "holidays")
+            refuse_words(alloc, Code::ManyHolidays, About::Holidays, "holidays")
         }
         HolidayFault::Memory => CliFault::Memory,
     }

@@ -3,6 +3,7 @@
 ghost use Rattle.std.specs.Prelude.{◌≡◌, ◌⊎◌, ◌+◌, ◌≤◌, OnOk, IfErr, IfSome, IsErrOf};
 ghost use Rattle.plan_io.specs.Devices.{most_calls};
 ghost use Rattle.plan_gantt.specs.FirstFaults.{TellsFirstFailing};
+ghost use Rattle.plan_errors.specs.Faults.{IsUnread};
 ghost use Rattle.plan_errors.specs.Output.{HasSinkFailed, Writes};
 ghost use Rattle.plan_cli.specs.Run.{IsDateTableOf, ReadsFront, Runs};
 ghost use Rattle.plan_cli.specs.ScheduleRun.{IsScheduleTableOf, TellsWhyNoSchedule};
@@ -15,11 +16,12 @@ use crate::capacities::Capacity;
 use crate::documents::Subject;
 use crate::tasks::{Rows, Task, shown_text};
 use crate::watchers::{Log, ProofWatcher, SolveWatcher, Unlogged, Unwatched};
-use plan_errors::{CliFault, read_file, write_text};
+use plan_errors::{About, CliFault, read_file, write_text};
 use plan_io::{Sink, Source};
 use std::alloc::Global;
 
 // Reads a file, and writes the text of a task for it.
+#[tactic(auto, using(plan_errors::proofs::RefusalLemmas::refuses_unread, plan_errors::proofs::RefusalLemmas::read_unread, plan_errors::proofs::RefusalLemmas::output_unread,))]
 fn answer<R: Source, W: Sink, V: ProofWatcher + SolveWatcher, L: Log>(
     alloc: Global,
     task: Task<'_>,
@@ -41,12 +43,13 @@ fn answer<R: Source, W: Sink, V: ProofWatcher + SolveWatcher, L: Log>(
     ensures fine { OnOk result ((R.faults reader.new ≡ R.faults reader.old)
         × (W.faults writer.new ≡ W.faults writer.old)) }
     ensures heard { IfErr result (λ e.
-        (e ≡ CliFault.Input) ⊎ (R.faults reader.new ≡ R.faults reader.old)) }
-    ensures input { IsErrOf result CliFault.Input →
+        (e ≡ CliFault.Input About.Plan) ⊎ (R.faults reader.new ≡ R.faults reader.old)) }
+    ensures unread { IfErr result (IsUnread About.Plan) }
+    ensures input { IsErrOf result (CliFault.Input About.Plan) →
         R.faults reader.new ≡ R.faults reader.old + 1 }
     ensures output { IsErrOf result CliFault.Output → HasSinkFailed W.Sink writer.old writer.new }
 {
-    let file = read_file(alloc, reader)?;
+    let file = read_file(alloc, reader, About::Plan)?;
     let text = shown_text(alloc, task, rows, &file, watcher, log)?;
     write_text(writer, &text)
 }

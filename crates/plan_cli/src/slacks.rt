@@ -7,14 +7,17 @@ ghost use Rattle.plan_errors.specs.Output.{Refuses};
 ghost use Rattle.plan_cli.specs.TaskViews.{IsSlackViewOf};
 ghost use Rattle.plan_cli.specs.Views.{IfView, view_of};
 ghost use Rattle.plan_cli.specs.Plans.{IsOfProject, PlannedWith, RefusesFile, RefusesWith};
+ghost use Rattle.plan_cli.specs.Details.{NamesVerdict};
 ghost use Rattle.plan_cli.specs.SlackRun as spec;
 
 use crate::capacities::{Capacity, replaced};
+use crate::documents::Subject;
 use crate::infeasible::infeasible_refusal;
 use crate::projects::{instance_with, read_project};
+use crate::sentences::with_names;
 use crate::starts::read_starts;
 use crate::views::View;
-use plan_errors::{CliFault, Code, Subject, refuse_words};
+use plan_errors::{About, CliFault, Code, refuse_words};
 use plan_psplib::ProjectDoc;
 use plan_report::SlackFault;
 use plan_sgs::Instance;
@@ -29,7 +32,7 @@ fn slack_refusal(alloc: Global, fault: SlackFault) -> CliFault
     match fault {
         SlackFault::NoMemory => CliFault::Memory,
         SlackFault::NotFeasible(verdict) => infeasible_refusal(alloc, verdict),
-        SlackFault::Late => refuse_words(alloc, Code::LateEnd, Subject::Starts, "late"),
+        SlackFault::Late => refuse_words(alloc, Code::LateEnd, About::Starts, "late"),
     }
 }
 
@@ -42,6 +45,26 @@ fn instance_slacks(alloc: Global, listed: &[u8], instance: &Instance) -> Result<
     match slack_view(alloc, instance, &starts) {
         Ok(table) => Ok(View::Table(table)),
         Err(fault) => Err(slack_refusal(alloc, fault)),
+    }
+}
+
+// Returns the table of slacks for the starts in a text, for an instance. Its error has the names in
+// the file of the instance.
+#[tactic(auto, using(crate::proofs::SentenceLemmas::detailed_refuses))]
+fn named_slacks(
+    alloc: Global,
+    listed: &[u8],
+    instance: &Instance,
+    subject: Subject<'_>,
+    file: &[u8],
+) -> Result<View, CliFault>
+    ensures made { IfView result (IsSlackViewOf listed.now instance.now) }
+    ensures refused { IfErr result (Refuses (spec.TellsBadSlack listed.now instance.now)) }
+    ensures names { IfErr result (NamesVerdict subject.entry file.now) }
+{
+    match instance_slacks(alloc, listed, instance) {
+        Ok(view) => Ok(view),
+        Err(fault) => Err(with_names(alloc, subject, file, fault)),
     }
 }
 
@@ -60,7 +83,7 @@ fn planned_slacks(
         (spec.TellsNoSlack listed.now (planned project.now capacities.now))) }
 {
     let instance = instance_with(alloc, project, capacities, file)?;
-    instance_slacks(alloc, listed, &instance)
+    named_slacks(alloc, listed, &instance, Subject::Project(&[]), file)
 }
 
 // Returns the table of slacks for a project with some capacities replaced.

@@ -14,7 +14,7 @@ ghost use Rattle.plan_cli.specs.Starts as spec;
 
 use crate::documents::Plan;
 use crate::refusals::{file_code, place_parts};
-use plan_errors::{CliFault, Part, Subject, refuse};
+use plan_errors::{About, CliFault, Part, refuse};
 use plan_net::Network;
 use plan_psplib::{FileCode, FileFault, ReadError};
 use plan_report::{read_shop_starts_text, read_starts_text};
@@ -34,14 +34,14 @@ fn starts_parts(alloc: Global, fault: &FileFault) -> Result<Vec<Part>, AllocErro
 // Returns the error of a text of starts.
 fn starts_refusal(alloc: Global, fault: &FileFault) -> CliFault
     ensures told { Refuses (spec.TellsStarts fault.now) result }
-    ensures about { IsAbout Subject.Starts result }
+    ensures about { IsAbout About.Starts result }
 {
     if fault.code == FileCode::Memory {
         return CliFault::Memory;
     }
     refuse(
         file_code(fault.code),
-        Subject::Starts,
+        About::Starts,
         starts_parts(alloc, fault),
     )
 }

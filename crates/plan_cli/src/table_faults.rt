@@ -1,6 +1,6 @@
 //! The errors of a planner's table as values.
 
-ghost use Rattle.std.specs.Prelude.{◌≡◌, ◌++◌, ◌∷◌, IfOk, codes};
+ghost use Rattle.std.specs.Prelude.{◌≡◌, ◌++◌, ◌∷◌, IfOk, codes, option_map, string_bytes};
 ghost use Rattle.std.specs.Fmt.{decimal};
 ghost use Rattle.plan_errors.specs.Codes.{name_of};
 ghost use Rattle.plan_errors.specs.Faults.{IsAbout};
@@ -13,9 +13,10 @@ ghost use Rattle.plan_cli.specs.Refusals.{table_code, table_subject};
 ghost use Rattle.plan_cli.specs.TableFaultText as spec;
 
 use crate::contents::contents_of;
-use plan_errors::{CliFault, Code, Key, Part, Subject, refuse};
+use plan_errors::{About, CliFault, Code, Key, Part, refuse};
 use plan_table::{TableCode, TableFault};
 use std::alloc::{AllocError, Global};
+use std::fmt::Write;
 
 // Returns the code of a check that a list fails.
 fn code_of(code: TableCode) -> Code
@@ -41,11 +42,11 @@ fn code_of(code: TableCode) -> Code
 }
 
 // Returns the argument that the error of a list is about.
-fn subject_of(code: TableCode) -> Subject
+fn subject_of(code: TableCode) -> About
     ensures { result ≡ table_subject code }
 {
     match code {
-        TableCode::NoResource => Subject::Capacity,
+        TableCode::NoResource => About::Capacity,
         TableCode::TooLong
         | TableCode::NotText
         | TableCode::NoDuration
@@ -59,7 +60,7 @@ fn subject_of(code: TableCode) -> Subject
         | TableCode::Cycle
         | TableCode::Limit
         | TableCode::Cells
-        | TableCode::TooManySteps => Subject::List,
+        | TableCode::TooManySteps => About::List,
     }
 }
 
@@ -177,7 +178,52 @@ fn fault_parts(alloc: Global, fault: &TableFault) -> Result<Vec<Part>, AllocErro
     parts_by(alloc, fault.code, fault.line, word.as_str())
 }
 
-// Returns the error of a list without its contents.
+// Returns the sentence that a word isn't a duration or a time.
+fn duration_sentence(alloc: Global, word: &str) -> Result<String, AllocError>
+    ensures { IfOk result (λ text. string_bytes text ≡ spec.duration_sentence word.now) }
+{
+    let mut text = String::new(alloc);
+    write!(text, "\"{word}\" isn't a whole number of at most 10000")?;
+    Ok(text)
+}
+
+// Returns the sentence that quotes a cell without a duration or a time, unless the cell is empty.
+fn quoted_duration(alloc: Global, cell: &[u8]) -> Result<Option<String>, AllocError>
+    ensures { IfOk result (λ made.
+        option_map string_bytes made ≡ spec.quoted_duration cell.now) }
+{
+    if cell.is_empty() {
+        return Ok(None);
+    }
+    let word = String::from_utf8_lossy(alloc, cell)?;
+    Ok(Some(duration_sentence(alloc, word.as_str())?))
+}
+
+// Returns the sentence that quotes the cell of an error, if the cell explains it.
+fn quoted_cell(alloc: Global, fault: &TableFault) -> Result<Option<String>, AllocError>
+    ensures { IfOk result (λ made.
+        option_map string_bytes made ≡ spec.quoted_cell (fault_of fault.now)) }
+{
+    match fault.code {
+        TableCode::BadDuration => quoted_duration(alloc, &fault.word),
+        TableCode::TooLong
+        | TableCode::NotText
+        | TableCode::NoDuration
+        | TableCode::ColumnTwice
+        | TableCode::BadId
+        | TableCode::IdTwice
+        | TableCode::NoSuchId
+        | TableCode::BadNeed
+        | TableCode::NoCapacity
+        | TableCode::Cycle
+        | TableCode::Limit
+        | TableCode::Cells
+        | TableCode::NoResource
+        | TableCode::TooManySteps => Ok(None),
+    }
+}
+
+// Returns the error of a list without its contents and without a detail.
 fn plain_refusal(alloc: Global, fault: &TableFault) -> CliFault
     ensures told { Refuses (TellsTable fault.now) result }
     ensures about { IsAbout (table_subject fault.now.code) result }
@@ -189,11 +235,26 @@ fn plain_refusal(alloc: Global, fault: &TableFault) -> CliFault
     )
 }
 
-/// Returns the error of a list.
-pub(crate) fn table_refusal(alloc: Global, fault: &TableFault, file: &[u8]) -> CliFault
+// Returns the error of a list without a detail.
+fn known_refusal(alloc: Global, fault: &TableFault, file: &[u8]) -> CliFault
     ensures told { Refuses (TellsTable fault.now) result }
     ensures about { IsAbout (table_subject fault.now.code) result }
     ensures contents { KnowsFile file.now result }
 {
     plain_refusal(alloc, fault).with_contents(contents_of(alloc, file))
+}
+
+/// Returns the error of a list. Its detail quotes the cell of a duration or a time that isn't a
+/// number.
+#[tactic(auto, using(crate::proofs::RefusalLemmas::detailed_refused, crate::proofs::RefusalLemmas::detailed_about, crate::proofs::RefusalLemmas::detailed_knows, crate::proofs::RefusalLemmas::detailed_quotes,))]
+pub(crate) fn table_refusal(alloc: Global, fault: &TableFault, file: &[u8]) -> CliFault
+    ensures told { Refuses (TellsTable fault.now) result }
+    ensures about { IsAbout (table_subject fault.now.code) result }
+    ensures contents { KnowsFile file.now result }
+    ensures detail { spec.QuotesCell (fault_of fault.now) result }
+{
+    match quoted_cell(alloc, fault) {
+        Ok(detail) => known_refusal(alloc, fault, file).with_detail(detail),
+        Err(_) => CliFault::Memory,
+    }
 }

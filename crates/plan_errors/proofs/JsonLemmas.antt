@@ -16,7 +16,7 @@ use Rattle.plan_errors.specs.Parts.{word_of}
 use Rattle.plan_errors.specs.Subjects.{argument_of}
 use Rattle.plan_errors.specs.ErrorData.{number_data, items_of_numbers, front_numbers, with_numbers, with_part, with_parts, argument_key, with_argument, with_members, error_data}
 use Rattle.plan_errors.specs.declared.context.Context.{Context}
-use Rattle.plan_errors.specs.declared.context.Subject.{Subject}
+use Rattle.plan_errors.specs.declared.context.About.{About}
 use Rattle.plan_errors.specs.declared.fault.CliFault.{CliFault}
 use Rattle.plan_errors.specs.declared.fault.CliFault.TheVariants as fault
 use Rattle.plan_errors.specs.declared.parts.Part.{Part}
@@ -96,10 +96,10 @@ parts_fit (p ∷ ps) ms fit = parts_fit ps (with_part ms p) (part_fits ms p fit)
 fault_fits : (f : CliFault) (ms : Members) → MembersFit 1 ms → MembersFit 1 (with_parts f ms)
 fault_fits (fault.Refused refusal) ms fit = parts_fit refusal.parts.items ms fit
 fault_fits fault.Memory ms fit = fit
-fault_fits fault.Input ms fit = fit
+fault_fits (fault.Input unread) ms fit = fit
 fault_fits fault.Output ms fit = fit
 
-argument_fits : (about : Subject) (argument : Option (Bor (List ℕ))) (ms : Members) → MembersFit 1 ms → MembersFit 1 (with_argument about argument ms)
+argument_fits : (about : About) (argument : Option (Bor (List ℕ))) (ms : Members) → MembersFit 1 ms → MembersFit 1 (with_argument about argument ms)
 argument_fits about None ms fit = fit
 argument_fits about (Some argument) ms fit = text_fits (argument_key about) argument.now ms fit
 

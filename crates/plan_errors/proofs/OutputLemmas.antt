@@ -12,4 +12,4 @@ sent_writes IsText IsLine text taken after (Ok u) is sent = (text, is, sent)
 sent_writes IsText IsLine text taken after (Err cli.Output) is (n, part, took) = (text, n, is, part, took)
 sent_writes IsText IsLine text taken after (Err (cli.Refused refusal)) is sent = absurd sent
 sent_writes IsText IsLine text taken after (Err cli.Memory) is sent = absurd sent
-sent_writes IsText IsLine text taken after (Err cli.Input) is sent = absurd sent
+sent_writes IsText IsLine text taken after (Err (cli.Input unread)) is sent = absurd sent

@@ -13,7 +13,7 @@ use Rattle.plan_errors.specs.HintText.{advice_of}
 use Rattle.plan_errors.specs.Parts.{word_of}
 use Rattle.plan_errors.specs.Subjects.{argument_of, is_file}
 use Rattle.plan_errors.specs.declared.context.Context.{Context}
-use Rattle.plan_errors.specs.declared.context.Subject.{Subject}
+use Rattle.plan_errors.specs.declared.context.About.{About}
 use Rattle.plan_errors.specs.declared.fault.CliFault.{CliFault}
 use Rattle.plan_errors.specs.declared.fault.CliFault.TheVariants as fault
 use Rattle.plan_errors.specs.declared.parts.Part.{Part}
@@ -55,15 +55,15 @@ with_part members (part.Ids ids) =
 abbrev pub with_parts : CliFault → Members → Members
 with_parts (fault.Refused refusal) members = fold with_part members refusal.parts.items
 with_parts fault.Memory members = members
-with_parts fault.Input members = members
+with_parts (fault.Input unread) members = members
 with_parts fault.Output members = members
 
 -- the key of an argument
-abbrev pub argument_key : Subject → List ℕ
+abbrev pub argument_key : About → List ℕ
 argument_key about = if is_file about then codes "file" else codes "argument"
 
 -- members, and the argument that an error is about, as on the command line, if there is one
-abbrev pub with_argument : Subject → Option (Bor (List ℕ)) → Members → Members
+abbrev pub with_argument : About → Option (Bor (List ℕ)) → Members → Members
 with_argument about None members = members
 with_argument about (Some argument) members =
     put (argument_key about) (json.string argument.now) members

@@ -12,7 +12,7 @@ use Rattle.plan_errors.specs.Subjects.{argument_of, shown_as, cause_in}
 use Rattle.plan_errors.specs.declared.codes.Code.{Code}
 use Rattle.plan_errors.specs.declared.codes.Code.TheVariants as code
 use Rattle.plan_errors.specs.declared.context.Context.{Context}
-use Rattle.plan_errors.specs.declared.context.Subject.{Subject}
+use Rattle.plan_errors.specs.declared.context.About.{About}
 use Rattle.plan_errors.specs.declared.fault.CliFault.{CliFault}
 use Rattle.plan_errors.specs.declared.fault.CliFault.TheVariants as fault
 
@@ -29,12 +29,12 @@ abbrev pub masked : List ℕ → List ℕ
 masked text = flat_map masked_char (chars text)
 
 -- an argument as hints print it, masked, and a colon, if there is one
-abbrev pub named : Subject → Option (Bor (List ℕ)) → List ℕ
+abbrev pub named : About → Option (Bor (List ℕ)) → List ℕ
 named about None = []
 named about (Some argument) = masked (shown_as about argument.now) ++ codes ": "
 
 -- the argument that an error is about, its cause, and the command that explains its code
-abbrev pub advice_text : Subject → Option (Bor (List ℕ)) → List ℕ → Code → List ℕ
+abbrev pub advice_text : About → Option (Bor (List ℕ)) → List ℕ → Code → List ℕ
 advice_text about argument cause code =
     named about argument ++ (cause ++ (codes "; see: plan explain " ++ name_of code))
 
@@ -48,7 +48,7 @@ abbrev pub cause_shown : CliFault → List ℕ
 cause_shown (fault.Refused refusal) =
     cause_or refusal.detail (cause_in refusal.contents refusal.about refusal.code)
 cause_shown fault.Memory = cause_of code.NoMemory
-cause_shown fault.Input = cause_of code.Input
+cause_shown (fault.Input unread) = cause_of code.Input
 cause_shown fault.Output = cause_of code.Output
 
 -- the advice on an error of a command with these arguments
@@ -62,6 +62,6 @@ abbrev pub hint_of : Context → CliFault → List ℕ
 hint_of context fault = codes "hint: " ++ advice_of context fault
 
 -- the hint for an error with this code about an argument
-abbrev pub code_hint_of : Subject → Option (Bor (List ℕ)) → Code → List ℕ
+abbrev pub code_hint_of : About → Option (Bor (List ℕ)) → Code → List ℕ
 code_hint_of about argument code =
     codes "hint: " ++ advice_text about argument (cause_of code) code

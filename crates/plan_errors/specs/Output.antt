@@ -16,7 +16,7 @@ Writes IsText IsLine taken after (Ok _) = (text : List ℕ) × IsText text × Ap
 Writes IsText IsLine taken after (Err (fault.Refused refusal)) =
     IsLine (refusal_line refusal) × (after ≡ taken)
 Writes IsText IsLine taken after (Err fault.Memory) = after ≡ taken
-Writes IsText IsLine taken after (Err fault.Input) = after ≡ taken
+Writes IsText IsLine taken after (Err (fault.Input unread)) = after ≡ taken
 Writes IsText IsLine taken after (Err fault.Output) =
     (text : List ℕ) × (n : ℕ) × IsText text × (n < length text) × Appends taken after (take n text)
 
@@ -24,7 +24,7 @@ Writes IsText IsLine taken after (Err fault.Output) =
 abbrev pub Refuses : (List ℕ → Type 0) → CliFault → Type 0
 Refuses IsLine (fault.Refused refusal) = IsLine (refusal_line refusal)
 Refuses IsLine fault.Memory = Unit {0}
-Refuses IsLine fault.Input = ⊥
+Refuses IsLine (fault.Input unread) = ⊥
 Refuses IsLine fault.Output = ⊥
 
 -- a sink takes a whole text, or a front of it if the output fails

@@ -8,11 +8,11 @@ use Rattle.plan_errors.specs.declared.codes.Code.TheVariants as code
 use Rattle.plan_errors.specs.declared.context.Contents.{Contents}
 use Rattle.plan_errors.specs.declared.context.Contents.TheVariants as contents
 use Rattle.plan_errors.specs.declared.context.Context.{Context}
-use Rattle.plan_errors.specs.declared.context.Subject.{Subject}
-use Rattle.plan_errors.specs.declared.context.Subject.TheVariants as subject
+use Rattle.plan_errors.specs.declared.context.About.{About}
+use Rattle.plan_errors.specs.declared.context.About.TheVariants as subject
 
 -- the argument of a command that is a subject, or none if the command has no such argument
-abbrev pub argument_of : Context → Subject → Option (Bor (List ℕ))
+abbrev pub argument_of : Context → About → Option (Bor (List ℕ))
 argument_of context subject.Plan = context.file
 argument_of context subject.List = context.file
 argument_of context subject.Starts = context.starts
@@ -25,11 +25,11 @@ argument_of context subject.FirstDate = context.first_date
 argument_of context subject.Weekdays = context.weekdays
 argument_of context subject.Capacity = context.capacity
 argument_of context subject.Office = context.office
-argument_of context subject.Unread = context.unread
+argument_of context subject.Log = context.log
 argument_of context subject.Other = None
 
 -- whether a subject is a file
-abbrev pub is_file : Subject → Bool
+abbrev pub is_file : About → Bool
 is_file subject.Rule = false
 is_file subject.Limit = false
 is_file subject.FirstDate = false
@@ -39,7 +39,7 @@ is_file subject.Other = false
 is_file _ = true
 
 -- an argument as hints print it: a file with the name `-` is standard input
-abbrev pub shown_as : Subject → List ℕ → List ℕ
+abbrev pub shown_as : About → List ℕ → List ℕ
 shown_as about argument =
     if is_file about && bytes_eq argument (codes "-") then codes "standard input" else argument
 
@@ -63,7 +63,7 @@ starts_cause code.MissingHead = codes "the columns aren't those of a table of st
 starts_cause code = cause_of code
 
 -- the likely cause of an error about a subject, in a file with these contents
-abbrev pub cause_in : Contents → Subject → Code → List ℕ
+abbrev pub cause_in : Contents → About → Code → List ℕ
 cause_in contents subject.Plan code = plan_cause contents code
 cause_in contents subject.List code = list_cause contents code
 cause_in contents subject.Starts code = starts_cause code

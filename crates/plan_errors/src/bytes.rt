@@ -6,13 +6,18 @@ ghost use Rattle.plan_io.specs.Devices.{most_calls};
 ghost use Rattle.plan_psplib.specs.Plain.{longest_text};
 ghost use Rattle.plan_errors.specs.Output.{HasSinkFailed, Sends};
 
+use crate::context::About;
 use crate::fault::CliFault;
-use plan_io::{Sink, Source, read_beyond, write_whole};
+use plan_io::{InputError, Sink, Source, read_beyond, write_whole};
 use plan_psplib::LONGEST_TEXT;
 use std::alloc::Global;
 
-/// Reads the bytes of a file, at most one more than the longest text has.
-pub fn read_file<R: Source>(alloc: Global, reader: &mut R) -> Result<Vec<u8>, CliFault>
+/// Reads the bytes of the file that is this argument, at most one more than the longest text has.
+pub fn read_file<R: Source>(
+    alloc: Global,
+    reader: &mut R,
+    about: About,
+) -> Result<Vec<u8>, CliFault>
     ensures calls { R.calls reader.new ≤ R.calls reader.old + most_calls }
     ensures consumed { IfOk result (λ v.
         Consumes (R.remaining reader.old) (R.remaining reader.new) v.items) }
@@ -22,9 +27,13 @@ pub fn read_file<R: Source>(alloc: Global, reader: &mut R) -> Result<Vec<u8>, Cl
     ensures fine { OnOk result (R.faults reader.new ≡ R.faults reader.old) }
     ensures refused { IfErr result (λ e.
         ((e ≡ CliFault.Memory) × (R.faults reader.new ≡ R.faults reader.old))
-        ⊎ ((e ≡ CliFault.Input) × (R.faults reader.new ≡ R.faults reader.old + 1))) }
+        ⊎ ((e ≡ CliFault.Input about) × (R.faults reader.new ≡ R.faults reader.old + 1))) }
 {
-    Ok(read_beyond(alloc, reader, LONGEST_TEXT)?)
+    match read_beyond(alloc, reader, LONGEST_TEXT) {
+        Ok(bytes) => Ok(bytes),
+        Err(InputError::Memory) => Err(CliFault::Memory),
+        Err(InputError::Failed) => Err(CliFault::Input(about)),
+    }
 }
 
 /// Writes a text. The only error is that of the output.

@@ -41,13 +41,13 @@ pub struct Context<'a> {
     pub capacity: Option<&'a str>,
     /// The database of an office.
     pub office: Option<&'a str>,
-    /// The file that can't be read.
-    pub unread: Option<&'a str>,
+    /// The file of the log of a search.
+    pub log: Option<&'a str>,
 }
 
 /// The argument that an error is about.
 #[derive(Clone, Copy, Debug, PartialEq, Eq)]
-pub enum Subject {
+pub enum About {
     /// The file of a project or of a job shop.
     Plan,
     /// The file of a list.
@@ -72,32 +72,32 @@ pub enum Subject {
     Capacity,
     /// The database of an office.
     Office,
-    /// The file that can't be read.
-    Unread,
+    /// The file of the log of a search.
+    Log,
     /// No argument.
     Other,
 }
 
-impl Subject {
+impl About {
     /// Whether it is a file.
     pub fn is_file(self) -> bool
         ensures { result ≡ spec.is_file self }
     {
         match self {
-            Subject::Plan
-            | Subject::List
-            | Subject::Starts
-            | Subject::StartsA
-            | Subject::StartsB
-            | Subject::Holidays
-            | Subject::Office
-            | Subject::Unread => true,
-            Subject::Rule
-            | Subject::Limit
-            | Subject::FirstDate
-            | Subject::Weekdays
-            | Subject::Capacity
-            | Subject::Other => false,
+            About::Plan
+            | About::List
+            | About::Starts
+            | About::StartsA
+            | About::StartsB
+            | About::Holidays
+            | About::Office
+            | About::Log => true,
+            About::Rule
+            | About::Limit
+            | About::FirstDate
+            | About::Weekdays
+            | About::Capacity
+            | About::Other => false,
         }
     }
 
@@ -127,27 +127,27 @@ impl<'a> Context<'a> {
         weekdays: None,
         capacity: None,
         office: None,
-        unread: None,
+        log: None,
     };
 
     /// Returns the argument that is this subject, if the command has it.
-    pub fn argument(self, subject: Subject) -> Option<&'a str>
+    pub fn argument(self, subject: About) -> Option<&'a str>
         ensures { result ≡ spec.argument_of self.entry subject }
     {
         match subject {
-            Subject::Plan | Subject::List => self.file,
-            Subject::Starts => self.starts,
-            Subject::StartsA => self.starts_a,
-            Subject::StartsB => self.starts_b,
-            Subject::Holidays => self.holidays,
-            Subject::Rule => self.rule,
-            Subject::Limit => self.limit,
-            Subject::FirstDate => self.first_date,
-            Subject::Weekdays => self.weekdays,
-            Subject::Capacity => self.capacity,
-            Subject::Office => self.office,
-            Subject::Unread => self.unread,
-            Subject::Other => None,
+            About::Plan | About::List => self.file,
+            About::Starts => self.starts,
+            About::StartsA => self.starts_a,
+            About::StartsB => self.starts_b,
+            About::Holidays => self.holidays,
+            About::Rule => self.rule,
+            About::Limit => self.limit,
+            About::FirstDate => self.first_date,
+            About::Weekdays => self.weekdays,
+            About::Capacity => self.capacity,
+            About::Office => self.office,
+            About::Log => self.log,
+            About::Other => None,
         }
     }
 }
@@ -187,13 +187,13 @@ fn starts_cause(code: Code) -> &'static str
 }
 
 /// Returns the likely cause of an error about this subject, in a file with these contents.
-pub(crate) fn cause_in(contents: Contents, subject: Subject, code: Code) -> &'static str
+pub(crate) fn cause_in(contents: Contents, subject: About, code: Code) -> &'static str
     ensures { result.now ≡ spec.cause_in contents subject code }
 {
     match subject {
-        Subject::Plan => plan_cause(contents, code),
-        Subject::List => list_cause(contents, code),
-        Subject::Starts | Subject::StartsA | Subject::StartsB => starts_cause(code),
+        About::Plan => plan_cause(contents, code),
+        About::List => list_cause(contents, code),
+        About::Starts | About::StartsA | About::StartsB => starts_cause(code),
         _ => code.cause(),
     }
 }

@@ -11,7 +11,7 @@ ghost use Rattle.plan_errors.specs.ExplainRun.{TellsNoCode};
 
 use crate::bytes::write_text;
 use crate::codes::Code;
-use crate::context::Subject;
+use crate::context::About;
 use crate::fault::CliFault;
 use crate::refusal::refuse_words;
 use plan_io::Sink;
@@ -91,7 +91,7 @@ fn explanation(alloc: Global, code: Code, carried: Option<Code>) -> Result<Strin
 fn no_code(alloc: Global) -> CliFault
     ensures { Refuses (λ line. line ≡ codes "C1 unknown code") result }
 {
-    refuse_words(alloc, Code::UnknownCode, Subject::Other, "unknown code")
+    refuse_words(alloc, Code::UnknownCode, About::Other, "unknown code")
 }
 
 /// Returns the code that starts an error line, in capitals or not, and the code of the error that

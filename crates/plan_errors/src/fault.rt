@@ -5,9 +5,8 @@ ghost use Rattle.plan_errors.specs.Faults as spec;
 ghost use Rattle.plan_errors.specs.declared.fault.CliFault.TheVariants.{Memory};
 
 use crate::codes::Code;
-use crate::context::{Contents, Subject};
+use crate::context::{About, Contents};
 use crate::refusal::Refusal;
-use plan_io::InputError;
 use std::alloc::{AllocError, Global};
 
 /// The error of a command.
@@ -17,8 +16,8 @@ pub enum CliFault {
     Refused(Refusal),
     /// Memory ran out.
     Memory,
-    /// A file or standard input can't be read.
-    Input,
+    /// A file or standard input can't be read: the one that is this argument.
+    Input(About),
     /// The output can't be written whole.
     Output,
 }
@@ -31,7 +30,7 @@ impl CliFault {
         match self {
             CliFault::Refused(refusal) => refusal.line(alloc),
             CliFault::Memory => "E90 memory".to_string(alloc),
-            CliFault::Input => "I1 file".to_string(alloc),
+            CliFault::Input(_) => "I1 file".to_string(alloc),
             CliFault::Output => "I3 output".to_string(alloc),
         }
     }
@@ -43,19 +42,19 @@ impl CliFault {
         match self {
             CliFault::Refused(refusal) => refusal.code,
             CliFault::Memory => Code::NoMemory,
-            CliFault::Input => Code::Input,
+            CliFault::Input(_) => Code::Input,
             CliFault::Output => Code::Output,
         }
     }
 
     /// Returns what it is about.
-    pub fn subject(&self) -> Subject
+    pub fn subject(&self) -> About
         ensures { result ≡ spec.subject_of self.now }
     {
         match self {
             CliFault::Refused(refusal) => refusal.about,
-            CliFault::Memory | CliFault::Output => Subject::Other,
-            CliFault::Input => Subject::Unread,
+            CliFault::Memory | CliFault::Output => About::Other,
+            CliFault::Input(unread) => *unread,
         }
     }
 
@@ -69,7 +68,7 @@ impl CliFault {
                 CliFault::Refused(refusal)
             }
             CliFault::Memory => CliFault::Memory,
-            CliFault::Input => CliFault::Input,
+            CliFault::Input(unread) => CliFault::Input(unread),
             CliFault::Output => CliFault::Output,
         }
     }
@@ -84,22 +83,8 @@ impl CliFault {
                 CliFault::Refused(refusal)
             }
             CliFault::Memory => CliFault::Memory,
-            CliFault::Input => CliFault::Input,
+            CliFault::Input(unread) => CliFault::Input(unread),
             CliFault::Output => CliFault::Output,
-        }
-    }
-}
-
-impl From<InputError> for CliFault {
-    ghost use Rattle.std.specs.Prelude.{◌≡◌};
-    ghost use Rattle.plan_errors.specs.Faults.{input_fault};
-
-    ghost from_gives = { λ error e. e ≡ input_fault error };
-
-    fn from(error: InputError) -> CliFault {
-        match error {
-            InputError::Memory => CliFault::Memory,
-            InputError::Failed => CliFault::Input,
         }
     }
 }

@@ -6,7 +6,7 @@ ghost use Rattle.plan_errors.specs.Subjects.{cause_in};
 ghost use Rattle.plan_errors.specs.HintText as spec;
 
 use crate::codes::Code;
-use crate::context::{Context, Subject, cause_in};
+use crate::context::{About, Context, cause_in};
 use crate::fault::CliFault;
 use crate::refusal::Refusal;
 use std::alloc::{AllocError, Global};
@@ -50,7 +50,7 @@ fn push_shown(alloc: Global, text: &mut String, shown: &str) -> Result<(), Alloc
 fn push_argument(
     alloc: Global,
     text: &mut String,
-    about: Subject,
+    about: About,
     argument: Option<&str>,
 ) -> Result<(), AllocError>
     ensures { OnOk result (string_bytes text.new
@@ -92,7 +92,7 @@ fn push_cause(alloc: Global, text: &mut String, fault: &CliFault) -> Result<(), 
     match fault {
         CliFault::Refused(refusal) => push_detail(alloc, text, refusal),
         CliFault::Memory => text.push_str(Code::NoMemory.cause()),
-        CliFault::Input => text.push_str(Code::Input.cause()),
+        CliFault::Input(_) => text.push_str(Code::Input.cause()),
         CliFault::Output => text.push_str(Code::Output.cause()),
     }
 }
@@ -141,7 +141,7 @@ pub fn hint(alloc: Global, context: Context<'_>, fault: &CliFault) -> Result<Str
 /// Returns the hint for an error with this code about an argument.
 pub fn code_hint(
     alloc: Global,
-    about: Subject,
+    about: About,
     argument: Option<&str>,
     code: Code,
 ) -> Result<String, AllocError>

@@ -6,7 +6,7 @@ ghost use Rattle.plan_formats.specs.JsonText.{IsLineOf, json_text_of};
 ghost use Rattle.plan_psplib.specs.Lines.{words};
 ghost use Rattle.plan_errors.specs.ErrorData as spec;
 
-use crate::context::{Context, Subject};
+use crate::context::{About, Context};
 use crate::fault::CliFault;
 use crate::hints::advice;
 use crate::parts::Part;
@@ -123,7 +123,7 @@ fn put_fault(
 }
 
 // Returns the key of an argument.
-fn argument_key(about: Subject) -> &'static str
+fn argument_key(about: About) -> &'static str
     ensures { result.now ≡ spec.argument_key about }
 {
     if about.is_file() { "file" } else { "argument" }
@@ -133,7 +133,7 @@ fn argument_key(about: Subject) -> &'static str
 fn put_argument(
     alloc: Global,
     object: &mut Map<String, Value>,
-    about: Subject,
+    about: About,
     argument: Option<&str>,
 ) -> Result<(), AllocError>
     ensures { OnOk result (members_view object.new.entries

@@ -14,7 +14,7 @@ mod refusal;
 
 pub use bytes::{read_file, write_text};
 pub use codes::Code;
-pub use context::{Contents, Context, Subject};
+pub use context::{About, Contents, Context};
 pub use explanation::{explain_run, explained, explanation_text};
 pub use fault::CliFault;
 pub use hints::{code_hint, hint, masked};

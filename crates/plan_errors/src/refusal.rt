@@ -7,7 +7,7 @@ ghost use Rattle.plan_errors.specs.Output.{Refuses};
 ghost use Rattle.plan_errors.specs.declared.parts.Part.TheVariants as part;
 
 use crate::codes::Code;
-use crate::context::{Contents, Subject};
+use crate::context::{About, Contents};
 use crate::fault::CliFault;
 use crate::parts::{Part, push_parts};
 use std::alloc::{AllocError, Global};
@@ -19,7 +19,7 @@ pub struct Refusal {
     /// What its line has behind the code.
     pub parts: Vec<Part>,
     /// The argument that it is about.
-    pub about: Subject,
+    pub about: About,
     /// What the file of the command contains.
     pub contents: Contents,
     /// The cause with the names in the file, if it is known.
@@ -40,7 +40,7 @@ impl Refusal {
 
 /// Returns the error with this code and these parts about an argument, or the error of memory if
 /// there was none for the parts.
-pub fn refuse(code: Code, about: Subject, parts: Result<Vec<Part>, AllocError>) -> CliFault
+pub fn refuse(code: Code, about: About, parts: Result<Vec<Part>, AllocError>) -> CliFault
     ensures made { IfOk parts (λ list. result ≡ CliFault.Refused (refusal_of code about list)) }
     ensures memory { IfErr parts (λ _. result ≡ CliFault.Memory) }
 {
@@ -66,7 +66,7 @@ fn word_parts(alloc: Global, words: &'static str) -> Result<Vec<Part>, AllocErro
 }
 
 /// Returns the error about an argument whose line has these words behind the code.
-pub fn refuse_words(alloc: Global, code: Code, about: Subject, words: &'static str) -> CliFault
+pub fn refuse_words(alloc: Global, code: Code, about: About, words: &'static str) -> CliFault
     ensures line { Refuses (λ line. line ≡ name_of code ++ (32 ∷ words.now)) result }
     ensures about { IsAbout about result }
 {

@@ -3,14 +3,12 @@
 use crate::orders::{FileOrder, OfficeOrder};
 use plan_cli::{Code, Context, Dates, NamedText, Origin, Role, Task};
 use plan_print::{NamedOrigin, Print, Sheet};
-use std::alloc::{AllocError, Global};
 
 // Returns the context of a command on this file alone.
 fn file_context(file: &str) -> Context<'_> {
     Context {
         file: Some(file),
         capacity: Some("--capacity"),
-        unread: Some(file),
         ..Context::NONE
     }
 }
@@ -80,32 +78,24 @@ fn with_text<'a>(context: Context<'a>, text: NamedText<'a>) -> Context<'a> {
     }
 }
 
-// Returns the context of a task on a file and on texts in other files. Any of several files may be
-// the one that can't be read.
+// Returns the context of a task on a file and on texts in other files.
 fn texts_context<'a>(task: Task<'a>, file: &'a str, texts: &'a [NamedText<'a>]) -> Context<'a> {
     let mut context = task_context(task, file);
     for &text in texts {
         context = with_text(context, text);
-        context.unread = None;
     }
     context
 }
 
-// Returns the context of a print. Any of several files may be the one that can't be read.
+// Returns the context of a print.
 fn print_context<'a>(print: Print<'a>) -> Context<'a> {
     let mut context = file_context(print.file);
     match print.origin {
         NamedOrigin::Rule(rule) => context.rule = Some(rule),
-        NamedOrigin::Starts(name) => {
-            context.starts = Some(name);
-            context.unread = None;
-        }
+        NamedOrigin::Starts(name) => context.starts = Some(name),
         NamedOrigin::Solved { .. } => {}
     }
-    if let Some(name) = print.holidays {
-        context.holidays = Some(name);
-        context.unread = None;
-    }
+    context.holidays = print.holidays;
     match print.sheet {
         Sheet::Events(dates)
         | Sheet::Report {
@@ -114,33 +104,6 @@ fn print_context<'a>(print: Print<'a>) -> Context<'a> {
         } => with_dates(context, dates),
         _ => context,
     }
-}
-
-// Appends the name of a file, unless it is standard input.
-fn push_file<'a>(names: &mut Vec<&'a str>, name: &'a str) -> Result<(), AllocError> {
-    if name != "-" {
-        names.push(name)?;
-    }
-    Ok(())
-}
-
-// Appends the names of the files of some texts.
-fn push_texts<'a>(names: &mut Vec<&'a str>, texts: &[NamedText<'a>]) -> Result<(), AllocError> {
-    for text in texts {
-        push_file(names, text.name)?;
-    }
-    Ok(())
-}
-
-// Appends the names of the files of a print, except that of the project or the job shop.
-fn push_print_files<'a>(names: &mut Vec<&'a str>, print: Print<'a>) -> Result<(), AllocError> {
-    if let NamedOrigin::Starts(name) = print.origin {
-        push_file(names, name)?;
-    }
-    if let Some(name) = print.holidays {
-        push_file(names, name)?;
-    }
-    Ok(())
 }
 
 // Returns the rule of a task that has the option `solve`.
@@ -183,8 +146,7 @@ impl<'a> FileOrder<'a> {
         }
     }
 
-    /// Returns the arguments that an error of the order can be about. The file that can't be read
-    /// is unknown if there are several.
+    /// Returns the arguments that an error of the order can be about.
     pub fn context(&self) -> Context<'a> {
         match *self {
             FileOrder::Task(task, file)
@@ -198,56 +160,15 @@ impl<'a> FileOrder<'a> {
             } => texts_context(task, file, texts),
             FileOrder::Check { file, starts, .. } => Context {
                 starts: Some(starts),
-                unread: None,
                 ..file_context(file)
             },
-            // Either file may be the one that can't be read.
-            FileOrder::Verify { file, .. } => Context {
-                unread: None,
+            FileOrder::Verify { file, log, .. } => Context {
+                log: Some(log),
                 ..file_context(file)
             },
             FileOrder::Print(print, _) => print_context(print),
             FileOrder::New(_) | FileOrder::Explain(_) => Context::NONE,
         }
-    }
-
-    /// Returns the name of the file of the project, the job shop or the list, unless that is
-    /// standard input.
-    pub fn file(&self) -> Option<&'a str> {
-        let file = match *self {
-            FileOrder::Task(_, file)
-            | FileOrder::Watched(_, file)
-            | FileOrder::Solve { file, .. }
-            | FileOrder::Verify { file, .. }
-            | FileOrder::Check { file, .. }
-            | FileOrder::Texts { file, .. } => file,
-            FileOrder::Print(print, _) => print.file,
-            FileOrder::New(_) | FileOrder::Explain(_) => return None,
-        };
-        if file == "-" { None } else { Some(file) }
-    }
-
-    // Returns the files of starts, holidays or a log that the order reads, in the order of the
-    // arguments.
-    fn text_files(&self, alloc: Global) -> Result<Vec<&'a str>, AllocError> {
-        let mut names = Vec::new(alloc);
-        match *self {
-            FileOrder::Texts { texts, .. } => push_texts(&mut names, texts)?,
-            FileOrder::Check { starts, .. } => push_file(&mut names, starts)?,
-            FileOrder::Verify { log, .. } => push_file(&mut names, log)?,
-            FileOrder::Print(print, _) => push_print_files(&mut names, print)?,
-            _ => {}
-        }
-        Ok(names)
-    }
-
-    /// Returns the names of the files that the order reads, without standard input.
-    pub fn files(&self, alloc: Global) -> Result<Vec<&'a str>, AllocError> {
-        let mut names = self.text_files(alloc)?;
-        if let Some(file) = self.file() {
-            names.push(file)?;
-        }
-        Ok(names)
     }
 }
 

@@ -22,7 +22,7 @@ does_as known other (Ok u) Does Other same implies (text, short, read, does) = (
 does_as known other (Err (cli.Refused line)) Does Other same implies (text, short, read, does) =
     (text, short, subst (AreRead text.now) same read, implies text does)
 does_as known other (Err cli.Memory) Does Other same implies does = tt
-does_as known other (Err cli.Input) Does Other same implies does = tt
+does_as known other (Err (cli.Input unread)) Does Other same implies does = tt
 does_as known other (Err cli.Output) Does Other same implies (text, short, read, does) =
     (text, short, subst (AreRead text.now) same read, implies text does)
 

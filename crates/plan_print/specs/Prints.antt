@@ -1,8 +1,10 @@
 -- The output of a command that prints a sheet, for the bytes that it reads (docs/definitions.md,
 -- "Runs").
-use Rattle.std.specs.Prelude.{ℕ, List, Option, Some, None, Result}
+use Rattle.std.specs.Prelude.{◌⊎◌, ℕ, List, Option, Some, None, Result}
 use denote.Ref.{Bor}
+use Rattle.plan_errors.specs.Faults.{IsUnread}
 use Rattle.plan_errors.specs.Output.{Writes}
+use Rattle.plan_errors.specs.declared.context.About.TheVariants as about
 use Rattle.plan_errors.specs.declared.fault.CliFault.{CliFault}
 use Rattle.plan_cli.specs.Documents.{IsOfSubject, RefusesSubject}
 use Rattle.plan_cli.specs.NamedTexts.{DoesWith, dates_with}
@@ -69,3 +71,18 @@ abbrev pub Prints : (List ℕ → Option (List ℕ)) → Print → Option (List 
     → Result (Unit {0}) CliFault → Type 0
 Prints bytes_of print taken after result =
     PrintsWith bytes_of print print.holidays taken after result
+
+-- if a file can't be read, it is that of the project or the job shop, or that of the starts if the
+-- schedule has one
+abbrev pub IsUnreadBy : NamedOrigin → CliFault → Type 0
+IsUnreadBy (named.Rule name) e = IsUnread about.Plan e
+IsUnreadBy (named.Starts name) e = IsUnread about.Starts e ⊎ IsUnread about.Plan e
+IsUnreadBy (named.Solved conflicts) e = IsUnread about.Plan e
+
+-- the same, or it is that of the holidays if there is one
+abbrev pub IsUnreadWith : Option (Bor (List ℕ)) → NamedOrigin → CliFault → Type 0
+IsUnreadWith None from e = IsUnreadBy from e
+IsUnreadWith (Some name) from e = IsUnread about.Holidays e ⊎ IsUnreadBy from e
+
+abbrev pub IsUnreadIn : Print → CliFault → Type 0
+IsUnreadIn print e = IsUnreadWith print.holidays print.origin e

@@ -2,6 +2,7 @@
 
 ghost use Rattle.std.specs.Prelude.{◌≡◌, ◌⊎◌, ◌+◌, ◌≤◌, None, IfErr, IsErrOf, OnOk};
 ghost use Rattle.plan_io.specs.Devices.{most_calls};
+ghost use Rattle.plan_errors.specs.Faults.{IsUnread};
 ghost use Rattle.plan_errors.specs.Output.{HasSinkFailed};
 ghost use Rattle.plan_cli.specs.NamedTexts.{dates_with};
 ghost use Rattle.plan_cli.specs.Tasks.{bytes_behind};
@@ -11,7 +12,7 @@ use crate::sheets::{Sheet, sheet_text};
 use plan_cli::{
     CliFault, Dates, Inputs, Origin, ProofWatcher, SolveWatcher, Subject, SystemInputs, read_named,
 };
-use plan_errors::write_text;
+use plan_errors::{About, write_text};
 use plan_io::Sink;
 use std::alloc::Global;
 use std::rt::Files;
@@ -81,6 +82,7 @@ fn sheet_with<'a>(sheet: Sheet<'a>, holidays: &'a [u8]) -> Sheet<'a>
 }
 
 // Prints a sheet of the file with this name.
+#[tactic(auto, using(plan_errors::proofs::RefusalLemmas::input_unread, plan_errors::proofs::RefusalLemmas::refuses_unread, plan_errors::proofs::RefusalLemmas::output_unread,))]
 fn print_from<I: Inputs, W: Sink, V: ProofWatcher + SolveWatcher>(
     alloc: Global,
     inputs: &I,
@@ -94,17 +96,19 @@ fn print_from<I: Inputs, W: Sink, V: ProofWatcher + SolveWatcher>(
     ensures does { spec.PrintsFrom (bytes_behind I.Inputs inputs.now file.now)
         sheet.entry subject.entry origin.entry (W.taken writer.old) (W.taken writer.new) result }
     ensures writes { W.calls writer.new ≤ W.calls writer.old + most_calls }
+    ensures unread { IfErr result (IsUnread About.Plan) }
     ensures quiet { IfErr result (λ e. (e ≡ CliFault.Output) ⊎ (writer.new ≡ writer.old)) }
     ensures fine { OnOk result (W.faults writer.new ≡ W.faults writer.old) }
     ensures output { IsErrOf result CliFault.Output → HasSinkFailed W.Sink writer.old writer.new }
 {
-    let bytes = read_named(alloc, inputs, file)?;
+    let bytes = read_named(alloc, inputs, About::Plan, file)?;
     let text = sheet_text(alloc, sheet, subject, origin, &bytes, watcher)?;
     write_text(writer, text.as_bytes())
 }
 
 // Prints a sheet of the file with this name. If the schedule has its starts in a file, that one is
 // read first.
+#[tactic(auto, using(plan_errors::proofs::RefusalLemmas::input_unread))]
 fn print_by<I: Inputs, W: Sink, V: ProofWatcher + SolveWatcher>(
     alloc: Global,
     inputs: &I,
@@ -118,6 +122,7 @@ fn print_by<I: Inputs, W: Sink, V: ProofWatcher + SolveWatcher>(
     ensures does { spec.PrintsNamed (bytes_behind I.Inputs inputs.now) sheet.entry subject.entry
         origin.entry file.now (W.taken writer.old) (W.taken writer.new) result }
     ensures writes { W.calls writer.new ≤ W.calls writer.old + most_calls }
+    ensures unread { IfErr result (spec.IsUnreadBy origin.entry) }
     ensures quiet { IfErr result (λ e. (e ≡ CliFault.Output) ⊎ (writer.new ≡ writer.old)) }
     ensures fine { OnOk result (W.faults writer.new ≡ W.faults writer.old) }
     ensures output { IsErrOf result CliFault.Output → HasSinkFailed W.Sink writer.old writer.new }
@@ -148,7 +153,7 @@ fn print_by<I: Inputs, W: Sink, V: ProofWatcher + SolveWatcher>(
             )
         }
         NamedOrigin::Starts(name) => {
-            let starts = read_named(alloc, inputs, name)?;
+            let starts = read_named(alloc, inputs, About::Starts, name)?;
             let origin = Origin::Starts(&starts);
             print_from(alloc, inputs, sheet, subject, origin, file, watcher, writer)
         }
@@ -157,11 +162,12 @@ fn print_by<I: Inputs, W: Sink, V: ProofWatcher + SolveWatcher>(
 
 /// Prints a sheet. The file of the holidays is read first, then that of the starts, then that of
 /// the project or the job shop. The watcher is called during a search, and can stop it. A file that
-/// can't be opened or read is [`CliFault::Input`].
+/// can't be opened or read is [`CliFault::Input`] of its argument.
 ///
 /// Nothing is written unless the whole sheet was made. If several errors apply, that of the file
 /// comes first, then those of the capacities, of the schedule, of the calendar, and of a day after
 /// 9999-12-31.
+#[tactic(auto, using(plan_errors::proofs::RefusalLemmas::input_unread))]
 pub fn print_on_named<I: Inputs, W: Sink, V: ProofWatcher + SolveWatcher>(
     alloc: Global,
     inputs: &I,
@@ -173,6 +179,8 @@ pub fn print_on_named<I: Inputs, W: Sink, V: ProofWatcher + SolveWatcher>(
     ensures does { spec.Prints (bytes_behind I.Inputs inputs.now) print.entry
         (W.taken writer.old) (W.taken writer.new) result }
     ensures writes { W.calls writer.new ≤ W.calls writer.old + most_calls }
+    // If a file can't be read, the error tells which one.
+    ensures unread { IfErr result (spec.IsUnreadIn print.entry) }
     // With any other error than that of the output, nothing is written.
     ensures quiet { IfErr result (λ e. (e ≡ CliFault.Output) ⊎ (writer.new ≡ writer.old)) }
     ensures fine { OnOk result (W.faults writer.new ≡ W.faults writer.old) }
@@ -188,7 +196,7 @@ pub fn print_on_named<I: Inputs, W: Sink, V: ProofWatcher + SolveWatcher>(
     let Some(name) = holidays else {
         return print_by(alloc, inputs, sheet, subject, origin, file, watcher, writer);
     };
-    let days = read_named(alloc, inputs, name)?;
+    let days = read_named(alloc, inputs, About::Holidays, name)?;
     print_by(
         alloc,
         inputs,
@@ -212,6 +220,8 @@ pub fn print_on_files<R: Files + Input + AllocGlobal, W: Sink, V: ProofWatcher +
     ensures does { spec.Prints (λ _. None) print.entry
         (W.taken writer.old) (W.taken writer.new) result }
     ensures writes { W.calls writer.new ≤ W.calls writer.old + most_calls }
+    // If a file can't be read, the error tells which one.
+    ensures unread { IfErr result (spec.IsUnreadIn print.entry) }
     // With any other error than that of the output, nothing is written.
     ensures quiet { IfErr result (λ e. (e ≡ CliFault.Output) ⊎ (writer.new ≡ writer.old)) }
     ensures fine { OnOk result (W.faults writer.new ≡ W.faults writer.old) }

@@ -1,10 +1,11 @@
 //! The sheets of schedules.
 
-ghost use Rattle.std.specs.Prelude.{IfErr};
+ghost use Rattle.std.specs.Prelude.{IfErr, IfOk};
 ghost use Rattle.plan_errors.specs.Output.{Refuses};
+ghost use Rattle.plan_cli.specs.Details.{NamesVerdict};
 ghost use Rattle.plan_cli.specs.Documents.{count_of};
 ghost use Rattle.plan_cli.specs.Run.{IfText};
-ghost use Rattle.plan_cli.specs.Scheduled.{CanBeShown};
+ghost use Rattle.plan_cli.specs.Scheduled.{CanBeShown, IsMadeFrom, TellsNotMade};
 ghost use Rattle.plan_print.specs.Prints.{IsSheet, RefusesSheet};
 ghost use Rattle.plan_print.specs.Sheets as spec;
 
@@ -13,7 +14,7 @@ use crate::events::events_text;
 use crate::reports::report_text;
 use plan_cli::{
     CliFault, Dates, Origin, Plan, ProofWatcher, Scheduled, SolveWatcher, Subject, Unlogged,
-    plan_of, read_document, schedule_from,
+    plan_of, read_document, schedule_from, with_names,
 };
 use plan_sheet::Heading;
 use std::alloc::Global;
@@ -71,6 +72,26 @@ fn schedule_sheet(
     }
 }
 
+// Returns the schedule of a plan. Its error has the names in the file of the plan.
+#[tactic(auto, using(plan_cli::proofs::SentenceLemmas::detailed_refuses))]
+fn named_schedule<V: ProofWatcher + SolveWatcher>(
+    alloc: Global,
+    subject: Subject<'_>,
+    origin: Origin<'_>,
+    file: &[u8],
+    plan: &Plan<'_>,
+    watcher: &mut V,
+) -> Result<Scheduled, CliFault>
+    ensures made { IfOk result (IsMadeFrom origin.entry plan.now) }
+    ensures refused { IfErr result (Refuses (TellsNotMade origin.entry plan.now)) }
+    ensures names { IfErr result (NamesVerdict subject.entry file.now) }
+{
+    match schedule_from(alloc, origin, plan, watcher, &mut Unlogged) {
+        Ok(made) => Ok(made),
+        Err(fault) => Err(with_names(alloc, subject, file, fault)),
+    }
+}
+
 // Returns a sheet of a plan, for its file.
 fn plan_sheet<V: ProofWatcher + SolveWatcher>(
     alloc: Global,
@@ -86,7 +107,7 @@ fn plan_sheet<V: ProofWatcher + SolveWatcher>(
     ensures refused { IfErr result (Refuses
         (spec.TellsNoSheetFrom origin.entry sheet.entry plan.now)) }
 {
-    let made = schedule_from(alloc, origin, plan, watcher, &mut Unlogged)?;
+    let made = named_schedule(alloc, subject, origin, file, plan, watcher)?;
     schedule_sheet(alloc, sheet, subject, file, plan, &made)
 }
 

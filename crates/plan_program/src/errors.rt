@@ -4,7 +4,7 @@ ghost use Rattle.std.specs.Prelude.{◌≡◌};
 ghost use Rattle.plan_program.specs.Errors.{form_in, form_of};
 
 use crate::file_log::LogFault;
-use crate::hints::{context_of, print_file_error, print_line};
+use crate::hints::{print_error, print_line};
 use crate::misuse::print_misuse;
 use crate::status::Status;
 use plan_cli::Rows;
@@ -95,8 +95,7 @@ fn with_cause(rt: &HostRuntime, order: &FileOrder<'_>, fault: CliFault) -> CliFa
 
 // Prints an error as JSON.
 fn print_json_error(rt: &HostRuntime, order: &FileOrder<'_>, fault: &CliFault) -> Status {
-    let context = context_of(rt, order, fault);
-    if let Ok(text) = error_json(rt.alloc(), context, fault) {
+    if let Ok(text) = error_json(rt.alloc(), order.context(), fault) {
         let _ = rt.stderr().write_all(&text);
     }
     Status::Failed
@@ -105,7 +104,7 @@ fn print_json_error(rt: &HostRuntime, order: &FileOrder<'_>, fault: &CliFault) -
 // Prints an error in this form, and returns the status.
 fn print_in(rt: &HostRuntime, order: &FileOrder<'_>, form: Form, fault: &CliFault) -> Status {
     match form {
-        Form::Hinted => print_file_error(rt, order, fault),
+        Form::Hinted => print_error(rt, order.context(), fault),
         Form::Json => print_json_error(rt, order, fault),
         Form::Bare | Form::Usage => {
             print_line(rt, fault);

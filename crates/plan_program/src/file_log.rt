@@ -1,7 +1,7 @@
 //! The log of a search in a file.
 
 use plan_cli::Log;
-use plan_errors::{CliFault, Code, Part, Subject, refuse};
+use plan_errors::{About, CliFault, Code, Part, refuse};
 use plan_orders::{FileId, Found, Way, way_to_write};
 use std::alloc::AllocError;
 use std::fs::{self, File, Metadata, OpenOptions};
@@ -77,7 +77,7 @@ fn named_fault(rt: &HostRuntime, cause: &str) -> Result<CliFault, AllocError> {
     let detail = cause.to_string(rt.alloc())?;
     let cause = Part::Text(cause.to_string(rt.alloc())?);
     let parts = Vec::from_array(rt.alloc(), [Part::Words("output:"), cause])?;
-    Ok(refuse(Code::Output, Subject::Other, Ok(parts)).with_detail(Some(detail)))
+    Ok(refuse(Code::Output, About::Other, Ok(parts)).with_detail(Some(detail)))
 }
 
 // Returns the error of a log that can't be written, with the name of a file.

@@ -11,7 +11,7 @@ use plan_cli::{
     Unwatched, check_text, explain_run, explain_run_in, read_named, run_on_file, run_on_files,
     template_run,
 };
-use plan_errors::write_text;
+use plan_errors::{About, write_text};
 use plan_io::{Sink, StdSink};
 use plan_orders::FileOrder;
 use plan_print::print_on_files;
@@ -40,8 +40,8 @@ fn do_check(
     path: &str,
 ) -> Result<Status, CliFault> {
     let inputs = SystemInputs::new(rt);
-    let starts = read_named(rt.alloc(), &inputs, starts)?;
-    let file = read_named(rt.alloc(), &inputs, path)?;
+    let starts = read_named(rt.alloc(), &inputs, About::Starts, starts)?;
+    let file = read_named(rt.alloc(), &inputs, About::Plan, path)?;
     let checked = check_text(rt.alloc(), rows, &starts, subject, &file)?;
     write_text(&mut StdSink::new(io::writer(rt)), &checked.text)?;
     Ok(Status::of(checked.verdict))

@@ -1,7 +1,7 @@
 //! `plan verify`: the check of the log of a search.
 
 use plan_cli::{Inputs, SystemInputs, file_refusal, need_refusal, read_named};
-use plan_errors::{CliFault, Code, Key, Part, Subject, refuse};
+use plan_errors::{About, CliFault, Code, Key, Part, refuse};
 use plan_io::{Source, StdSink, write_whole};
 use plan_sgs::SgsFault;
 use plan_verify::{LogFault, VerifyFault, verify_shop_text, verify_text};
@@ -19,7 +19,7 @@ fn project_fault(alloc: Global, fault: SgsFault) -> CliFault {
 // Returns the error of a line of a log.
 fn line_fault(alloc: Global, code: Code, line: u64) -> CliFault {
     match Vec::from_array(alloc, [Part::Number(Key::Line, line)]) {
-        Ok(parts) => refuse(code, Subject::Other, Ok(parts)),
+        Ok(parts) => refuse(code, About::Other, Ok(parts)),
         Err(_) => CliFault::Memory,
     }
 }
@@ -28,7 +28,7 @@ fn line_fault(alloc: Global, code: Code, line: u64) -> CliFault {
 fn log_fault(alloc: Global, fault: LogFault) -> CliFault {
     match fault {
         LogFault::NoMemory => CliFault::Memory,
-        LogFault::Device => CliFault::Input,
+        LogFault::Device => CliFault::Input(About::Log),
         LogFault::DoesNotFollow { line } => line_fault(alloc, Code::DoesNotFollow, line),
         LogFault::Unreadable { line } => line_fault(alloc, Code::BadLogLine, line),
     }
@@ -60,11 +60,16 @@ pub(crate) fn do_verify(
     log: &str,
 ) -> Result<(), CliFault> {
     let inputs = SystemInputs::new(rt);
-    let bytes = read_named(rt.alloc(), &inputs, file)?;
+    let bytes = read_named(rt.alloc(), &inputs, About::Plan, file)?;
     let text = if log == "-" {
         verified(rt.alloc(), &bytes, instance, &mut inputs.standard())?
     } else {
-        verified(rt.alloc(), &bytes, instance, &mut inputs.open(log)?)?
+        verified(
+            rt.alloc(),
+            &bytes,
+            instance,
+            &mut inputs.open(log, About::Log)?,
+        )?
     };
     let mut writer = StdSink::new(io::writer(rt));
     write_whole(&mut writer, text.as_bytes()).map_err(|_| CliFault::Output)

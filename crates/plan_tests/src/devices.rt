@@ -201,7 +201,7 @@ fn tells_that_the_input_failed(rt: HostRuntime) -> Result<(), Fail> {
         };
         let mut sink = MemSink::new(Vec::new(rt.alloc()));
         let run = cpm_run(rt.alloc(), &mut source, &mut sink);
-        assert_eq!(rt; matches!(run, Err(CliFault::Input)), true, "{left}");
+        assert_eq!(rt; matches!(run, Err(CliFault::Input(_))), true, "{left}");
         assert_eq!(rt; sink.into_bytes().len(), 0, "{left}");
     }
     Ok(())

@@ -1,5 +1,5 @@
 use Rattle.plan_errors.specs.declared.codes.Code.TheVariants as code
-use Rattle.plan_errors.specs.declared.context.Subject.TheVariants as subject
+use Rattle.plan_errors.specs.declared.context.About.TheVariants as subject
 use Rattle.plan_errors.proofs.RefusalLemmas.{refused_with}
 use Rattle.plan_cli.specs.Capacities.{SaysUnknown}
 use Rattle.plan_cli.proofs.capacities.plain_unknown.Goals as goal

@@ -21,14 +21,14 @@ returns-in_err-plan-clause-refused g c =
 
 pub returns-clause-made : goal.returns-clause-made
 returns-clause-made g c =
-    IfOk-weaker c.plan_view.result (λ view. IsPlanView c.args.command c.in_ok-plan.plan (view_of view))
+    IfOk-weaker c.named_view.result (λ view. IsPlanView c.args.command c.in_ok-plan.plan (view_of view))
     (λ view. IsOfSubject c.args.subject (IsPlanView c.args.command) c.args.file.now (view_of view))
     (λ view made. of_subject c.args.subject c.args.file.now c.in_ok-document.document c.in_ok-plan.plan (IsPlanView c.args.command)
-    (view_of view) c.in_ok-document.ensures.read c.in_ok-plan.ensures.plan c.in_ok-plan.ensures.fit made) c.plan_view.ensures.made
+    (view_of view) c.in_ok-document.ensures.read c.in_ok-plan.ensures.plan c.in_ok-plan.ensures.fit made) c.named_view.ensures.made
 
 pub returns-clause-refused : goal.returns-clause-refused
 returns-clause-refused g c =
-    if_err_weaker c.plan_view.result (Refuses (IsPlanLine c.args.command c.in_ok-plan.plan))
+    if_err_weaker c.named_view.result (Refuses (IsPlanLine c.args.command c.in_ok-plan.plan))
     (Refuses (RefusesSubject c.args.subject (IsPlanLine c.args.command) c.args.file.now))
     (λ e refused. no_text c.args.subject c.args.file.now c.in_ok-document.document c.in_ok-plan.plan (IsPlanLine c.args.command)
-    e c.in_ok-document.ensures.read c.in_ok-plan.ensures.plan c.in_ok-plan.ensures.fit refused) c.plan_view.ensures.refused
+    e c.in_ok-document.ensures.read c.in_ok-plan.ensures.plan c.in_ok-plan.ensures.fit refused) c.named_view.ensures.refused

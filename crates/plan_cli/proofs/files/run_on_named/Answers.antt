@@ -1,5 +1,6 @@
 use Rattle.std.proofs.Common.{sym}
 use Rattle.std.proofs.lemmas.Result.{err_from_is_err_and, on_ok_weaker}
+use Rattle.plan_errors.specs.declared.context.About.TheVariants as about
 use Rattle.plan_cli.specs.Tasks.{bytes_named}
 use Rattle.plan_cli.proofs.InputLemmas.{task_named, task_unopened, named_standard, named_file}
 use Rattle.plan_cli.proofs.files.run_on_named.Goals as goal
@@ -24,7 +25,7 @@ returns-in_err-reader-clause-does g c =
     let standard = g.I.Inputs.standard_bytes c.args.inputs.now in
     let file_of = g.I.Inputs.file_bytes c.args.inputs.now in
     let error = err_from_is_err_and c.from_residual.result c.from_residual.ensures.1 in
-    rw (error.1, error.2) (task_unopened c.args.task c.args.rows (bytes_named standard file_of c.args.path.now) (g.W.Sink.taken c.args.writer.now) c.in_err-reader.field-0.0 c.in_err-reader.ensures.refused)
+    rw (error.1, error.2) (task_unopened c.args.task c.args.rows about.Plan (bytes_named standard file_of c.args.path.now) (g.W.Sink.taken c.args.writer.now) c.in_err-reader.field-0.0 c.in_err-reader.ensures.refused)
 
 pub returns-then-eq-clause-writes : goal.returns-then-eq-clause-writes
 returns-then-eq-clause-writes g c = c.run_task.ensures.writes
@@ -49,3 +50,9 @@ returns-clause-output g c = c.run_task-2.ensures.output
 
 pub returns-clause-fine : goal.returns-clause-fine
 returns-clause-fine g c = on_ok_weaker c.run_task-2.result (λ both. both.1) c.run_task-2.ensures.fine
+
+pub returns-then-eq-clause-unread : goal.returns-then-eq-clause-unread
+returns-then-eq-clause-unread g c = c.run_task.ensures.unread
+
+pub returns-clause-unread : goal.returns-clause-unread
+returns-clause-unread g c = c.run_task-2.ensures.unread

@@ -9,6 +9,7 @@ returns g c = record {
   quiet = c.answer.ensures.quiet;
   fine = c.answer.ensures.fine;
   heard = c.answer.ensures.heard;
+  unread = c.answer.ensures.unread;
   input = c.answer.ensures.input;
   output = c.answer.ensures.output;
 }

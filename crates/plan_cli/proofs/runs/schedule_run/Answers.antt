@@ -19,6 +19,7 @@ returns g c =
       quiet = e.quiet;
       fine = e.fine;
       heard = e.heard;
+      unread = e.unread;
       input = e.input;
       output = e.output;
     }

@@ -4,5 +4,5 @@ use Rattle.plan_cli.proofs.slacks.planned_slacks.Goals as goal
 
 pub returns-clause-refused : goal.returns-clause-refused
 returns-clause-refused c =
-    no_slack c.args.listed.now (planned c.args.project.now c.args.capacities.now) _ c.instance_slacks.result
-    c.in_ok-instance.ensures.ok c.instance_slacks.ensures.refused
+    no_slack c.args.listed.now (planned c.args.project.now c.args.capacities.now) _ c.named_slacks.result
+    c.in_ok-instance.ensures.ok c.named_slacks.ensures.refused
