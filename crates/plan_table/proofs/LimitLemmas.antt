@@ -149,11 +149,11 @@ cell_draft : (ids before : List (List ℕ)) (line c : ℕ) (a b : Activity) (col
     cell_read ids before line a column resource cell ≡ Ok b → trim cell ≡ cell → IsDraft (length ids) c a → IsDraft (length ids) (c + resource_count column) b
 unfolding cell_read
 cell_draft ids before line c a b columns.Duration resource cell e trimmed draft =
-    then_ok (amount code.BadDuration line [] cell) _ b e (λ n is e.
+    then_ok (amount code.BadDuration line cell cell) _ b e (λ n is e.
     subst (λ (x : Activity). IsDraft (length ids) (c + 0) x) (same_ok (record a { duration = n }) b e)
     (record {
       name = draft.name;
-      duration = amount_small code.BadDuration line [] cell n is;
+      duration = amount_small code.BadDuration line cell cell n is;
       predecessors = draft.predecessors;
       whole = let w = draft.whole in omega (arith, w);
       needs = draft.needs;

@@ -128,7 +128,7 @@ fn read_cell(
 {
     match head.column {
         Column::Duration => {
-            activity.duration = amount(alloc, TableCode::BadDuration, line, b"", cell)?;
+            activity.duration = amount(alloc, TableCode::BadDuration, line, cell, cell)?;
         }
         Column::Id => check_id(alloc, ids.before, line, cell)?,
         Column::Name => activity.name = name(alloc, line, cell)?,
