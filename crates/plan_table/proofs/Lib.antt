@@ -15,6 +15,7 @@ pub mod TableTextLemmas
 pub mod NetworkLemmas
 pub mod ReadLemmas
 pub mod LimitLemmas
+pub mod SettlementLemmas
 pub mod TableLimitLemmas
 pub mod CycleLemmas
 pub mod TrimLemmas

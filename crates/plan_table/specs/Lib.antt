@@ -13,6 +13,8 @@ pub mod Header
 pub mod Rows
 pub mod Entries
 pub mod Overrides
+pub mod Synonyms
+pub mod Settlement
 pub mod Listing
 pub mod Refused
 pub mod ShopTable

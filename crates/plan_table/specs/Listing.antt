@@ -10,9 +10,10 @@ use Rattle.plan_table.specs.declared.header.Column.TheVariants as columns
 use Rattle.plan_table.specs.declared.listing.Listing as declared
 use Rattle.plan_table.specs.Csv.{Row, records_of}
 use Rattle.plan_table.specs.Reading.{Fault, fault, check, ◌>>=◌}
-use Rattle.plan_table.specs.Header.{Head, header}
+use Rattle.plan_table.specs.Header.{Head}
 use Rattle.plan_table.specs.Entries.{entries_in, filled_from}
 use Rattle.plan_table.specs.Overrides.{Override, given, or_row, overrides_checked}
+use Rattle.plan_table.specs.Settlement.{header}
 use Rattle.plan_table.specs.Table.{Resource, Table, table_of}
 
 -- the same, as the program keeps it
@@ -34,6 +35,7 @@ resource_by columns.Duration overrides capacities before name = Ok before
 resource_by columns.Id overrides capacities before name = Ok before
 resource_by columns.Name overrides capacities before name = Ok before
 resource_by columns.Predecessors overrides capacities before name = Ok before
+resource_by columns.Note overrides capacities before name = Ok before
 resource_by columns.Nothing overrides capacities before name = Ok before
 
 unfoldable pub resource_read : List Override → List (Option ℕ) → List Resource → Head → Result (List Resource) Fault
@@ -55,7 +57,7 @@ or_none (Some capacities) = capacities
 unfoldable pub table_in : List Override → List Row → Result Table Fault
 table_in overrides [] = fault code.NoDuration 0 []
 table_in overrides (first ∷ rows) = do
-  heads ← header first.line first.cells
+  heads ← header overrides first rows
   entries ← entries_in heads rows
   known ← overrides_checked heads overrides
   resources ← resources_at overrides (or_none entries.capacities) [] heads

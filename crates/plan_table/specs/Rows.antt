@@ -52,6 +52,7 @@ cell_read ids before line a columns.Id resource cell = id_read before line cell 
 cell_read ids before line a columns.Name resource cell = name line cell >>= λ text. Ok (record a { name = text })
 cell_read ids before line a columns.Predecessors resource cell = predecessors ids line cell >>= λ js. Ok (record a { predecessors = a.predecessors ++ js })
 cell_read ids before line a columns.Resource resource cell = need line resource cell >>= λ n. Ok (record a { needs = a.needs ++ n ∷ [] })
+cell_read ids before line a columns.Note resource cell = Ok a
 cell_read ids before line a columns.Nothing resource cell = Ok a
 
 -- the first cell of those that are left, an empty one if there is none

@@ -12,9 +12,10 @@ ghost use Rattle.plan_table.specs.Table.{resource_of};
 use crate::cells::word_fault;
 use crate::entries::{filled_from, read_entries};
 use crate::fault::{ReadError, TableCode};
-use crate::header::{Column, Head, read_header};
+use crate::header::{Column, Head};
 use crate::overrides::{Override, check_overrides, given};
 use crate::records::{Row, read_records};
+use crate::settlement::read_header;
 use crate::table::{Activity, Resource};
 use plan_psplib::LONGEST_TEXT;
 use std::alloc::Global;
@@ -117,7 +118,7 @@ fn read_rows(alloc: Global, overrides: &[Override<'_>], rows: &[Row]) -> Result<
 {
     match rows {
         [first, rest @ ..] => {
-            let heads = read_header(alloc, first.line, &first.cells)?;
+            let heads = read_header(alloc, overrides, first, rest)?;
             let entries = read_entries(alloc, &heads, rest)?;
             check_overrides(alloc, &heads, overrides)?;
             let capacities = Capacities {

@@ -140,7 +140,7 @@ fn read_cell(
             let amount = need(alloc, line, head.name.as_bytes(), cell)?;
             activity.needs.push(amount)?;
         }
-        Column::Nothing => {}
+        Column::Note | Column::Nothing => {}
     }
     Ok(())
 }
