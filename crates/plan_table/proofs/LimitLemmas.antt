@@ -15,6 +15,7 @@ use Rattle.plan_table.specs.Limits.{IsName, is_printable}
 use Rattle.plan_table.specs.Reading.{Fault, ◌>>=◌, fault, check}
 use Rattle.plan_table.specs.Cells.{same, amount_in, amount, name, number_from, known, predecessor, predecessors_at, ids_in}
 use Rattle.plan_table.specs.Csv.{Row}
+use Rattle.plan_table.specs.Durations.{days_in, duration}
 use Rattle.plan_table.specs.Header.{Head, resource_count, resources_in, head_read, heads_at, heads_checked, once, column_of, key_of}
 use Rattle.plan_table.specs.Overrides.{Override}
 use Rattle.plan_table.specs.Settlement.{Body, settled_by, other_column, settled_head, settled_at, settled, ids_place, header}
@@ -84,17 +85,21 @@ predecessors_known ids line before (id ∷ others) js e h =
     then_ok (predecessor ids line id) _ js e (λ n is e.
     predecessors_known ids line (before ++ n ∷ []) others js e (all_push (IsKnown (length ids)) before n h (predecessor_known ids line id n is)))
 
+amount_in_small : (o : Option ℕ) (c : TableCode) (line : ℕ) (word : List ℕ) (n : ℕ) → amount_in o c line word ≡ Ok n → n ≤ 10000
+amount_in_small None c line word n e = absurd (cc)
+amount_in_small (Some m) c line word n e = by_test (nat_le m 10000) refl e
+  where
+    by_test : (b : Bool) → nat_le m 10000 ≡ b → cond b (Ok m) (fault code.Limit line []) ≡ Ok n → n ≤ 10000
+    by_test true is e = let small = leb-true m 10000 is in let same_number : m ≡ n = same_ok m n e in omega (arith, small, same_number)
+    by_test false is e = absurd (cc)
+
 pub amount_small : (c : TableCode) (line : ℕ) (word cell : List ℕ) (n : ℕ) → amount c line word cell ≡ Ok n → n ≤ 10000
 unfolding amount
-amount_small c line word cell n e = by_number (number cell) e
-  where
-    by_test : (m : ℕ) (b : Bool) → nat_le m 10000 ≡ b → cond b (Ok m) (fault code.Limit line []) ≡ Ok n → n ≤ 10000
-    by_test m true is e = let small = leb-true m 10000 is in let same_number : m ≡ n = same_ok m n e in omega (arith, small, same_number)
-    by_test m false is e = absurd (cc)
+amount_small c line word cell n e = amount_in_small (number cell) c line word n e
 
-    by_number : (o : Option ℕ) → amount_in o c line word ≡ Ok n → n ≤ 10000
-    by_number None e = absurd (cc)
-    by_number (Some m) e = by_test m (nat_le m 10000) refl e
+duration_small : (line : ℕ) (cell : List ℕ) (n : ℕ) → duration line cell ≡ Ok n → n ≤ 10000
+unfolding duration
+duration_small line cell n e = amount_in_small (days_in cell) code.BadDuration line cell n e
 
 need_small : (line : ℕ) (resource cell : List ℕ) (n : ℕ) → need line resource cell ≡ Ok n → n ≤ 10000
 need_small line resource cell n e = by_test (length cell == 0) e
@@ -152,11 +157,11 @@ cell_draft : (ids before : List (List ℕ)) (line c : ℕ) (a b : Activity) (col
     cell_read ids before line a column resource cell ≡ Ok b → trim cell ≡ cell → IsDraft (length ids) c a → IsDraft (length ids) (c + resource_count column) b
 unfolding cell_read
 cell_draft ids before line c a b columns.Duration resource cell e trimmed draft =
-    then_ok (amount code.BadDuration line cell cell) _ b e (λ n is e.
+    then_ok (duration line cell) _ b e (λ n is e.
     subst (λ (x : Activity). IsDraft (length ids) (c + 0) x) (same_ok (record a { duration = n }) b e)
     (record {
       name = draft.name;
-      duration = amount_small code.BadDuration line cell cell n is;
+      duration = duration_small line cell n is;
       predecessors = draft.predecessors;
       whole = let w = draft.whole in omega (arith, w);
       needs = draft.needs;

@@ -9,6 +9,7 @@ pub mod NameLines
 pub mod Csv
 pub mod Reading
 pub mod Cells
+pub mod Durations
 pub mod Header
 pub mod Rows
 pub mod Entries

@@ -5,6 +5,7 @@ mod cells;
 mod checked;
 mod columns;
 mod csv_step;
+mod durations;
 mod entries;
 mod fault;
 mod header;
