@@ -17,6 +17,7 @@ pub mod ReadLemmas
 pub mod LimitLemmas
 pub mod SettlementLemmas
 pub mod TableLimitLemmas
+pub mod AcceptedLemmas
 pub mod CycleLemmas
 pub mod TrimLemmas
 pub mod NameLemmas

@@ -31,7 +31,7 @@ head_stays body before k head behind limited =
     let same_column = stays_by head.column (other_column body before k head behind) (λ resource. limited_other body before k head behind (limited resource)) in
     ap (λ c. record head { column = c }) same_column
 
-heads_stay : (body : Body) (before : List Head) (k : ℕ) (heads : List Head) → AreLimited body k heads → settled_at body before k heads ≡ before ++ heads
+pub heads_stay : (body : Body) (before : List Head) (k : ℕ) (heads : List Head) → AreLimited body k heads → settled_at body before k heads ≡ before ++ heads
 unfolding settled_at
 heads_stay body before k [] limited = sym (append-nil before)
 heads_stay body before k (head ∷ heads) limited =

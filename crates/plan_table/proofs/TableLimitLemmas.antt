@@ -16,7 +16,7 @@ use Rattle.plan_table.specs.Header.{Head, resource_count, resources_in}
 use Rattle.plan_table.specs.Rows.{activity_read, first_cell}
 use Rattle.plan_table.specs.Entries.{Entries, is_blank_row, is_capacity, filled_from, id_of, id_place, is_activity, one_more, id_added, with_id, ids_at, added, activity_row, first_capacities, capacity_in, capacity_read, capacities_read, capacity_row, filled_row, row_by, entry_read, entries_at, entries_in, no_entries}
 use Rattle.plan_table.specs.Overrides.{Override, given, is_resource, known_resource, or_row, overridden, override_checked, overrides_checked}
-use Rattle.plan_table.specs.Listing.{known_capacity, resource_by, resource_read, resources_at, or_none, table_in, rows_read, table_read_with}
+use Rattle.plan_table.specs.Listing.{known_capacity, resource_by, resource_read, resources_at, or_none, rows_under, table_in, rows_read, table_read_with}
 use Rattle.plan_table.specs.Settlement.{header}
 use Rattle.plan_table.specs.Table.{Activity, Resource, Table}
 use Rattle.plan_table.proofs.LimitLemmas.{then_ok, same_ok, check_ok, all_push, push_length, amount_small, IsDraft, IsHeader, activity_draft, header_good}
@@ -287,7 +287,7 @@ entries_are m k n c (x ∷ xs) p q h =
     )
 
 rows_good : (overrides : List Override) (rows : List Row) (t : Table) → table_in overrides rows ≡ Ok t → IsWithinLimits t
-unfolding table_in
+unfolding table_in rows_under
 rows_good overrides [] t is = absurd (cc)
 rows_good overrides (first ∷ rows) t is =
     then_ok (header overrides first rows) _ t is (λ heads read is.

@@ -17,6 +17,7 @@ pub mod Overrides
 pub mod Synonyms
 pub mod Settlement
 pub mod Listing
+pub mod Acceptance
 pub mod Refused
 pub mod ShopTable
 pub mod ShopReading

@@ -53,15 +53,20 @@ abbrev pub or_none : Option (List (Option ℕ)) → List (Option ℕ)
 or_none None = []
 or_none (Some capacities) = capacities
 
+-- what rows say under columns, with capacities that override those in them
+unfoldable pub rows_under : List Override → List Head → List Row → Result Table Fault
+rows_under overrides heads rows = do
+  entries ← entries_in heads rows
+  known ← overrides_checked heads overrides
+  resources ← resources_at overrides (or_none entries.capacities) [] heads
+  Ok (record { activities = entries.activities; resources = resources })
+
 -- what records say, the first of which is the header, with capacities that override those in them
 unfoldable pub table_in : List Override → List Row → Result Table Fault
 table_in overrides [] = fault code.NoDuration 0 []
 table_in overrides (first ∷ rows) = do
   heads ← header overrides first rows
-  entries ← entries_in heads rows
-  known ← overrides_checked heads overrides
-  resources ← resources_at overrides (or_none entries.capacities) [] heads
-  Ok (record { activities = entries.activities; resources = resources })
+  rows_under overrides heads rows
 
 -- the line of a byte
 abbrev pub line_at : List ℕ → ℕ → ℕ

@@ -30,7 +30,7 @@ mod templates;
 
 pub use fault::{ReadError, TableCode, TableFault, TextFault};
 pub use jobshop::shop_text;
-pub use laws::{limited_columns_stay, names_change_nothing};
+pub use laws::{accepted_lists_stay, limited_columns_stay, names_change_nothing};
 pub use names::{NameLine, activity_names, first_name, resource_names};
 pub use overrides::Override;
 pub use reading::{read_table, read_table_with};

@@ -110,6 +110,30 @@ fn or_none(capacities: &Option<Vec<Option<u32>>>) -> &[Option<u32>]
     }
 }
 
+// What rows say under columns, with overrides.
+#[tactic(auto, unfolding(crate::specs::Listing::rows_under))]
+fn read_rows_under(
+    alloc: Global,
+    overrides: &[Override<'_>],
+    heads: &[Head],
+    rows: &[Row],
+) -> Result<Listing, ReadError>
+    ensures { Gives spec.listing_of result (spec.rows_under (map override_of overrides.now)
+        (map head_of heads.now) (map row_of rows.now)) }
+{
+    let entries = read_entries(alloc, heads, rows)?;
+    check_overrides(alloc, heads, overrides)?;
+    let capacities = Capacities {
+        row: or_none(&entries.capacities),
+        overrides,
+    };
+    let resources = read_resources(alloc, &capacities, heads)?;
+    Ok(Listing {
+        activities: entries.activities,
+        resources,
+    })
+}
+
 // What records say, with overrides.
 #[tactic(auto, unfolding(crate::specs::Listing::table_in))]
 fn read_rows(alloc: Global, overrides: &[Override<'_>], rows: &[Row]) -> Result<Listing, ReadError>
@@ -119,17 +143,7 @@ fn read_rows(alloc: Global, overrides: &[Override<'_>], rows: &[Row]) -> Result<
     match rows {
         [first, rest @ ..] => {
             let heads = read_header(alloc, overrides, first, rest)?;
-            let entries = read_entries(alloc, &heads, rest)?;
-            check_overrides(alloc, &heads, overrides)?;
-            let capacities = Capacities {
-                row: or_none(&entries.capacities),
-                overrides,
-            };
-            let resources = read_resources(alloc, &capacities, &heads)?;
-            Ok(Listing {
-                activities: entries.activities,
-                resources,
-            })
+            read_rows_under(alloc, overrides, &heads, rest)
         }
         [] => Err(word_fault(alloc, TableCode::NoDuration, 0, b"")),
     }
