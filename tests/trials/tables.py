@@ -16,6 +16,7 @@ import io
 import json
 import os
 import random
+import re
 import subprocess
 import sys
 import unicodedata
@@ -30,6 +31,7 @@ TABLES = os.path.join(os.path.dirname(TRIALS), "tables")
 LONGEST_TEXT = 1048576
 MOST_ROWS = 500
 MOST_RESOURCES = 16
+MOST_OTHERS = 100
 GREATEST = 10000
 LONGEST_SUM = 1000000
 LONGEST_NAME = 200
@@ -46,6 +48,17 @@ COLUMNS = {
     "after": "predecessors",
     "depends on": "predecessors",
 }
+# other words for kinds of columns, and words for days
+SYNONYMS = {
+    "duration": "days, work days, dauer, durée, duree, duración, duracion",
+    "id": "nr, nr., no, no., number, activity id, task id",
+    "name": "task name, activity, name der aufgabe, vorgangsname, vorgang, bezeichnung, nom, nom de la tâche, tâche, "
+    "nombre, nombre de tarea, tarea",
+    "predecessors": "predecessor, depends, dependencies, vorgänger, vorgaenger, prédécesseurs, predecesseurs, "
+    "predecesoras",
+}
+KINDS = {word: kind for kind, words in SYNONYMS.items() for word in words.split(", ")}
+DAYS = ["", "d", "day", "days", "tag", "tage", "jour", "jours", "día", "días"]
 
 
 class Refused(Exception):
@@ -134,9 +147,18 @@ def lower(text):
     return "".join(c.lower() if c.isascii() else c for c in text)
 
 
+def duration_of(cell, line):
+    """The days in a cell: a number, perhaps with a fraction of zero, and perhaps a word for days."""
+    parts = re.fullmatch(rf"([0-9]*)([.,]0)?[{BLANKS}]*(.*)", cell, re.S)
+    fault = f"T5 line {line} duration"
+    if lower(parts[3]) not in DAYS:
+        raise Refused(fault)
+    return amount(parts[1], fault, line)
+
+
 def header_of(line, cells):
-    """The kinds of the columns, and the names of those that are resources."""
-    kinds, keys, resources = [], [], []
+    """The kinds of the columns by their headers, and the headers in lower case and as they are."""
+    kinds, keys, names = [], [], []
     for cell in cells:
         name = cell.strip(BLANKS)
         key = lower(name)
@@ -145,14 +167,30 @@ def header_of(line, cells):
             raise Refused(f"T4 column {name} twice")
         keys.append(key)
         kinds.append(kind)
-        if kind == "resource" and len(resources) == MOST_RESOURCES:
+        if kinds.count("resource") > MOST_OTHERS:
             raise Refused(f"T12 limit line {line}")
-        checked_name(name, line)
-        if kind == "resource":
-            resources.append(name)
-    if "duration" not in kinds:
-        raise Refused("T3 no column duration")
-    return kinds, keys, resources
+        names.append(checked_name(name, line))
+    return kinds, keys, names
+
+
+def settled(kinds, keys, names, rows, given):
+    """The kinds of the columns by their headers, their cells and the given capacities."""
+    given = [lower(name) for name in given]
+    open_columns = {k for k, kind in enumerate(kinds) if kind == "resource" and lower(names[k]) not in given}
+    columns = [[cells[k].strip(BLANKS) if k < len(cells) else "" for cells in rows] for k in range(len(kinds))]
+    ids = [k for k, kind in enumerate(kinds) if kind == "id"]
+    ids += [k for k in sorted(open_columns) if KINDS.get(keys[k]) == "id"]
+    for n, name in enumerate(columns[ids[0]] if ids else []):
+        if lower(name) == "capacity":
+            open_columns -= {k for k in open_columns if columns[k][n] and k != ids[0]}
+    found = list(kinds)
+    for k in sorted(open_columns):
+        kind = KINDS.get(keys[k])
+        if kind and kind not in found:
+            found[k] = kind
+        elif any(cell and number_of(cell) is None for cell in columns[k]):
+            found[k] = "note"
+    return found
 
 
 def is_id(word):
@@ -169,8 +207,14 @@ class Table:
         while found and not any(x.strip(BLANKS) for x in found[0][1]):
             found = found[1:]
         line, cells = found[0] if found else (1, [])
-        self.kinds, keys, self.resources = header_of(line, cells)
-        self.id_at = keys.index("id") if "id" in keys else None
+        kinds, keys, names = header_of(line, cells)
+        self.kinds = settled(kinds, keys, names, [cells for _, cells in found[1:]], given)
+        self.resources = [name for name, kind in zip(names, self.kinds) if kind == "resource"]
+        if len(self.resources) > MOST_RESOURCES:
+            raise Refused(f"T12 limit line {line}")
+        if "duration" not in self.kinds:
+            raise Refused("T3 no column duration")
+        self.id_at = self.kinds.index("id") if "id" in self.kinds else None
         rows = [(n, c) for n, c in found[1:] if any(x.strip(BLANKS) for x in c)]
         ids = [self.id_of(k, c) for k, (_, c) in enumerate(rows)]
         activities = [(n, name) for (n, _), name in zip(rows, ids) if not self.is_capacity(name)]
@@ -204,7 +248,7 @@ class Table:
         for k, kind in enumerate(self.kinds):
             cell = cells[k].strip(BLANKS) if k < len(cells) else ""
             if kind == "duration":
-                row["duration"] = amount(cell, f"T5 line {line} duration", line)
+                row["duration"] = duration_of(cell, line)
             elif kind == "id":
                 if not is_id(cell):
                     raise Refused(f"T6 line {line} id")
@@ -363,7 +407,16 @@ HEADS = {
     "name": ["name", "task", "Task"],
     "predecessors": ["predecessors", "after", "depends on", "Depends On"],
 }
+NOTES = ["Notes", "Start", "Cost", "Nr", "Task ID", "Tâche", "Vorgang", "Days", "Dauer", "Depends", "Vorgänger"]
 CAPACITY = ["capacity", "capacity", "Capacity", "CAPACITY"]
+
+
+def drawn_header(draw, kind, words):
+    """A header of a kind, perhaps another word for it."""
+    if words and draw.random() < 0.6:
+        word = draw.choice(SYNONYMS[kind].split(", "))
+        return word.capitalize() if draw.random() < 0.5 else word
+    return draw.choice(HEADS[kind])
 
 
 def drawn_table(draw):
@@ -373,24 +426,33 @@ def drawn_table(draw):
     count = draw.choice([0, 1, 2, 3, 5, 8, 14, 40])
     resources = [draw.choice(["crew", "digger", "Kran", "bücher"]) + str(k) for k in range(draw.randrange(4))]
     kinds = ["duration"] + [k for k in ("id", "name", "predecessors") if draw.random() < 0.8] + resources
+    notes = draw.sample(NOTES, draw.choice([0, 0, 1, 2, 4]))
+    kinds += notes
     draw.shuffle(kinds)
     ids = [chr(65 + k) if count <= 26 else f"a{k}" for k in range(count)]
     if "id" not in kinds:
         ids = [str(k + 1) for k in range(count)]
-    lines = [[draw.choice(HEADS[k]) if k in HEADS else k for k in kinds]]
+    words = draw.random() < 0.3
+    lines = [[drawn_header(draw, k, words) if k in HEADS else k for k in kinds]]
     order = list(range(count))
     if draw.random() < 0.3:
         draw.shuffle(order)
     for place, k in enumerate(order):
         before = draw.sample(order[:place], min(place, draw.randrange(4)))
         row = {"duration": str(draw.randrange(30)), "id": ids[k], "name": draw.choice(NAMES)}
+        if draw.random() < 0.1:
+            row["duration"] += draw.choice([",0", ".0", ""]) + draw.choice(["", " ", "  "]) + draw.choice(DAYS + ["Days"])
+        if draw.random() < 0.01:
+            row["duration"] += draw.choice([".5", ",00", " hrs", ",0 0"])
         row["predecessors"] = draw.choice([" ", ",", "; "]).join(ids[i] for i in before)
         row.update({name: draw.choice(["", "0", "1", "3"]) for name in resources})
+        row.update({name: draw.choice(["", "1", "2024-05-01", "see plan"]) for name in notes})
         if draw.random() < 0.02:
             row[draw.choice(kinds)] = draw.choice(["x", "-1", "99999", "A B", "1000000000"])
         lines.append([row[kind] for kind in kinds])
     if "id" in kinds and draw.random() < 0.9:
         row = {"id": draw.choice(CAPACITY), **{name: str(draw.randrange(1, 9)) for name in resources}}
+        row.update({name: "2" for name in notes if draw.random() < 0.1})
         lines.insert(draw.randrange(1, len(lines) + 1), [row.get(kind, "") for kind in kinds])
     if draw.random() < 0.2:
         lines.insert(draw.randrange(1, len(lines) + 1), [""] * len(kinds))

@@ -15,7 +15,9 @@ pub mod TableTextLemmas
 pub mod NetworkLemmas
 pub mod ReadLemmas
 pub mod LimitLemmas
+pub mod SettlementLemmas
 pub mod TableLimitLemmas
+pub mod AcceptedLemmas
 pub mod CycleLemmas
 pub mod TrimLemmas
 pub mod NameLemmas

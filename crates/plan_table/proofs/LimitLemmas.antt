@@ -5,7 +5,7 @@ use Rattle.std.specs.List.{AllByRecursion, list_all, list_any}
 use Rattle.std.proofs.lemmas.Bool.{and_from, leb-true}
 use Rattle.std.proofs.lemmas.Str.{chars-nil, is_utf8-from_IsUtf8, IsUtf8-nil}
 use Rattle.std.specs.Str.{chars, is_utf8}
-use Rattle.std.proofs.lemmas.List.Sums.{sum_by-cons, sum_by_push}
+use Rattle.std.proofs.lemmas.List.Sums.{sum_by-cons}
 use Rattle.plan_psplib.specs.Numbers.{number}
 use Rattle.plan_table.specs.declared.fault.TableCode.{TableCode}
 use Rattle.plan_table.specs.declared.fault.TableCode.TheVariants as code
@@ -14,7 +14,11 @@ use Rattle.plan_table.specs.declared.header.Column.TheVariants as columns
 use Rattle.plan_table.specs.Limits.{IsName, is_printable}
 use Rattle.plan_table.specs.Reading.{Fault, ◌>>=◌, fault, check}
 use Rattle.plan_table.specs.Cells.{same, amount_in, amount, name, number_from, known, predecessor, predecessors_at, ids_in}
-use Rattle.plan_table.specs.Header.{Head, resource_count, resources_in, head_read, heads_at, header, once, column_of, key_of}
+use Rattle.plan_table.specs.Csv.{Row}
+use Rattle.plan_table.specs.Durations.{days_in, duration}
+use Rattle.plan_table.specs.Header.{Head, resource_count, resources_in, head_read, heads_at, heads_checked, once, column_of, key_of}
+use Rattle.plan_table.specs.Overrides.{Override}
+use Rattle.plan_table.specs.Settlement.{Body, settled_by, other_column, settled_head, settled_at, settled, ids_place, header}
 use Rattle.plan_table.specs.Rows.{need, cell_read, row_read, activity_read, fresh_activity, id_read, first_cell}
 use Rattle.plan_table.specs.Table.{Activity}
 use Rattle.plan_psplib.specs.Lines.{trim}
@@ -81,17 +85,21 @@ predecessors_known ids line before (id ∷ others) js e h =
     then_ok (predecessor ids line id) _ js e (λ n is e.
     predecessors_known ids line (before ++ n ∷ []) others js e (all_push (IsKnown (length ids)) before n h (predecessor_known ids line id n is)))
 
+amount_in_small : (o : Option ℕ) (c : TableCode) (line : ℕ) (word : List ℕ) (n : ℕ) → amount_in o c line word ≡ Ok n → n ≤ 10000
+amount_in_small None c line word n e = absurd (cc)
+amount_in_small (Some m) c line word n e = by_test (nat_le m 10000) refl e
+  where
+    by_test : (b : Bool) → nat_le m 10000 ≡ b → cond b (Ok m) (fault code.Limit line []) ≡ Ok n → n ≤ 10000
+    by_test true is e = let small = leb-true m 10000 is in let same_number : m ≡ n = same_ok m n e in omega (arith, small, same_number)
+    by_test false is e = absurd (cc)
+
 pub amount_small : (c : TableCode) (line : ℕ) (word cell : List ℕ) (n : ℕ) → amount c line word cell ≡ Ok n → n ≤ 10000
 unfolding amount
-amount_small c line word cell n e = by_number (number cell) e
-  where
-    by_test : (m : ℕ) (b : Bool) → nat_le m 10000 ≡ b → cond b (Ok m) (fault code.Limit line []) ≡ Ok n → n ≤ 10000
-    by_test m true is e = let small = leb-true m 10000 is in let same_number : m ≡ n = same_ok m n e in omega (arith, small, same_number)
-    by_test m false is e = absurd (cc)
+amount_small c line word cell n e = amount_in_small (number cell) c line word n e
 
-    by_number : (o : Option ℕ) → amount_in o c line word ≡ Ok n → n ≤ 10000
-    by_number None e = absurd (cc)
-    by_number (Some m) e = by_test m (nat_le m 10000) refl e
+duration_small : (line : ℕ) (cell : List ℕ) (n : ℕ) → duration line cell ≡ Ok n → n ≤ 10000
+unfolding duration
+duration_small line cell n e = amount_in_small (days_in cell) code.BadDuration line cell n e
 
 need_small : (line : ℕ) (resource cell : List ℕ) (n : ℕ) → need line resource cell ≡ Ok n → n ≤ 10000
 need_small line resource cell n e = by_test (length cell == 0) e
@@ -149,11 +157,11 @@ cell_draft : (ids before : List (List ℕ)) (line c : ℕ) (a b : Activity) (col
     cell_read ids before line a column resource cell ≡ Ok b → trim cell ≡ cell → IsDraft (length ids) c a → IsDraft (length ids) (c + resource_count column) b
 unfolding cell_read
 cell_draft ids before line c a b columns.Duration resource cell e trimmed draft =
-    then_ok (amount code.BadDuration line [] cell) _ b e (λ n is e.
+    then_ok (duration line cell) _ b e (λ n is e.
     subst (λ (x : Activity). IsDraft (length ids) (c + 0) x) (same_ok (record a { duration = n }) b e)
     (record {
       name = draft.name;
-      duration = amount_small code.BadDuration line [] cell n is;
+      duration = duration_small line cell n is;
       predecessors = draft.predecessors;
       whole = let w = draft.whole in omega (arith, w);
       needs = draft.needs;
@@ -191,6 +199,8 @@ cell_draft ids before line c a b columns.Resource resource cell e trimmed draft 
       whole = push_length a.needs n ∙ ap (λ k. k + 1) draft.whole;
       needs = all_push (λ amount. amount ≤ 10000) a.needs n draft.needs (need_small line resource cell n is);
     }))
+cell_draft ids before line c a b columns.Note resource cell e trimmed draft =
+    subst (λ (x : Activity). IsDraft (length ids) (c + 0) x) (same_ok a b e) (more_columns (length ids) c (c + 0) a (omega arith) draft)
 cell_draft ids before line c a b columns.Nothing resource cell e trimmed draft =
     subst (λ (x : Activity). IsDraft (length ids) (c + 0) x) (same_ok a b e) (more_columns (length ids) c (c + 0) a (omega arith) draft)
 
@@ -232,36 +242,61 @@ resource_named : (text : List ℕ) → column_of (map to_ascii_lowercase text) �
 resource_named [] e = absurd (cc)
 resource_named (b ∷ bs) e = omega arith
 
-head_good : (line : ℕ) (before : List Head) (cell : List ℕ) (h : Head) → head_read line before cell ≡ Ok h → (resources_in before + resource_count h.column ≤ 16) × IsHeader h
+head_good : (line : ℕ) (before : List Head) (cell : List ℕ) (h : Head) → head_read line before cell ≡ Ok h → IsHeader h
 unfolding head_read
 head_good line before cell h e =
     then_ok (once before cell) _ h e (λ u new e.
-    then_ok (check (nat_le (resources_in before + resource_count (column_of (key_of cell))) 16) code.Limit line) _ h e (λ v room e.
+    then_ok (check (nat_le (resources_in before + resource_count (column_of (key_of cell))) 100) code.Limit line) _ h e (λ v room e.
     then_ok (name line (trim cell)) _ h e (λ text is e.
-    subst (λ (x : Head). (resources_in before + resource_count x.column ≤ 16) × IsHeader x)
-    (same_ok (record { column = column_of (key_of cell); key = key_of cell; name = text }) h e) (
-      leb-true (resources_in before + resource_count (column_of (key_of cell))) 16 (check_ok _ code.Limit line v room),
-      record {
-        name = name_good line (trim cell) text is (trim_trim cell);
-        named = λ resource. subst (λ (t : List ℕ). 0 < length t) (name_is line (trim cell) text is) (resource_named (trim cell) resource);
-      },
-    ))))
+    subst IsHeader
+    (same_ok (record { column = column_of (key_of cell); key = key_of cell; name = text }) h e)
+    (record {
+      name = name_good line (trim cell) text is (trim_trim cell);
+      named = λ resource. subst (λ (t : List ℕ). 0 < length t) (name_is line (trim cell) text is) (resource_named (trim cell) resource);
+    }))))
 
-heads_good : (line : ℕ) (before : List Head) (cells : List (List ℕ)) (heads : List Head) → heads_at line before cells ≡ Ok heads → AreHeads before → AreHeads heads
+heads_good : (line : ℕ) (before : List Head) (cells : List (List ℕ)) (heads : List Head) → heads_at line before cells ≡ Ok heads →
+    AllByRecursion IsHeader before → AllByRecursion IsHeader heads
 unfolding heads_at
-heads_good line before [] heads e good = subst AreHeads (same_ok before heads e) good
+heads_good line before [] heads e good = subst (AllByRecursion IsHeader) (same_ok before heads e) good
 heads_good line before (cell ∷ cells) heads e good =
     then_ok (head_read line before cell) _ heads e (λ h is e.
-    let one = head_good line before cell h is in
-    let sums = sum_by_push (λ (x : Head). resource_count x.column) before h in
-    heads_good line (before ++ h ∷ []) cells heads e (record {
-      few = omega (arith, sums, one.0);
-      names = all_push IsHeader before h good.names one.1;
-    }))
+    heads_good line (before ++ h ∷ []) cells heads e (all_push IsHeader before h good (head_good line before cell h is)))
 
-pub header_good : (line : ℕ) (cells : List (List ℕ)) (heads : List Head) → header line cells ≡ Ok heads → AreHeads heads
+-- a settled column is a resource only if its header isn't a known one
+resource_by_header : (column other : Column) → settled_by column other ≡ columns.Resource → column ≡ columns.Resource
+resource_by_header columns.Resource other e = refl
+resource_by_header columns.Duration other e = absurd (cc)
+resource_by_header columns.Id other e = absurd (cc)
+resource_by_header columns.Name other e = absurd (cc)
+resource_by_header columns.Predecessors other e = absurd (cc)
+resource_by_header columns.Note other e = absurd (cc)
+resource_by_header columns.Nothing other e = absurd (cc)
+
+settled_head_good : (body : Body) (before : List Head) (k : ℕ) (head : Head) (behind : List Head) → IsHeader head → IsHeader (settled_head body before k head behind)
+settled_head_good body before k head behind good =
+    record { name = good.name; named = λ e. good.named (resource_by_header head.column (other_column body before k head behind) e) }
+
+settled_good : (body : Body) (before : List Head) (k : ℕ) (heads : List Head) → AllByRecursion IsHeader before → AllByRecursion IsHeader heads →
+    AllByRecursion IsHeader (settled_at body before k heads)
+unfolding settled_at
+settled_good body before k [] done left = done
+settled_good body before k (head ∷ heads) done left =
+    settled_good body (before ++ settled_head body before k head heads ∷ []) (k + 1) heads
+    (all_push IsHeader before (settled_head body before k head heads) done (settled_head_good body before k head heads left.0)) left.1
+
+few_heads : (line : ℕ) (heads : List Head) (u : Unit {0}) → heads_checked line heads ≡ Ok u → resources_in heads ≤ 16
+unfolding heads_checked
+few_heads line heads u e =
+    then_ok (check (nat_le (resources_in heads) 16) code.Limit line) _ u e (λ v few e. leb-true (resources_in heads) 16 (check_ok _ code.Limit line v few))
+
+pub header_good : (overrides : List Override) (first : Row) (rows : List Row) (heads : List Head) → header overrides first rows ≡ Ok heads → AreHeads heads
 unfolding header
-header_good line cells heads e =
-    then_ok (heads_at line [] cells) _ heads e (λ hs is e.
-    then_ok (check _ code.NoDuration 0) _ heads e (λ u has e.
-    subst AreHeads (same_ok hs heads e) (heads_good line [] cells hs is (record { few = omega arith; names = tt }))))
+header_good overrides first rows heads e =
+    then_ok (heads_at first.line [] first.cells) _ heads e (λ hs is e.
+    then_ok (heads_checked first.line (settled overrides rows hs)) _ heads e (λ u sound e.
+    let body : Body = record { overrides = overrides; rows = rows; place = ids_place overrides hs } in
+    subst AreHeads (same_ok (settled overrides rows hs) heads e) (record {
+      few = few_heads first.line (settled overrides rows hs) u sound;
+      names = settled_good body [] 0 hs tt (heads_good first.line [] first.cells hs is tt);
+    })))

@@ -89,7 +89,7 @@ step_added_good : (line k : ℕ) (e f : ShopEntries) (machine time : List ℕ) �
 unfolding step_added
 step_added_good line k e f machine time is trimmed below good =
     then_ok (shop_name line machine) _ f is (λ text named is.
-    then_ok (amount code.BadDuration line [] time) _ f is (λ n low is.
+    then_ok (amount code.BadDuration line time time) _ f is (λ n low is.
     then_ok (name_added 20 line e.machines text) _ f is (λ found added is.
     then_ok (check (nat_le (e.total + n) 1000000) code.Limit line) _ f is (λ u fits is.
     let s : ShopStep = record { order = k; machine = found.1; time = n } in
@@ -104,7 +104,7 @@ step_added_good line k e f machine time is trimmed below good =
         machine_names = a.names;
         steps = all_push (IsShopStep (length e.orders) (length found.0)) e.steps s
             (steps_within (length e.orders) (length e.machines) (length e.orders) (length found.0) e.steps (omega arith) a.more good.steps)
-            (below, a.place, amount_small code.BadDuration line [] time n low);
+            (below, a.place, amount_small code.BadDuration line time time n low);
         total = omega (arith, sums, total);
         limit = leb-true (e.total + n) 1000000 (check_ok _ code.Limit line u fits);
       },

@@ -12,11 +12,12 @@ use Rattle.plan_table.specs.Csv.{Row}
 use Rattle.plan_table.specs.Limits.{IsName, IsEntry, IsSupply, IsWithinLimits}
 use Rattle.plan_table.specs.Reading.{◌>>=◌, check}
 use Rattle.plan_table.specs.Cells.{amount, same_name}
-use Rattle.plan_table.specs.Header.{Head, resource_count, resources_in, header}
+use Rattle.plan_table.specs.Header.{Head, resource_count, resources_in}
 use Rattle.plan_table.specs.Rows.{activity_read, first_cell}
 use Rattle.plan_table.specs.Entries.{Entries, is_blank_row, is_capacity, filled_from, id_of, id_place, is_activity, one_more, id_added, with_id, ids_at, added, activity_row, first_capacities, capacity_in, capacity_read, capacities_read, capacity_row, filled_row, row_by, entry_read, entries_at, entries_in, no_entries}
 use Rattle.plan_table.specs.Overrides.{Override, given, is_resource, known_resource, or_row, overridden, override_checked, overrides_checked}
-use Rattle.plan_table.specs.Listing.{known_capacity, resource_by, resource_read, resources_at, or_none, table_in, rows_read, table_read_with}
+use Rattle.plan_table.specs.Listing.{known_capacity, resource_by, resource_read, resources_at, or_none, rows_under, table_in, rows_read, table_read_with}
+use Rattle.plan_table.specs.Settlement.{header}
 use Rattle.plan_table.specs.Table.{Activity, Resource, Table}
 use Rattle.plan_table.proofs.LimitLemmas.{then_ok, same_ok, check_ok, all_push, push_length, amount_small, IsDraft, IsHeader, activity_draft, header_good}
 
@@ -48,6 +49,7 @@ capacity_read_small line before found columns.Duration resource cell e h = subst
 capacity_read_small line before found columns.Id resource cell e h = subst AreSmall (same_ok before found e) h
 capacity_read_small line before found columns.Name resource cell e h = subst AreSmall (same_ok before found e) h
 capacity_read_small line before found columns.Predecessors resource cell e h = subst AreSmall (same_ok before found e) h
+capacity_read_small line before found columns.Note resource cell e h = subst AreSmall (same_ok before found e) h
 capacity_read_small line before found columns.Nothing resource cell e h = subst AreSmall (same_ok before found e) h
 
 capacities_small : (line : ℕ) (before found : List (Option ℕ)) (heads : List Head) (cells : List (List ℕ)) →
@@ -253,6 +255,7 @@ supply_good columns.Duration overrides capacities before found name is low small
 supply_good columns.Id overrides capacities before found name is low small named some good = unchanged before found (same_ok before found is) good
 supply_good columns.Name overrides capacities before found name is low small named some good = unchanged before found (same_ok before found is) good
 supply_good columns.Predecessors overrides capacities before found name is low small named some good = unchanged before found (same_ok before found is) good
+supply_good columns.Note overrides capacities before found name is low small named some good = unchanged before found (same_ok before found is) good
 supply_good columns.Nothing overrides capacities before found name is low small named some good = unchanged before found (same_ok before found is) good
 
 resources_good : (overrides : List Override) (capacities : List (Option ℕ)) (before found : List Resource) (heads : List Head) → resources_at overrides capacities before heads ≡ Ok found →
@@ -284,14 +287,14 @@ entries_are m k n c (x ∷ xs) p q h =
     )
 
 rows_good : (overrides : List Override) (rows : List Row) (t : Table) → table_in overrides rows ≡ Ok t → IsWithinLimits t
-unfolding table_in
+unfolding table_in rows_under
 rows_good overrides [] t is = absurd (cc)
 rows_good overrides (first ∷ rows) t is =
-    then_ok (header first.line first.cells) _ t is (λ heads read is.
+    then_ok (header overrides first rows) _ t is (λ heads read is.
     then_ok (entries_in heads rows) _ t is (λ e entries is.
     then_ok (overrides_checked heads overrides) _ t is (λ u checked is.
     then_ok (resources_at overrides (or_none e.capacities) [] heads) _ t is (λ rs resources is.
-    let head = header_good first.line first.cells heads read in
+    let head = header_good overrides first rows heads read in
     let all = entries_in_good heads rows e entries in
     let g = all.good in
     let supplies = resources_good overrides (or_none e.capacities) [] rs heads resources (overrides_low heads overrides u checked) g.capacities head.names tt in

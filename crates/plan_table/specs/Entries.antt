@@ -11,8 +11,8 @@ use Rattle.plan_table.specs.declared.header.Column.TheVariants as columns
 use Rattle.plan_table.specs.declared.entries.Entries as declared
 use Rattle.plan_table.specs.Csv.{Row}
 use Rattle.plan_table.specs.Reading.{Fault, fault, check, ◌>>=◌}
-use Rattle.plan_table.specs.Cells.{same, same_name, amount}
-use Rattle.plan_table.specs.Header.{Head}
+use Rattle.plan_table.specs.Cells.{same_name, amount}
+use Rattle.plan_table.specs.Header.{Head, same_kind}
 use Rattle.plan_table.specs.Limits.{most_rows}
 use Rattle.plan_table.specs.Rows.{first_cell, activity_read}
 use Rattle.plan_table.specs.Table.{Activity, activity_of}
@@ -26,14 +26,14 @@ abbrev pub filled_from : List Row → List Row
 filled_from [] = []
 filled_from (row ∷ rows) = if is_blank_row row.cells then filled_from rows else row ∷ rows
 
--- where the column of a key is, if the first one that is left has the number k
-abbrev pub place_from : ℕ → List ℕ → List Head → Option ℕ
-place_from k key [] = None
-place_from k key (head ∷ heads) = if same head.key key then Some k else place_from (k + 1) key heads
+-- where the first column of a kind is, if the first one that is left has the number k
+abbrev pub place_from : Column → ℕ → List Head → Option ℕ
+place_from kind k [] = None
+place_from kind k (head ∷ heads) = if same_kind kind head.column then Some k else place_from kind (k + 1) heads
 
 -- the column of the ids
 abbrev pub id_place : List Head → Option ℕ
-id_place heads = place_from 0 (codes "id") heads
+id_place heads = place_from columns.Id 0 heads
 
 -- the id of the row behind so many activities; without a column of ids it is its number
 abbrev pub id_of : Option ℕ → ℕ → List (List ℕ) → List ℕ
@@ -106,6 +106,7 @@ capacity_read line before columns.Duration resource cell = Ok before
 capacity_read line before columns.Id resource cell = Ok before
 capacity_read line before columns.Name resource cell = Ok before
 capacity_read line before columns.Predecessors resource cell = Ok before
+capacity_read line before columns.Note resource cell = Ok before
 capacity_read line before columns.Nothing resource cell = Ok before
 
 unfoldable pub capacities_read : ℕ → List (Option ℕ) → List Head → List (List ℕ) → Result (List (Option ℕ)) Fault

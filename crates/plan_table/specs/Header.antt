@@ -12,7 +12,7 @@ use Rattle.plan_psplib.specs.Head.{most_resources}
 use Rattle.plan_table.specs.Reading.{Fault, fault, check, ◌>>=◌}
 use Rattle.plan_table.specs.Cells.{same, name}
 
--- a column: what it has, its header in lower case, and its header as the name of a resource
+-- a column: its kind, its header in lower case, and its header as the name of a resource
 pub record Head : Type 0 where
   pub column : Column
   pub key : List ℕ
@@ -33,7 +33,8 @@ is_name_key key = same key (codes "name") || same key (codes "task")
 abbrev pub is_predecessors_key : List ℕ → Bool
 is_predecessors_key key = same key (codes "predecessors") || same key (codes "after") || same key (codes "depends on")
 
--- what a column has; any other header than these is the name of a resource
+-- what a column has by its header alone; any other header than these is the name of a resource,
+-- until the cells settle what it is
 abbrev pub column_of : List ℕ → Column
 column_of key =
     if length key == 0 then columns.Nothing
@@ -42,10 +43,6 @@ column_of key =
     else if is_name_key key then columns.Name
     else if is_predecessors_key key then columns.Predecessors
     else columns.Resource
-
--- a column has this header
-abbrev pub has_key : List ℕ → List Head → Bool
-has_key key heads = list_any (λ head. same head.key key) heads
 
 -- two headers of one column: the same header twice, or two words for one kind
 abbrev pub same_column : List ℕ → List ℕ → Bool
@@ -58,6 +55,23 @@ same_column a b =
 abbrev pub has_column : List ℕ → List Head → Bool
 has_column key heads = list_any (λ head. same_column head.key key) heads
 
+-- the number of a kind of column
+abbrev pub kind_number : Column → ℕ
+kind_number columns.Duration = 0
+kind_number columns.Id = 1
+kind_number columns.Name = 2
+kind_number columns.Predecessors = 3
+kind_number columns.Resource = 4
+kind_number columns.Note = 5
+kind_number columns.Nothing = 6
+
+abbrev pub same_kind : Column → Column → Bool
+same_kind a b = kind_number a == kind_number b
+
+-- one of the columns is of a kind
+abbrev pub has_kind : Column → List Head → Bool
+has_kind kind heads = list_any (λ head. same_kind kind head.column) heads
+
 -- 1 for a resource
 abbrev pub resource_count : Column → ℕ
 resource_count columns.Resource = 1
@@ -65,6 +79,7 @@ resource_count columns.Duration = 0
 resource_count columns.Id = 0
 resource_count columns.Name = 0
 resource_count columns.Predecessors = 0
+resource_count columns.Note = 0
 resource_count columns.Nothing = 0
 
 -- how many columns are resources
@@ -75,11 +90,15 @@ resources_in heads = sum_by (λ head. resource_count head.column) heads
 abbrev pub once : List Head → List ℕ → Result (Unit {0}) Fault
 once before cell = if length (key_of cell) == 0 || not (has_column (key_of cell) before) then Ok tt else fault code.ColumnTwice 0 (trim cell)
 
+-- the most columns with other headers than the known ones
+abbrev pub most_others : ℕ
+most_others = 100
+
 -- a column behind others
 unfoldable pub head_read : ℕ → List Head → List ℕ → Result Head Fault
 head_read line before cell = do
   new ← once before cell
-  room ← check (nat_le (resources_in before + resource_count (column_of (key_of cell))) most_resources) code.Limit line
+  room ← check (nat_le (resources_in before + resource_count (column_of (key_of cell))) most_others) code.Limit line
   text ← name line (trim cell)
   Ok (record { column = column_of (key_of cell); key = key_of cell; name = text })
 
@@ -90,9 +109,9 @@ heads_at line before (cell ∷ cells) = do
   head ← head_read line before cell
   heads_at line (before ++ head ∷ []) cells
 
--- the columns of a header, one of which has the durations
-unfoldable pub header : ℕ → List (List ℕ) → Result (List Head) Fault
-header line cells = do
-  heads ← heads_at line [] cells
-  durations ← check (has_key (codes "duration") heads) code.NoDuration 0
-  Ok heads
+-- the columns of a list, once it is settled what they are: at most 16 are resources, and one has the
+-- durations
+unfoldable pub heads_checked : ℕ → List Head → Result (Unit {0}) Fault
+heads_checked line heads = do
+  few ← check (nat_le (resources_in heads) most_resources) code.Limit line
+  check (has_kind columns.Duration heads) code.NoDuration 0

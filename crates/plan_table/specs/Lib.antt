@@ -9,11 +9,15 @@ pub mod NameLines
 pub mod Csv
 pub mod Reading
 pub mod Cells
+pub mod Durations
 pub mod Header
 pub mod Rows
 pub mod Entries
 pub mod Overrides
+pub mod Synonyms
+pub mod Settlement
 pub mod Listing
+pub mod Acceptance
 pub mod Refused
 pub mod ShopTable
 pub mod ShopReading

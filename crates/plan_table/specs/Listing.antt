@@ -10,9 +10,10 @@ use Rattle.plan_table.specs.declared.header.Column.TheVariants as columns
 use Rattle.plan_table.specs.declared.listing.Listing as declared
 use Rattle.plan_table.specs.Csv.{Row, records_of}
 use Rattle.plan_table.specs.Reading.{Fault, fault, check, ◌>>=◌}
-use Rattle.plan_table.specs.Header.{Head, header}
+use Rattle.plan_table.specs.Header.{Head}
 use Rattle.plan_table.specs.Entries.{entries_in, filled_from}
 use Rattle.plan_table.specs.Overrides.{Override, given, or_row, overrides_checked}
+use Rattle.plan_table.specs.Settlement.{header}
 use Rattle.plan_table.specs.Table.{Resource, Table, table_of}
 
 -- the same, as the program keeps it
@@ -34,6 +35,7 @@ resource_by columns.Duration overrides capacities before name = Ok before
 resource_by columns.Id overrides capacities before name = Ok before
 resource_by columns.Name overrides capacities before name = Ok before
 resource_by columns.Predecessors overrides capacities before name = Ok before
+resource_by columns.Note overrides capacities before name = Ok before
 resource_by columns.Nothing overrides capacities before name = Ok before
 
 unfoldable pub resource_read : List Override → List (Option ℕ) → List Resource → Head → Result (List Resource) Fault
@@ -51,15 +53,20 @@ abbrev pub or_none : Option (List (Option ℕ)) → List (Option ℕ)
 or_none None = []
 or_none (Some capacities) = capacities
 
--- what records say, the first of which is the header, with capacities that override those in them
-unfoldable pub table_in : List Override → List Row → Result Table Fault
-table_in overrides [] = fault code.NoDuration 0 []
-table_in overrides (first ∷ rows) = do
-  heads ← header first.line first.cells
+-- what rows say under columns, with capacities that override those in them
+unfoldable pub rows_under : List Override → List Head → List Row → Result Table Fault
+rows_under overrides heads rows = do
   entries ← entries_in heads rows
   known ← overrides_checked heads overrides
   resources ← resources_at overrides (or_none entries.capacities) [] heads
   Ok (record { activities = entries.activities; resources = resources })
+
+-- what records say, the first of which is the header, with capacities that override those in them
+unfoldable pub table_in : List Override → List Row → Result Table Fault
+table_in overrides [] = fault code.NoDuration 0 []
+table_in overrides (first ∷ rows) = do
+  heads ← header overrides first rows
+  rows_under overrides heads rows
 
 -- the line of a byte
 abbrev pub line_at : List ℕ → ℕ → ℕ

@@ -25,6 +25,7 @@ is_resource_column columns.Duration = false
 is_resource_column columns.Id = false
 is_resource_column columns.Name = false
 is_resource_column columns.Predecessors = false
+is_resource_column columns.Note = false
 is_resource_column columns.Nothing = false
 
 -- a column is the resource of a name, without regard to ASCII case

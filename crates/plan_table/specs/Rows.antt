@@ -8,6 +8,7 @@ use Rattle.plan_table.specs.declared.header.Column.TheVariants as columns
 use Rattle.plan_psplib.specs.Lines.{is_blank, trim}
 use Rattle.plan_table.specs.Reading.{Fault, fault, check, ◌>>=◌}
 use Rattle.plan_table.specs.Cells.{same, amount, name, is_separator, predecessors}
+use Rattle.plan_table.specs.Durations.{duration}
 use Rattle.plan_table.specs.Header.{Head}
 use Rattle.plan_table.specs.Limits.{is_printable}
 use Rattle.plan_table.specs.Table.{Activity}
@@ -47,11 +48,12 @@ need line resource cell = if length cell == 0 then Ok 0 else amount code.BadNeed
 -- an activity with what a cell of a column says; the ids are those of all activities and of the
 -- earlier ones
 unfoldable pub cell_read : List (List ℕ) → List (List ℕ) → ℕ → Activity → Column → List ℕ → List ℕ → Result Activity Fault
-cell_read ids before line a columns.Duration resource cell = amount code.BadDuration line [] cell >>= λ n. Ok (record a { duration = n })
+cell_read ids before line a columns.Duration resource cell = duration line cell >>= λ n. Ok (record a { duration = n })
 cell_read ids before line a columns.Id resource cell = id_read before line cell >>= λ u. Ok a
 cell_read ids before line a columns.Name resource cell = name line cell >>= λ text. Ok (record a { name = text })
 cell_read ids before line a columns.Predecessors resource cell = predecessors ids line cell >>= λ js. Ok (record a { predecessors = a.predecessors ++ js })
 cell_read ids before line a columns.Resource resource cell = need line resource cell >>= λ n. Ok (record a { needs = a.needs ++ n ∷ [] })
+cell_read ids before line a columns.Note resource cell = Ok a
 cell_read ids before line a columns.Nothing resource cell = Ok a
 
 -- the first cell of those that are left, an empty one if there is none

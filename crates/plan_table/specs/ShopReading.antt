@@ -98,7 +98,7 @@ entries_of e = record { orders = map string_bytes e.orders.items; machines = map
 unfoldable pub step_added : ℕ → ℕ → ShopEntries → List ℕ → List ℕ → Result ShopEntries Fault
 step_added line k e machine time = do
   text ← shop_name line machine
-  n ← amount code.BadDuration line [] time
+  n ← amount code.BadDuration line time time
   found ← name_added most_machines line e.machines text
   fits ← check (nat_le (e.total + n) longest_sum) code.Limit line
   Ok (record {

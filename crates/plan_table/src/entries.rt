@@ -10,9 +10,9 @@ ghost use Rattle.plan_table.specs.Reading.{Gives};
 ghost use Rattle.plan_table.specs.Rows.{first_cell};
 ghost use Rattle.plan_table.specs.Table.{activity_of};
 
-use crate::cells::{amount, same, same_name, word_fault};
+use crate::cells::{amount, same_name, word_fault};
 use crate::fault::{ReadError, TableCode};
-use crate::header::{Column, Head};
+use crate::header::{Column, Head, same_kind};
 use crate::records::Row;
 use crate::rows::{Ids, read_activity, split_first};
 use crate::table::Activity;
@@ -61,9 +61,9 @@ fn is_capacity(place: Option<usize>, id: &[u8]) -> bool
     place.is_some() && same_name(id, b"capacity")
 }
 
-// The cell at a place, an empty one if there is none.
+/// The cell at a place, an empty one if there is none.
 #[tactic(auto, using(crate::proofs::ReadLemmas::cell_dropped, crate::proofs::ReadLemmas::no_cell))]
-fn cell_at(cells: &[Vec<u8>], place: usize) -> &[u8]
+pub fn cell_at(cells: &[Vec<u8>], place: usize) -> &[u8]
     ensures { result.now ≡ first_cell (drop place (map (λ cell. cell.items) cells.now)) }
 {
     if place < cells.len() {
@@ -73,12 +73,12 @@ fn cell_at(cells: &[Vec<u8>], place: usize) -> &[u8]
     }
 }
 
-// The column of the ids.
-fn id_place(heads: &[Head]) -> Option<usize>
+/// The column of the ids.
+pub fn id_place(heads: &[Head]) -> Option<usize>
     ensures { result ≡ spec.id_place (map head_of heads.now) }
 {
     for (k, head) in heads.iter().enumerate() {
-        if same(&head.key, b"id") {
+        if same_kind(Column::Id, head.column) {
             return Some(k);
         }
     }

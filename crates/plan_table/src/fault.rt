@@ -37,7 +37,7 @@ pub enum TableCode {
     NoDuration,
     /// T4: a column twice, by whatever word.
     ColumnTwice,
-    /// T5: an invalid duration.
+    /// T5: an invalid duration; the word is its cell without the blanks at its ends.
     BadDuration,
     /// T6: an invalid id.
     BadId,

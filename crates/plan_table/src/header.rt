@@ -9,7 +9,10 @@ use crate::fault::{ReadError, TableCode};
 use plan_psplib::trim;
 use std::alloc::{AllocError, Global};
 
-/// What a column has.
+/// The most columns with other headers than the known ones.
+const MOST_OTHERS: usize = 100;
+
+/// The kind of a column. A note has a header and is ignored, `Nothing` has no header.
 #[derive(Clone, Copy)]
 pub enum Column {
     Duration,
@@ -17,6 +20,7 @@ pub enum Column {
     Name,
     Predecessors,
     Resource,
+    Note,
     Nothing,
 }
 
@@ -53,7 +57,7 @@ fn is_predecessors_key(key: &[u8]) -> bool
     same(key, b"predecessors") || same(key, b"after") || same(key, b"depends on")
 }
 
-// What a column has.
+// The kind of a column by its header alone.
 fn column_of(key: &[u8]) -> Column
     ensures { result ≡ spec.column_of key.now }
 {
@@ -70,18 +74,6 @@ fn column_of(key: &[u8]) -> Column
     } else {
         Column::Resource
     }
-}
-
-/// Whether a column has this header.
-pub fn has_key(heads: &[Head], key: &[u8]) -> bool
-    ensures { result ≡ spec.has_key key.now (map spec.head_of heads.now) }
-{
-    for head in heads {
-        if same(&head.key, key) {
-            return true;
-        }
-    }
-    false
 }
 
 // Whether two headers are those of one column.
@@ -105,6 +97,40 @@ fn has_column(heads: &[Head], key: &[u8]) -> bool
     false
 }
 
+// The number of a kind.
+fn kind_number(column: Column) -> u8
+    ensures { result ≡ spec.kind_number column }
+{
+    match column {
+        Column::Duration => 0,
+        Column::Id => 1,
+        Column::Name => 2,
+        Column::Predecessors => 3,
+        Column::Resource => 4,
+        Column::Note => 5,
+        Column::Nothing => 6,
+    }
+}
+
+/// Whether two kinds are the same.
+pub fn same_kind(a: Column, b: Column) -> bool
+    ensures { result ≡ spec.same_kind a b }
+{
+    kind_number(a) == kind_number(b)
+}
+
+/// Whether one of the columns is of a kind.
+pub fn has_kind(heads: &[Head], kind: Column) -> bool
+    ensures { result ≡ spec.has_kind kind (map spec.head_of heads.now) }
+{
+    for head in heads {
+        if same_kind(kind, head.column) {
+            return true;
+        }
+    }
+    false
+}
+
 // 1 for a resource.
 fn resource_count(column: Column) -> usize
     ensures value { result ≡ spec.resource_count column }
@@ -116,8 +142,8 @@ fn resource_count(column: Column) -> usize
     }
 }
 
-/// How many columns are resources.
-pub fn resources_in(heads: &[Head]) -> usize
+// How many columns are resources.
+fn resources_in(heads: &[Head]) -> usize
     ensures value { result ≡ spec.resources_in (map spec.head_of heads.now) }
     ensures limit { result ≤ length heads.now }
 {
@@ -148,16 +174,17 @@ fn read_head(alloc: Global, line: u64, before: &[Head], cell: &[u8]) -> Result<H
     let key = key_of(alloc, cell)?;
     check_once(alloc, before, &key, cell)?;
     let column = column_of(&key);
-    if resources_in(before) + resource_count(column) > 16 {
+    if resources_in(before) + resource_count(column) > MOST_OTHERS {
         return Err(word_fault(alloc, TableCode::Limit, line, b""));
     }
     let name = name(alloc, line, trim(cell))?;
     Ok(Head { column, key, name })
 }
 
-// The columns of a header.
+/// The columns of a header, each of the kind that its header says. Any unknown header is that of a
+/// resource.
 #[tactic(auto, unfolding(crate::specs::Header::heads_at))]
-fn read_heads(alloc: Global, line: u64, cells: &[Vec<u8>]) -> Result<Vec<Head>, ReadError>
+pub fn read_heads(alloc: Global, line: u64, cells: &[Vec<u8>]) -> Result<Vec<Head>, ReadError>
     ensures { Gives (λ v. map spec.head_of v.items) result (spec.heads_at line []
         (map (λ cell. cell.items) cells.now)) }
 {
@@ -169,15 +196,16 @@ fn read_heads(alloc: Global, line: u64, cells: &[Vec<u8>]) -> Result<Vec<Head>, 
     Ok(heads)
 }
 
-/// The columns of a header, one of which has the durations.
-#[tactic(auto, unfolding(crate::specs::Header::header))]
-pub fn read_header(alloc: Global, line: u64, cells: &[Vec<u8>]) -> Result<Vec<Head>, ReadError>
-    ensures { Gives (λ v. map spec.head_of v.items) result (spec.header line
-        (map (λ cell. cell.items) cells.now)) }
+/// Checks settled columns: at most 16 are resources, and one has the durations.
+#[tactic(auto, unfolding(crate::specs::Header::heads_checked))]
+pub fn check_heads(alloc: Global, line: u64, heads: &[Head]) -> Result<(), ReadError>
+    ensures { Gives (λ u. u) result (spec.heads_checked line (map spec.head_of heads.now)) }
 {
-    let heads = read_heads(alloc, line, cells)?;
-    if !has_key(&heads, b"duration") {
+    if resources_in(heads) > 16 {
+        return Err(word_fault(alloc, TableCode::Limit, line, b""));
+    }
+    if !has_kind(heads, Column::Duration) {
         return Err(word_fault(alloc, TableCode::NoDuration, 0, b""));
     }
-    Ok(heads)
+    Ok(())
 }

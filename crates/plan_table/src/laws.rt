@@ -1,8 +1,21 @@
-//! Laws of project files with names.
+//! Laws of project files with names, and of the columns of a list.
 
+ghost use Rattle.plan_table.specs.Acceptance.{KeepsLists};
 ghost use Rattle.plan_table.specs.NameLines.{NameLinesChangeNothing};
+ghost use Rattle.plan_table.specs.Settlement.{LimitedColumnsStay};
 
 /// A line of a name in an information section changes nothing of the project that a text says.
 pub fn names_change_nothing()
     ensures { NameLinesChangeNothing }
+{}
+
+/// If each column with an unknown header has a capacity, then each column is what its header says.
+pub fn limited_columns_stay()
+    ensures { LimitedColumnsStay }
+{}
+
+/// If the columns are what their headers alone say, and then the rows say a table, then the list says
+/// this table.
+pub fn accepted_lists_stay()
+    ensures { KeepsLists }
 {}

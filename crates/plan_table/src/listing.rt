@@ -12,9 +12,10 @@ ghost use Rattle.plan_table.specs.Table.{resource_of};
 use crate::cells::word_fault;
 use crate::entries::{filled_from, read_entries};
 use crate::fault::{ReadError, TableCode};
-use crate::header::{Column, Head, read_header};
+use crate::header::{Column, Head};
 use crate::overrides::{Override, check_overrides, given};
 use crate::records::{Row, read_records};
+use crate::settlement::read_header;
 use crate::table::{Activity, Resource};
 use plan_psplib::LONGEST_TEXT;
 use std::alloc::Global;
@@ -109,6 +110,30 @@ fn or_none(capacities: &Option<Vec<Option<u32>>>) -> &[Option<u32>]
     }
 }
 
+// What rows say under columns, with overrides.
+#[tactic(auto, unfolding(crate::specs::Listing::rows_under))]
+fn read_rows_under(
+    alloc: Global,
+    overrides: &[Override<'_>],
+    heads: &[Head],
+    rows: &[Row],
+) -> Result<Listing, ReadError>
+    ensures { Gives spec.listing_of result (spec.rows_under (map override_of overrides.now)
+        (map head_of heads.now) (map row_of rows.now)) }
+{
+    let entries = read_entries(alloc, heads, rows)?;
+    check_overrides(alloc, heads, overrides)?;
+    let capacities = Capacities {
+        row: or_none(&entries.capacities),
+        overrides,
+    };
+    let resources = read_resources(alloc, &capacities, heads)?;
+    Ok(Listing {
+        activities: entries.activities,
+        resources,
+    })
+}
+
 // What records say, with overrides.
 #[tactic(auto, unfolding(crate::specs::Listing::table_in))]
 fn read_rows(alloc: Global, overrides: &[Override<'_>], rows: &[Row]) -> Result<Listing, ReadError>
@@ -117,18 +142,8 @@ fn read_rows(alloc: Global, overrides: &[Override<'_>], rows: &[Row]) -> Result<
 {
     match rows {
         [first, rest @ ..] => {
-            let heads = read_header(alloc, first.line, &first.cells)?;
-            let entries = read_entries(alloc, &heads, rest)?;
-            check_overrides(alloc, &heads, overrides)?;
-            let capacities = Capacities {
-                row: or_none(&entries.capacities),
-                overrides,
-            };
-            let resources = read_resources(alloc, &capacities, &heads)?;
-            Ok(Listing {
-                activities: entries.activities,
-                resources,
-            })
+            let heads = read_header(alloc, overrides, first, rest)?;
+            read_rows_under(alloc, overrides, &heads, rest)
         }
         [] => Err(word_fault(alloc, TableCode::NoDuration, 0, b"")),
     }

@@ -11,6 +11,7 @@ ghost use Rattle.plan_table.specs.Rows as spec;
 ghost use Rattle.plan_table.specs.Table.{activity_of};
 
 use crate::cells::{amount, is_printable, name, predecessors, same, word_fault};
+use crate::durations::duration;
 use crate::fault::{ReadError, TableCode};
 use crate::header::{Column, Head};
 use crate::table::Activity;
@@ -128,7 +129,7 @@ fn read_cell(
 {
     match head.column {
         Column::Duration => {
-            activity.duration = amount(alloc, TableCode::BadDuration, line, b"", cell)?;
+            activity.duration = duration(alloc, line, cell)?;
         }
         Column::Id => check_id(alloc, ids.before, line, cell)?,
         Column::Name => activity.name = name(alloc, line, cell)?,
@@ -140,7 +141,7 @@ fn read_cell(
             let amount = need(alloc, line, head.name.as_bytes(), cell)?;
             activity.needs.push(amount)?;
         }
-        Column::Nothing => {}
+        Column::Note | Column::Nothing => {}
     }
     Ok(())
 }

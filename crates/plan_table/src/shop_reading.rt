@@ -101,7 +101,7 @@ fn add_step(
         (spec.entries_of entries.old) machine.now time.now) }
 {
     let text = shop_name(alloc, line, machine)?;
-    let time = amount(alloc, TableCode::BadDuration, line, b"", time)?;
+    let time = amount(alloc, TableCode::BadDuration, line, time, time)?;
     let machine = add_name(alloc, &mut entries.machines, MOST_MACHINES, line, text)?;
     let total = u64::from(entries.total) + u64::from(time);
     if total > 1_000_000 {

@@ -1,0 +1,89 @@
+-- Words for kinds of columns, in lower case. A letter that isn't ASCII is written as its UTF-8
+-- bytes.
+use Rattle.std.specs.Prelude.{ℕ, if◌then◌else◌, List, [], ◌∷◌, ◌++◌, Option, Some, None, codes}
+use Rattle.plan_table.specs.declared.header.Column.{Column}
+use Rattle.plan_table.specs.declared.header.Column.TheVariants as columns
+use Rattle.plan_table.specs.declared.synonyms.Synonym as declared
+use Rattle.plan_table.specs.Cells.{same}
+
+-- a word for a kind of column
+pub record Synonym : Type 0 where
+  pub kind : Column
+  pub word : List ℕ
+
+-- the same, as the program keeps it
+abbrev pub synonym_of : declared.Synonym → Synonym
+synonym_of s = record { kind = s.kind; word = s.word.now }
+
+abbrev pub duration : List ℕ → Synonym
+duration word = record { kind = columns.Duration; word = word }
+
+abbrev pub id : List ℕ → Synonym
+id word = record { kind = columns.Id; word = word }
+
+abbrev pub name : List ℕ → Synonym
+name word = record { kind = columns.Name; word = word }
+
+abbrev pub predecessors : List ℕ → Synonym
+predecessors word = record { kind = columns.Predecessors; word = word }
+
+-- é, ó, â and ä
+abbrev pub e_acute : List ℕ
+e_acute = 0xC3 ∷ 0xA9 ∷ []
+
+abbrev pub o_acute : List ℕ
+o_acute = 0xC3 ∷ 0xB3 ∷ []
+
+abbrev pub a_circumflex : List ℕ
+a_circumflex = 0xC3 ∷ 0xA2 ∷ []
+
+abbrev pub a_umlaut : List ℕ
+a_umlaut = 0xC3 ∷ 0xA4 ∷ []
+
+-- the words in English, German, French and Spanish
+abbrev pub synonyms : List Synonym
+synonyms =
+    duration (codes "days")
+    ∷ duration (codes "work days")
+    ∷ duration (codes "dauer")
+    ∷ duration (codes "dur" ++ e_acute ++ codes "e")
+    ∷ duration (codes "duree")
+    ∷ duration (codes "duraci" ++ o_acute ++ codes "n")
+    ∷ duration (codes "duracion")
+    ∷ id (codes "nr")
+    ∷ id (codes "nr.")
+    ∷ id (codes "no")
+    ∷ id (codes "no.")
+    ∷ id (codes "number")
+    ∷ id (codes "activity id")
+    ∷ id (codes "task id")
+    ∷ name (codes "task name")
+    ∷ name (codes "activity")
+    ∷ name (codes "name der aufgabe")
+    ∷ name (codes "vorgangsname")
+    ∷ name (codes "vorgang")
+    ∷ name (codes "bezeichnung")
+    ∷ name (codes "nom")
+    ∷ name (codes "nom de la t" ++ a_circumflex ++ codes "che")
+    ∷ name (codes "t" ++ a_circumflex ++ codes "che")
+    ∷ name (codes "nombre")
+    ∷ name (codes "nombre de tarea")
+    ∷ name (codes "tarea")
+    ∷ predecessors (codes "predecessor")
+    ∷ predecessors (codes "depends")
+    ∷ predecessors (codes "dependencies")
+    ∷ predecessors (codes "vorg" ++ a_umlaut ++ codes "nger")
+    ∷ predecessors (codes "vorgaenger")
+    ∷ predecessors (codes "pr" ++ e_acute ++ codes "d" ++ e_acute ++ codes "cesseurs")
+    ∷ predecessors (codes "predecesseurs")
+    ∷ predecessors (codes "predecesoras")
+    ∷ []
+
+-- the kind of the first of some synonyms with this word
+abbrev pub kind_in : List ℕ → List Synonym → Option Column
+kind_in key [] = None
+kind_in key (s ∷ others) = if same s.word key then Some s.kind else kind_in key others
+
+-- the kind of column that a header is a synonym for
+unfoldable pub synonym_kind : List ℕ → Option Column
+synonym_kind key = kind_in key synonyms
