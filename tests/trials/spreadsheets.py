@@ -1,0 +1,278 @@
+"""Compares the spreadsheets of tests/trials/spreadsheets with what their README.md expects: by a
+reader in Python, and by `plan import` for the files that the program reads.
+
+The reader knows the rules of docs/formats.md, and shares nothing with the program.
+"""
+
+import csv
+import io
+import itertools
+import os
+import re
+import subprocess
+
+import tables
+from programs import PROGRAM, Wrong
+
+FOLDER = os.path.join(os.path.dirname(os.path.abspath(__file__)), "spreadsheets")
+
+# Files that the program doesn't read yet.
+LATER = {
+    "libreoffice_quotes.csv",
+    "libreoffice_party.csv",
+    "libreoffice_mauer_utf8.csv",
+    "libreoffice_mauer_windows1252.csv",
+    "libreoffice_mauer_utf16.csv",
+    "libreoffice_maison_utf8.csv",
+    "libreoffice_maison_windows1252.csv",
+    "libreoffice_casa.csv",
+    "libreoffice_half_days.csv",
+    "wall.xlsx",
+    "wall.xls",
+    "wall.ods",
+    "excel_mauer.csv",
+    "excel_unicode_text.txt",
+    "notepad_big_endian.txt",
+    "msproject.csv",
+    "msproject_lag.csv",
+    "msproject_estimate.csv",
+    "ganttproject_tasks.csv",
+    "ganttproject.csv",
+    "taskjuggler.csv",
+    "google_sheets.csv",
+}
+
+KINDS = {
+    "duration": "duration|days|work days|dauer|durée|duree|duración|duracion",
+    "id": "id|nr|nr.|no|no.|number|activity id|task id",
+    "name": "name|task|task name|activity|name der aufgabe|vorgangsname|vorgang|bezeichnung|nom"
+    "|nom de la tâche|tâche|nombre|nombre de tarea|tarea",
+    "predecessors": "predecessors|after|depends on|predecessor|depends|dependencies|vorgänger"
+    "|vorgaenger|prédécesseurs|predecesseurs|predecesoras",
+}
+DAYS = re.compile(r"(\d{1,9})(?:[.,]0)?\s*(?:d|days?|tage?|jours?|días?)?", re.IGNORECASE)
+
+
+class Line(Exception):
+    """The error line of a list."""
+
+
+# ---- the expected results
+
+
+def expected():
+    """What README.md says of each file: a pair of a kind and its content."""
+    with open(os.path.join(FOLDER, "README.md"), encoding="utf-8") as file:
+        sections = re.split(r"(?m)^## ", file.read())[1:]
+    return {name: said(body) for head, body in map(parts, sections) for name in head.split(", ")}
+
+
+def parts(section):
+    head, _, body = section.partition("\n")
+    return head, body
+
+
+def said(body):
+    """What a section says of its files."""
+    for kind in ("Line", "Workbook"):
+        found = re.search(rf"(?m)^{kind}: (.*)$", body)
+        if found:
+            return kind, found[1]
+    lines = [line for line in body.split("\n") if line.startswith("|")]
+    head, _, *rows = [[cell.strip() for cell in line[1:-1].split("|")] for line in lines]
+    resources = [re.fullmatch(r"(.*) \((\d+)\)", name).groups() for name in head[4:]]
+    activities = [
+        (int(number), name, int(days), [int(j) for j in before.split()], [int(n) for n in needs])
+        for number, name, days, before, *needs in rows
+    ]
+    shortest = int(re.search(r"(?m)^Shortest: (\d+)$", body)[1])
+    return "Project", (activities, [(name, int(most)) for name, most in resources], shortest)
+
+
+# ---- the reader
+
+
+def workbook_of(data):
+    """The kind of a workbook, by its first bytes and the names in it."""
+    if data.startswith(b"PK\x03\x04"):
+        if data[30:].startswith(b"mimetypeapplication/vnd.oasis.opendocument"):
+            return "OpenDocument"
+        if data[30:].startswith(b"xl/") or b"[Content_Types].xml" in data:
+            return "Excel"
+    if data.startswith(bytes.fromhex("D0CF11E0A1B11AE1")):
+        return "Project" if b"MSProject." in data else "OldExcel"
+    return None
+
+
+def text_of(data):
+    """The text of a file in any of the encodings."""
+    if data[:2] in (b"\xff\xfe", b"\xfe\xff"):
+        return data.decode("utf-16", "replace")
+    try:
+        return data.decode("utf-8-sig")
+    except UnicodeDecodeError:
+        return data.decode("cp1252", "replace")
+
+
+def records(text):
+    """The records that have a cell with content, each with the line in which it begins."""
+    head = text.lstrip().partition("\n")[0]
+    separator = next((mark for mark in "\t;" if mark in head), ",")
+    reader = csv.reader(io.StringIO(text, newline=""), delimiter=separator)
+    first = 1
+    for cells in reader:
+        cells = [cell.strip() for cell in cells]
+        if any(cells):
+            yield first, cells
+        first = reader.line_num + 1
+
+
+def kind_of(name):
+    found = [kind for kind, words in KINDS.items() if name.lower() in words.split("|")]
+    return found[0] if found else None
+
+
+def columns_of(head, rows):
+    """The columns: the place of each kind, and the resources with their places and capacities."""
+    places = {}
+    for place, name in enumerate(head):
+        places.setdefault(kind_of(name), place)
+    places.pop(None, None)
+    ids = places.get("id")
+    given = [cells for _, cells in rows if ids is not None and cells[ids].lower() == "capacity"]
+    resources = []
+    for place, name in enumerate(head):
+        most = given[0][place] if given and place < len(given[0]) else ""
+        cells = [cells[place] for _, cells in rows if place < len(cells)]
+        is_note = any(not cell.isdecimal() for cell in cells if cell)
+        if name and kind_of(name) is None and (most or not is_note):
+            resources.append((place, name, most))
+    return places, resources
+
+
+def days_of(cell, line):
+    found = DAYS.fullmatch(cell)
+    if not found:
+        raise Line(f"T5 line {line} duration")
+    return int(found[1])
+
+
+def project_of(text):
+    """The project of a list, or the error line."""
+    (_, head), *rows = records(text)
+    places, resources = columns_of(head, rows)
+    if "duration" not in places:
+        raise Line("T3 no column duration")
+    ids = places.get("id")
+    named = [cells[ids] if ids is not None else str(k + 1) for k, (_, cells) in enumerate(rows)]
+    activities = [(name, row) for name, row in zip(named, rows) if name.lower() != "capacity"]
+    numbers = {name: k + 2 for k, (name, _) in enumerate(activities)}
+    found = [activity_of(numbers, name, *row, places, resources) for name, row in activities]
+    for _, name, most in resources:
+        if not most:
+            raise Line(f"T10 no capacity {name}")
+    return found, [(name, int(most)) for _, name, most in resources]
+
+
+def activity_of(numbers, own, line, cells, places, resources):
+    def cell(place):
+        return cells[place] if place is not None and place < len(cells) else ""
+
+    name = cell(places.get("name"))
+    if "\n" in name:
+        raise Line(f"T2 not text line {line}")
+    days = days_of(cell(places["duration"]), line)
+    before = re.split(r"[\s,;]+", cell(places.get("predecessors")))
+    for word in before:
+        if word and word not in numbers:
+            raise Line(f"T8 line {line} predecessor {word}")
+    needs = [int(cell(place) or 0) for place, _, _ in resources]
+    return numbers[own], name, days, [numbers[word] for word in before if word], needs
+
+
+def shortest(activities, resources):
+    """The least makespan: the least one of all orders of the activities, each placed as early as it
+    fits."""
+    return min(makespan(order, resources) for order in itertools.permutations(activities))
+
+
+def makespan(order, resources):
+    spans, ends = [], {}
+    for number, _, days, before, needs in order:
+        if any(j not in ends for j in before):
+            return float("inf")
+        start = max((ends[j] for j in before), default=0)
+        while not fits(spans, start, days, needs, resources):
+            start += 1
+        spans.append((start, start + days, needs))
+        ends[number] = start + days
+    return max(ends.values())
+
+
+def fits(spans, start, days, needs, resources):
+    for t in range(start, start + days):
+        for k, (_, most) in enumerate(resources):
+            if needs[k] + sum(other[k] for a, b, other in spans if a <= t < b) > most:
+                return False
+    return True
+
+
+def read(data):
+    """What the reader makes of a file, in the form of the expected results."""
+    kind = workbook_of(data)
+    if kind:
+        return "Workbook", kind
+    try:
+        activities, resources = project_of(text_of(data))
+    except Line as line:
+        return "Line", str(line)
+    return "Project", (activities, resources, shortest(activities, resources))
+
+
+# ---- the program
+
+
+def ran(*arguments, data=b""):
+    """What the program does: its status, output and error line."""
+    done = subprocess.run([PROGRAM, *arguments], input=data, capture_output=True, timeout=60)
+    return done.returncode, done.stdout, done.stderr
+
+
+def is_imported(path, activities, resources, least):
+    """Whether a file becomes this project, whose least makespan is found and proved."""
+    rows = [dict(zip(("name", "duration", "before", "needs"), row[1:])) for row in activities]
+    names, amounts = [name for name, _ in resources], [most for _, most in resources]
+    text = tables.Project(rows, names, amounts).text().encode()
+    if ran("import", path) != (0, text, b""):
+        return False
+    status, output, _ = ran("solve", "-", data=text)
+    return status == 0 and output.startswith(b"optimal %d\n" % least)
+
+
+def compare(path, want):
+    """Compares the program with what is expected of a file."""
+    kind, content = want
+    if kind == "Project":
+        good = is_imported(path, *content)
+    else:
+        status, output, line = ran("import", path)
+        start = content.encode() if kind == "Line" else b""
+        good = status == 1 and not output and line.startswith(start)
+    if not good:
+        raise Wrong(f"{path}: expected {want}, got {ran('import', path)}")
+
+
+def try_spreadsheets(room):
+    """Reads each spreadsheet, and has the program import those that it reads."""
+    wanted = expected()
+    files = {name for name in os.listdir(FOLDER) if not name.endswith((".md", ".py"))}
+    if files != wanted.keys():
+        raise Wrong(f"README.md and the files differ: {files ^ wanted.keys()}")
+    for name, want in wanted.items():
+        path = os.path.join(FOLDER, name)
+        with open(path, "rb") as file:
+            found = read(file.read())
+        if found != want:
+            raise Wrong(f"{name}: expected {want}, read {found}")
+        if name not in LATER:
+            compare(path, want)
