@@ -35,26 +35,27 @@ later_columns place k (head ∷ heads) past = ((λ e. ne_eqb place k (λ is. ome
 
 place_range : (k place : ℕ) (heads : List Head) → place_from columns.Id k heads ≡ Some place → k ≤ place
 place_range k place [] is = absurd (cc)
-place_range k place (head ∷ heads) is = by_kind (same_kind columns.Id head.column) is
+place_range k place (head ∷ heads) is = by_kind (place_range (k + 1) place heads) (same_kind columns.Id head.column) is
   where
-    by_kind : (b : Bool) → cond b (Some k) (place_from columns.Id (k + 1) heads) ≡ Some place → k ≤ place
-    by_kind true is = let same_place : k ≡ place = cc in omega (arith, same_place)
-    by_kind false is = let rest = place_range (k + 1) place heads is in omega (arith, rest)
+    by_kind : (place_from columns.Id (k + 1) heads ≡ Some place → k + 1 ≤ place) → (b : Bool) → cond b (Some k) (place_from columns.Id (k + 1) heads) ≡ Some place → k ≤ place
+    by_kind rest true is = let same_place : k ≡ place = cc in omega (arith, same_place)
+    by_kind rest false is = let past = rest is in omega (arith, past)
 
 not_ids : (column : Column) → column ≡ columns.Resource → same_kind columns.Id column ≡ false
 not_ids column e = ap (same_kind columns.Id) e
 
 ids_elsewhere : (k place : ℕ) (heads : List Head) → place_from columns.Id k heads ≡ Some place → IdsElsewhere (Some place) k heads
 ids_elsewhere k place [] is = tt
-ids_elsewhere k place (head ∷ heads) is = by_kind (same_kind columns.Id head.column) refl is
+ids_elsewhere k place (head ∷ heads) is = by_kind (ids_elsewhere (k + 1) place heads) (same_kind columns.Id head.column) refl is
   where
-    by_kind : (b : Bool) → same_kind columns.Id head.column ≡ b → cond b (Some k) (place_from columns.Id (k + 1) heads) ≡ Some place → IdsElsewhere (Some place) k (head ∷ heads)
-    by_kind true ids is =
+    by_kind : (place_from columns.Id (k + 1) heads ≡ Some place → IdsElsewhere (Some place) (k + 1) heads) → (b : Bool) → same_kind columns.Id head.column ≡ b →
+        cond b (Some k) (place_from columns.Id (k + 1) heads) ≡ Some place → IdsElsewhere (Some place) k (head ∷ heads)
+    by_kind rest true ids is =
         let same_place : k ≡ place = cc in
         ((λ e. let none = not_ids head.column e in absurd (cc)), later_columns place (k + 1) heads (omega (arith, same_place)))
-    by_kind false ids is =
+    by_kind rest false ids is =
         let past = place_range (k + 1) place heads is in
-        ((λ e. ne_eqb place k (λ same_place. omega (arith, same_place, past))), ids_elsewhere (k + 1) place heads is)
+        ((λ e. ne_eqb place k (λ same_place. omega (arith, same_place, past))), rest is)
 
 -- ---- the row of the capacities
 
