@@ -1,5 +1,5 @@
 -- A list that can be read by its headers alone is read like that.
-use Rattle.std.proofs.Common.{◌≡◌, ℕ, ◌+◌, ◌≤◌, ◌<◌, ◌==◌, ◌&&◌, ◌||◌, ◌⊎◌, inl, inr, Bool, true, false, List, [], ◌∷◌, ◌++◌, Option, Some, None, Ok, length, refl, sym, ap, ◌∙◌, subst, arith, cond, append-nil, append_assoc}
+use Rattle.std.proofs.Common.{◌≡◌, ℕ, ◌+◌, ◌≤◌, ◌<◌, ◌==◌, ◌&&◌, ◌||◌, ◌⊎◌, inl, inr, Bool, true, false, List, [], ◌∷◌, ◌++◌, Option, Some, None, Result, Ok, length, refl, sym, ap, ◌∙◌, subst, arith, cond, append-nil, append_assoc}
 use Rattle.std.specs.Prelude.{drop, is_some, nat_le, nat_lt, not, slice_index_or, take}
 use Rattle.std.specs.List.{list_any}
 use Rattle.std.proofs.lemmas.Bool.{and_from, ne_eqb}
@@ -9,7 +9,7 @@ use Rattle.plan_table.specs.declared.fault.TableCode.TheVariants as code
 use Rattle.plan_table.specs.declared.header.Column.{Column}
 use Rattle.plan_table.specs.declared.header.Column.TheVariants as columns
 use Rattle.plan_table.specs.Csv.{Row}
-use Rattle.plan_table.specs.Reading.{◌>>=◌, check}
+use Rattle.plan_table.specs.Reading.{Fault, ◌>>=◌, check}
 use Rattle.plan_table.specs.Cells.{amount}
 use Rattle.plan_table.specs.Header.{Head, heads_at, heads_checked, same_kind}
 use Rattle.plan_table.specs.Rows.{activity_read, first_cell}
@@ -18,7 +18,7 @@ use Rattle.plan_table.specs.Overrides.{Override, given, or_row, overrides_checke
 use Rattle.plan_table.specs.Listing.{known_capacity, or_none, resource_by, resource_read, resources_at, rows_under, table_in}
 use Rattle.plan_table.specs.Acceptance.{KeepsLists}
 use Rattle.plan_table.specs.Settlement.{AreLimited, Body, cell_of, gives_capacity, has_capacity, header, ids_from, ids_place, is_capacities, is_given, is_place, settled}
-use Rattle.plan_table.specs.Table.{Activity, Resource, Table}
+use Rattle.plan_table.specs.Table.{Resource, Table}
 use Rattle.plan_table.proofs.LimitLemmas.{check_ok, push_length, same_ok, then_ok}
 use Rattle.plan_table.proofs.SettlementLemmas.{heads_stay}
 
@@ -35,26 +35,27 @@ later_columns place k (head ∷ heads) past = ((λ e. ne_eqb place k (λ is. ome
 
 place_range : (k place : ℕ) (heads : List Head) → place_from columns.Id k heads ≡ Some place → k ≤ place
 place_range k place [] is = absurd (cc)
-place_range k place (head ∷ heads) is = by_kind (same_kind columns.Id head.column) is
+place_range k place (head ∷ heads) is = by_kind (place_range (k + 1) place heads) (same_kind columns.Id head.column) is
   where
-    by_kind : (b : Bool) → cond b (Some k) (place_from columns.Id (k + 1) heads) ≡ Some place → k ≤ place
-    by_kind true is = let same_place : k ≡ place = cc in omega (arith, same_place)
-    by_kind false is = let rest = place_range (k + 1) place heads is in omega (arith, rest)
+    by_kind : (place_from columns.Id (k + 1) heads ≡ Some place → k + 1 ≤ place) → (b : Bool) → cond b (Some k) (place_from columns.Id (k + 1) heads) ≡ Some place → k ≤ place
+    by_kind rest true is = let same_place : k ≡ place = cc in omega (arith, same_place)
+    by_kind rest false is = let past = rest is in omega (arith, past)
 
 not_ids : (column : Column) → column ≡ columns.Resource → same_kind columns.Id column ≡ false
 not_ids column e = ap (same_kind columns.Id) e
 
 ids_elsewhere : (k place : ℕ) (heads : List Head) → place_from columns.Id k heads ≡ Some place → IdsElsewhere (Some place) k heads
 ids_elsewhere k place [] is = tt
-ids_elsewhere k place (head ∷ heads) is = by_kind (same_kind columns.Id head.column) refl is
+ids_elsewhere k place (head ∷ heads) is = by_kind (ids_elsewhere (k + 1) place heads) (same_kind columns.Id head.column) refl is
   where
-    by_kind : (b : Bool) → same_kind columns.Id head.column ≡ b → cond b (Some k) (place_from columns.Id (k + 1) heads) ≡ Some place → IdsElsewhere (Some place) k (head ∷ heads)
-    by_kind true ids is =
+    by_kind : (place_from columns.Id (k + 1) heads ≡ Some place → IdsElsewhere (Some place) (k + 1) heads) → (b : Bool) → same_kind columns.Id head.column ≡ b →
+        cond b (Some k) (place_from columns.Id (k + 1) heads) ≡ Some place → IdsElsewhere (Some place) k (head ∷ heads)
+    by_kind rest true ids is =
         let same_place : k ≡ place = cc in
         ((λ e. let none = not_ids head.column e in absurd (cc)), later_columns place (k + 1) heads (omega (arith, same_place)))
-    by_kind false ids is =
+    by_kind rest false ids is =
         let past = place_range (k + 1) place heads is in
-        ((λ e. ne_eqb place k (λ same_place. omega (arith, same_place, past))), ids_elsewhere (k + 1) place heads is)
+        ((λ e. ne_eqb place k (λ same_place. omega (arith, same_place, past))), rest is)
 
 -- ---- the row of the capacities
 
@@ -92,19 +93,20 @@ IsFilled overrides column name cell = column ≡ columns.Resource → (is_some (
 
 -- a cell with a capacity has content
 cell_filled : (line n : ℕ) (name cell : List ℕ) (c : Option ℕ) → capacity_in line name cell ≡ Ok c → known_capacity c name ≡ Ok n → (length cell == 0) ≡ false
-cell_filled line n name cell c read known = by_content (length cell == 0) refl read
+cell_filled line n name cell None read known = absurd (cc)
+cell_filled line n name cell (Some m) read known = by_content (length cell == 0) refl read
   where
-    by_content : (b : Bool) → (length cell == 0) ≡ b → cond b (Ok None) (amount code.BadNeed line name cell >>= λ m. Ok (Some m)) ≡ Ok c → (length cell == 0) ≡ false
+    by_content : (b : Bool) → (length cell == 0) ≡ b → cond b (Ok None) (amount code.BadNeed line name cell >>= λ k. Ok (Some k)) ≡ Ok (Some m) → (length cell == 0) ≡ false
     by_content false is read = is
-    by_content true is read = absurd (let none : None ≡ c = same_ok None c read in let bad = subst (λ o. known_capacity o name ≡ Ok n) (sym none) known in cc)
+    by_content true is read = absurd (cc)
 
-by_given : (overrides : List Override) (line n : ℕ) (name cell : List ℕ) (c at : Option ℕ) → at ≡ c → capacity_in line name cell ≡ Ok c →
-    known_capacity (or_row (given overrides name) at) name ≡ Ok n → (is_some (given overrides name) ≡ true) ⊎ ((length cell == 0) ≡ false)
-by_given overrides line n name cell c at same_amount read known = by_option (given overrides name) refl known
+by_given : (overrides : List Override) (line n : ℕ) (name cell : List ℕ) (c found : Option ℕ) → found ≡ c → capacity_in line name cell ≡ Ok c →
+    known_capacity (or_row (given overrides name) found) name ≡ Ok n → (is_some (given overrides name) ≡ true) ⊎ ((length cell == 0) ≡ false)
+by_given overrides line n name cell c found same_amount read known = by_option (given overrides name) refl known
   where
-    by_option : (o : Option ℕ) → given overrides name ≡ o → known_capacity (or_row o at) name ≡ Ok n → (is_some (given overrides name) ≡ true) ⊎ ((length cell == 0) ≡ false)
+    by_option : (o : Option ℕ) → given overrides name ≡ o → known_capacity (or_row o found) name ≡ Ok n → (is_some (given overrides name) ≡ true) ⊎ ((length cell == 0) ≡ false)
     by_option (Some m) is known = inl (ap is_some is)
-    by_option None is known = inr (cell_filled line n name cell c read (subst (λ o. known_capacity o name ≡ Ok n) same_amount known))
+    by_option None is known = inr (cell_filled line n name cell c read (subst (λ (o : Option ℕ). known_capacity o name ≡ Ok n) same_amount known))
 
 -- what a column adds to the capacities and to the resources
 abbrev Steps : List Override → Column → List ℕ → List ℕ → List (Option ℕ) → List Resource → Type 0
@@ -118,14 +120,16 @@ column_filled : (overrides : List Override) (line : ℕ) (column : Column) (name
     Steps overrides column name cell more more_rs
 unfolding capacity_read
 column_filled overrides line columns.Resource name cell caps before more rs more_rs size read extends is =
-    then_ok (capacity_in line name cell) _ more read (λ c cell_read read.
-    then_ok (known_capacity (or_row (given overrides name) (slice_index_or caps (length rs) None)) name) _ more_rs is (λ n known is.
-    let pushed : before ++ c ∷ [] ≡ more = same_ok (before ++ c ∷ []) more read in
-    let whole : caps ≡ before ++ c ∷ extends.0 = extends.1 ∙ ap (λ (xs : List (Option ℕ)). xs ++ extends.0) (sym pushed) ∙ append_assoc before (c ∷ []) extends.0 in
-    let found : slice_index_or caps (length rs) None ≡ c = ap (λ k. slice_index_or caps k None) size ∙ ap (λ (xs : List (Option ℕ)). slice_index_or xs (length before) None) whole ∙ at_end before extends.0 c in (
-      (λ e. by_given overrides line n name cell c (slice_index_or caps (length rs) None) found cell_read known),
-      ap (λ (xs : List Resource). length xs) (sym (same_ok (rs ++ record { name = name; capacity = n } ∷ []) more_rs is)) ∙ push_length rs (record { name = name; capacity = n }) ∙ ap (λ k. k + 1) size
-      ∙ sym (push_length before c) ∙ ap (λ (xs : List (Option ℕ)). length xs) pushed,
+    then_ok (capacity_in line name cell) _ more read (λ c seen pushed.
+    then_ok (known_capacity (or_row (given overrides name) (slice_index_or caps (length rs) None)) name) _ more_rs is (λ n known made.
+    let r : Resource = record { name = name; capacity = n } in
+    let more_is : before ++ c ∷ [] ≡ more = same_ok (before ++ c ∷ []) more pushed in
+    let whole : caps ≡ before ++ c ∷ extends.0 = extends.1 ∙ ap (λ (xs : List (Option ℕ)). xs ++ extends.0) (sym more_is) ∙ append_assoc before (c ∷ []) extends.0 in
+    let found : slice_index_or caps (length rs) None ≡ c =
+    ap (λ k. slice_index_or caps k None) size ∙ ap (λ (xs : List (Option ℕ)). slice_index_or xs (length before) None) whole ∙ at_end before extends.0 c in (
+      (λ e. by_given overrides line n name cell c (slice_index_or caps (length rs) None) found seen known),
+      ap (λ (xs : List Resource). length xs) (sym (same_ok (rs ++ r ∷ []) more_rs made)) ∙ push_length rs r ∙ ap (λ k. k + 1) size
+          ∙ sym (push_length before c) ∙ ap (λ (xs : List (Option ℕ)). length xs) more_is,
     )))
 column_filled overrides line columns.Duration name cell caps before more rs more_rs size read extends is = ((λ e. absurd (cc)), same_size before more rs more_rs size (same_ok before more read) (same_ok rs more_rs is))
 column_filled overrides line columns.Id name cell caps before more rs more_rs size read extends is = ((λ e. absurd (cc)), same_size before more rs more_rs size (same_ok before more read) (same_ok rs more_rs is))
@@ -158,11 +162,11 @@ AreGiven overrides (head ∷ heads) = (head.column ≡ columns.Resource → is_s
 column_given : (overrides : List Override) (column : Column) (name : List ℕ) (rs more : List Resource) → resource_by column overrides [] rs name ≡ Ok more →
     column ≡ columns.Resource → is_some (given overrides name) ≡ true
 column_given overrides columns.Resource name rs more is e =
-    then_ok (known_capacity (or_row (given overrides name) (slice_index_or [] (length rs) None)) name) _ more is (λ n known is. by_option (given overrides name) refl known)
+    then_ok (known_capacity (or_row (given overrides name) (slice_index_or [] (length rs) None)) name) _ more is (λ n known made. by_option n (given overrides name) refl known)
   where
-    by_option : {n : ℕ} (o : Option ℕ) → given overrides name ≡ o → known_capacity (or_row o None) name ≡ Ok n → is_some (given overrides name) ≡ true
-    by_option (Some m) is known = ap is_some is
-    by_option None is known = absurd (cc)
+    by_option : (n : ℕ) (o : Option ℕ) → given overrides name ≡ o → known_capacity (or_row o None) name ≡ Ok n → is_some (given overrides name) ≡ true
+    by_option n (Some m) is known = ap is_some is
+    by_option n None is known = absurd (cc)
 column_given overrides columns.Duration name rs more is e = absurd (cc)
 column_given overrides columns.Id name rs more is e = absurd (cc)
 column_given overrides columns.Name name rs more is e = absurd (cc)
@@ -196,33 +200,40 @@ OneRow heads place row e g =
     (g.capacities ≡ e.capacities)
     ⊎ ((caps : List (Option ℕ)) × (g.capacities ≡ Some caps) × (is_capacities place row ≡ true) × (capacities_read row.line [] heads row.cells ≡ Ok caps))
 
+capacity_row_leaves : (heads : List Head) (place : Option ℕ) (e g : Entries) (row : Row) → is_capacities place row ≡ true → capacity_row heads e row.line row.cells ≡ Ok g →
+    OneRow heads place row e g
+unfolding capacity_row
+capacity_row_leaves heads place e g row capacity is =
+    then_ok (first_capacities (is_some e.capacities) row.line) _ g is (λ u new is.
+    then_ok (capacities_read row.line [] heads row.cells) _ g is (λ caps read is.
+    then_ok (check (nat_le (length row.cells) (length heads)) code.Cells row.line) _ g is (λ v whole is.
+    let all : Entries = record { activities = e.activities; capacities = Some caps; total = e.total } in
+    inr (caps, ap (λ (x : Entries). x.capacities) (sym (same_ok all g is)), capacity, read))))
+
+activity_row_leaves : (heads : List Head) (ids : List (List ℕ)) (e g : Entries) (line : ℕ) (id : List ℕ) (cells : List (List ℕ)) → activity_row heads ids e line id cells ≡ Ok g →
+    g.capacities ≡ e.capacities
+unfolding activity_row added
+activity_row_leaves heads ids e g line id cells is =
+    then_ok (check (nat_lt (length e.activities) 500) code.Limit line) _ g is (λ u room is.
+    then_ok (activity_read ids (take (length e.activities) ids) line id heads cells) _ g is (λ a read is.
+    then_ok (check (nat_le (e.total + a.duration) 1000000) code.Limit line) _ g is (λ v fits is.
+    let all : Entries = record { activities = e.activities ++ a ∷ []; capacities = e.capacities; total = e.total + a.duration } in
+    ap (λ (x : Entries). x.capacities) (sym (same_ok all g is)))))
+
+filled_row_leaves : (heads : List Head) (place : Option ℕ) (ids : List (List ℕ)) (e g : Entries) (row : Row) (id : List ℕ) (b : Bool) → is_capacity place id ≡ b →
+    is_capacity place id ≡ is_capacities place row → row_by b heads ids e row.line id row.cells ≡ Ok g → OneRow heads place row e g
+filled_row_leaves heads place ids e g row id true capacity same_id is = capacity_row_leaves heads place e g row (sym same_id ∙ capacity) is
+filled_row_leaves heads place ids e g row id false capacity same_id is = inl (activity_row_leaves heads ids e g row.line id row.cells is)
+
 row_capacities : (heads : List Head) (place : Option ℕ) (ids : List (List ℕ)) (e g : Entries) (row : Row) → entry_read heads place ids e row ≡ Ok g → OneRow heads place row e g
-unfolding entry_read capacity_row activity_row added
+unfolding entry_read
 row_capacities heads place ids e g row is = by_blank (is_blank_row row.cells) is
   where
-    n : ℕ
-    n = length e.activities
-
-    id : List ℕ
-    id = id_of place n row.cells
-
-    by_capacity : (b : Bool) → is_capacity place id ≡ b → row_by b heads ids e row.line id row.cells ≡ Ok g → OneRow heads place row e g
-    by_capacity true capacity is =
-        then_ok (first_capacities (is_some e.capacities) row.line) _ g is (λ u new is.
-        then_ok (capacities_read row.line [] heads row.cells) _ g is (λ caps read is.
-        then_ok (check (nat_le (length row.cells) (length heads)) code.Cells row.line) _ g is (λ v whole is.
-        let all : Entries = record { activities = e.activities; capacities = Some caps; total = e.total } in
-        inr (caps, ap (λ (x : Entries). x.capacities) (sym (same_ok all g is)), sym (same_row place n row) ∙ capacity, read))))
-    by_capacity false capacity is =
-        then_ok (check (nat_lt n 500) code.Limit row.line) _ g is (λ u room is.
-        then_ok (activity_read ids (take n ids) row.line id heads row.cells) _ g is (λ a read is.
-        then_ok (check (nat_le (e.total + a.duration) 1000000) code.Limit row.line) _ g is (λ v fits is.
-        let all : Entries = record { activities = e.activities ++ a ∷ []; capacities = e.capacities; total = e.total + a.duration } in
-        inl (ap (λ (x : Entries). x.capacities) (sym (same_ok all g is))))))
-
-    by_blank : (b : Bool) → cond b (Ok e) (filled_row heads place ids e row.line id row.cells) ≡ Ok g → OneRow heads place row e g
+    by_blank : (b : Bool) → cond b (Ok e) (filled_row heads place ids e row.line (id_of place (length e.activities) row.cells) row.cells) ≡ Ok g → OneRow heads place row e g
     by_blank true is = inl (ap (λ (x : Entries). x.capacities) (sym (same_ok e g is)))
-    by_blank false is = by_capacity (is_capacity place id) refl is
+    by_blank false is =
+        let id = id_of place (length e.activities) row.cells in
+        filled_row_leaves heads place ids e g row id (is_capacity place id) refl (same_row place (length e.activities) row) is
 
 or_true : (a b : Bool) → b ≡ true → (a || b) ≡ true
 or_true true b e = refl
@@ -303,7 +314,7 @@ keeps_lists overrides first rows heads t read sound is =
     then_ok (overrides_checked heads overrides) _ t is_rest (λ u checked is_rest.
     then_ok (resources_at overrides (or_none e.capacities) [] heads) _ t is_rest (λ rs resources is_last.
     let stay : settled overrides rows heads ≡ heads = heads_stay (body_with overrides rows (ids_place overrides heads)) [] 0 heads (limited overrides heads rows e rs entries resources) in
-    let columns : header overrides first rows ≡ Ok heads =
-        ap (λ r. r >>= λ hs. heads_checked first.line (settled overrides rows hs) >>= λ v. Ok (settled overrides rows hs)) read
-        ∙ ap (λ hs. heads_checked first.line hs >>= λ v. Ok hs) stay ∙ ap (λ r. r >>= λ v. Ok heads) sound in
-    ap (λ r. r >>= λ hs. rows_under overrides hs rows) columns ∙ is)))
+    let read_header : header overrides first rows ≡ Ok heads =
+    ap (λ (r : Result (List Head) Fault). r >>= λ hs. heads_checked first.line (settled overrides rows hs) >>= λ v. Ok (settled overrides rows hs)) read
+    ∙ ap (λ (hs : List Head). heads_checked first.line hs >>= λ v. Ok hs) stay ∙ ap (λ (r : Result (Unit {0}) Fault). r >>= λ v. Ok heads) sound in
+    ap (λ (r : Result (List Head) Fault). r >>= λ hs. rows_under overrides hs rows) read_header ∙ is)))

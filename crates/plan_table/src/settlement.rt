@@ -154,13 +154,7 @@ fn is_new(kind: Column, before: &[Head], behind: &[Head]) -> bool
 
 // What column `k` between others is if its header isn't a known one.
 #[tactic(auto, unfolding(crate::specs::Settlement::other_column))]
-fn other_column(
-    body: &Body<'_>,
-    before: &[Head],
-    k: usize,
-    head: &Head,
-    behind: &[Head],
-) -> Column
+fn other_column(body: &Body<'_>, before: &[Head], k: usize, head: &Head, behind: &[Head]) -> Column
     ensures { result ≡ spec.other_column (spec.body_of body.now) (map head_of before.now) k
         (head_of head.now) (map head_of behind.now) }
 {
