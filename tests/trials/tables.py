@@ -224,6 +224,10 @@ class Table:
         self.numbers = {}
         for k, name in enumerate(names):
             self.numbers.setdefault(name, k + 2)
+        at = self.kinds.index("name") if "name" in self.kinds else None
+        called = [c[at].strip(BLANKS) if at is not None and at < len(c) else "" for (_, c), name in zip(rows, ids)
+                  if not self.is_capacity(name)]
+        self.named = {name: k + 2 for k, name in enumerate(called) if called.count(name) == 1}
         self.rows, self.capacities, self.seen, self.total = [], None, [], 0
         for (n, c), name in zip(rows, ids):
             self.take(n, c, name)
@@ -236,6 +240,14 @@ class Table:
         if self.id_at is None:
             return str(k + 1)
         return cells[self.id_at].strip(BLANKS) if self.id_at < len(cells) else ""
+
+    def number_of(self, word):
+        """The number of the activity with this id, or of the only one with this name; if there is none, that
+        for the word without FS at its end."""
+        found = self.numbers.get(word, self.named.get(word))
+        if found is None and word.endswith("FS"):
+            found = self.numbers.get(word[:-2], self.named.get(word[:-2]))
+        return found
 
     def is_capacity(self, name):
         return self.id_at is not None and lower(name) == "capacity"
@@ -260,9 +272,9 @@ class Table:
                 for word in words_of(cell):
                     if has_control(word):
                         raise Refused(f"T2 not text line {line}")
-                    if word not in self.numbers:
+                    if self.number_of(word) is None:
                         raise Refused(f"T8 line {line} predecessor {word}")
-                    row["before"].append(self.numbers[word])
+                    row["before"].append(self.number_of(word))
             elif kind == "resource":
                 fault = f"T9 line {line} need {self.resources[resource]}"
                 row["needs"].append(amount(cell, fault, line) if cell else 0)
@@ -444,7 +456,8 @@ def drawn_table(draw):
             row["duration"] += draw.choice([",0", ".0", ""]) + draw.choice(["", " ", "  "]) + draw.choice(DAYS + ["Days"])
         if draw.random() < 0.01:
             row["duration"] += draw.choice([".5", ",00", " hrs", ",0 0"])
-        row["predecessors"] = draw.choice([" ", ",", "; "]).join(ids[i] for i in before)
+        kept = draw.choice([" ", ",", "; "])
+        row["predecessors"] = kept.join(draw.choice([ids[i]] * 6 + [ids[i] + "FS", "Garden", "名前FS"]) for i in before)
         row.update({name: draw.choice(["", "0", "1", "3"]) for name in resources})
         row.update({name: draw.choice(["", "1", "2024-05-01", "see plan"]) for name in notes})
         if draw.random() < 0.02:

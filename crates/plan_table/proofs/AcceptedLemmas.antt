@@ -13,8 +13,9 @@ use Rattle.plan_table.specs.Reading.{Fault, ◌>>=◌, check}
 use Rattle.plan_table.specs.Cells.{amount}
 use Rattle.plan_table.specs.Header.{Head, heads_at, heads_checked, same_kind}
 use Rattle.plan_table.specs.Rows.{activity_read, first_cell}
-use Rattle.plan_table.specs.Entries.{Entries, activity_row, added, capacities_read, capacity_in, capacity_read, capacity_row, entries_at, entries_in, entry_read, filled_row, first_capacities, id_of, id_place, ids_at, is_blank_row, is_capacity, no_entries, place_from, row_by}
+use Rattle.plan_table.specs.Entries.{Entries, activity_row, added, capacities_read, capacity_in, capacity_read, capacity_row, entries_at, entries_in, entry_read, filled_row, first_capacities, id_of, id_place, ids_at, is_blank_row, is_capacity, name_place, no_entries, place_from, row_by}
 use Rattle.plan_table.specs.Overrides.{Override, given, or_row, overrides_checked}
+use Rattle.plan_table.specs.Predecessors.{Label}
 use Rattle.plan_table.specs.Listing.{known_capacity, or_none, resource_by, resource_read, resources_at, rows_under, table_in}
 use Rattle.plan_table.specs.Acceptance.{KeepsLists}
 use Rattle.plan_table.specs.Settlement.{AreLimited, Body, cell_of, gives_capacity, has_capacity, header, ids_from, ids_place, is_capacities, is_given, is_place, settled}
@@ -210,7 +211,7 @@ capacity_row_leaves heads place e g row capacity is =
     let all : Entries = record { activities = e.activities; capacities = Some caps; total = e.total } in
     inr (caps, ap (λ (x : Entries). x.capacities) (sym (same_ok all g is)), capacity, read))))
 
-activity_row_leaves : (heads : List Head) (ids : List (List ℕ)) (e g : Entries) (line : ℕ) (id : List ℕ) (cells : List (List ℕ)) → activity_row heads ids e line id cells ≡ Ok g →
+activity_row_leaves : (heads : List Head) (ids : List Label) (e g : Entries) (line : ℕ) (id : List ℕ) (cells : List (List ℕ)) → activity_row heads ids e line id cells ≡ Ok g →
     g.capacities ≡ e.capacities
 unfolding activity_row added
 activity_row_leaves heads ids e g line id cells is =
@@ -220,12 +221,12 @@ activity_row_leaves heads ids e g line id cells is =
     let all : Entries = record { activities = e.activities ++ a ∷ []; capacities = e.capacities; total = e.total + a.duration } in
     ap (λ (x : Entries). x.capacities) (sym (same_ok all g is)))))
 
-filled_row_leaves : (heads : List Head) (place : Option ℕ) (ids : List (List ℕ)) (e g : Entries) (row : Row) (id : List ℕ) (b : Bool) → is_capacity place id ≡ b →
+filled_row_leaves : (heads : List Head) (place : Option ℕ) (ids : List Label) (e g : Entries) (row : Row) (id : List ℕ) (b : Bool) → is_capacity place id ≡ b →
     is_capacity place id ≡ is_capacities place row → row_by b heads ids e row.line id row.cells ≡ Ok g → OneRow heads place row e g
 filled_row_leaves heads place ids e g row id true capacity same_id is = capacity_row_leaves heads place e g row (sym same_id ∙ capacity) is
 filled_row_leaves heads place ids e g row id false capacity same_id is = inl (activity_row_leaves heads ids e g row.line id row.cells is)
 
-row_capacities : (heads : List Head) (place : Option ℕ) (ids : List (List ℕ)) (e g : Entries) (row : Row) → entry_read heads place ids e row ≡ Ok g → OneRow heads place row e g
+row_capacities : (heads : List Head) (place : Option ℕ) (ids : List Label) (e g : Entries) (row : Row) → entry_read heads place ids e row ≡ Ok g → OneRow heads place row e g
 unfolding entry_read
 row_capacities heads place ids e g row is = by_blank (is_blank_row row.cells) is
   where
@@ -243,7 +244,7 @@ or_true false b e = e
 abbrev AllRows : List Head → Option ℕ → List Row → Entries → Entries → Type 0
 AllRows heads place rows e f = (f.capacities ≡ e.capacities) ⊎ ((caps : List (Option ℕ)) × (f.capacities ≡ Some caps) × HasCapacities heads place rows caps)
 
-rows_capacities : (heads : List Head) (place : Option ℕ) (ids : List (List ℕ)) (e f : Entries) (rows : List Row) → entries_at heads place ids e rows ≡ Ok f → AllRows heads place rows e f
+rows_capacities : (heads : List Head) (place : Option ℕ) (ids : List Label) (e f : Entries) (rows : List Row) → entries_at heads place ids e rows ≡ Ok f → AllRows heads place rows e f
 unfolding entries_at
 rows_capacities heads place ids e f [] is = inl (ap (λ (x : Entries). x.capacities) (sym (same_ok e f is)))
 rows_capacities heads place ids e f (row ∷ rows) is =
@@ -292,7 +293,7 @@ limited : (overrides : List Override) (heads : List Head) (rows : List Row) (e :
     resources_at overrides (or_none e.capacities) [] heads ≡ Ok rs → AreLimited (body_with overrides rows (ids_place overrides heads)) 0 heads
 unfolding entries_in
 limited overrides heads rows e rs read resources =
-    then_ok (ids_at (id_place heads) [] rows) _ e read (λ ids all read.
+    then_ok (ids_at (id_place heads) (name_place heads) [] rows) _ e read (λ ids all read.
     then_ok (entries_at heads (id_place heads) ids no_entries rows) _ e read (λ f entries read.
     then_ok (check (nat_le 1 (length f.activities)) code.Limit 0) _ e read (λ u some read.
     by_row f (subst (λ (x : Entries). resources_at overrides (or_none x.capacities) [] heads ≡ Ok rs) (sym (same_ok f e read)) resources) (rows_capacities heads (id_place heads) ids no_entries f rows entries))))

@@ -13,7 +13,8 @@ use Rattle.plan_table.specs.declared.header.Column.{Column}
 use Rattle.plan_table.specs.declared.header.Column.TheVariants as columns
 use Rattle.plan_table.specs.Limits.{IsName, is_printable}
 use Rattle.plan_table.specs.Reading.{Fault, ◌>>=◌, fault, check}
-use Rattle.plan_table.specs.Cells.{same, amount_in, amount, name, number_from, known, predecessor, predecessors_at, ids_in}
+use Rattle.plan_table.specs.Cells.{amount_in, amount, name, same}
+use Rattle.plan_table.specs.Predecessors.{Label, has_id, has_name, if_alone, number_from, named_from, or_else, number_by, linked, linked_from, known, predecessor, predecessors_at, ids_in}
 use Rattle.plan_table.specs.Csv.{Row}
 use Rattle.plan_table.specs.Durations.{days_in, duration}
 use Rattle.plan_table.specs.Header.{Head, resource_count, resources_in, head_read, heads_at, heads_checked, once, column_of, key_of}
@@ -24,7 +25,7 @@ use Rattle.plan_table.specs.Table.{Activity}
 use Rattle.plan_psplib.specs.Lines.{trim}
 use Rattle.std.specs.Char.{is_control, to_ascii_lowercase}
 use Rattle.plan_table.proofs.TrimLemmas.{trim_trim}
-use Rattle.std.specs.Prelude.{drop, not}
+use Rattle.std.specs.Prelude.{◌-◌, codes, drop, not, take}
 
 -- ---- reading in steps
 
@@ -56,28 +57,57 @@ push_length (y ∷ xs) x = let rest = push_length xs x in omega (arith, rest)
 abbrev IsKnown : ℕ → ℕ → Type 0
 IsKnown m j = (2 ≤ j) × (j ≤ m + 1)
 
-number_range : (n : ℕ) (ids : List (List ℕ)) (id : List ℕ) (j : ℕ) → number_from n ids id ≡ Some j → (n ≤ j) × (j < n + length ids)
+number_range : (n : ℕ) (ids : List Label) (id : List ℕ) (j : ℕ) → number_from n ids id ≡ Some j → (n ≤ j) × (j < n + length ids)
 number_range n [] id j e = absurd (cc)
-number_range n (other ∷ others) id j e = by_same (number_range (n + 1) others id j) (same other id) e
+number_range n (other ∷ others) id j e = by_same (number_range (n + 1) others id j) (has_id id other) e
   where
     by_same : (number_from (n + 1) others id ≡ Some j → (n + 1 ≤ j) × (j < n + 1 + length others)) → (b : Bool) →
         cond b (Some n) (number_from (n + 1) others id) ≡ Some j → (n ≤ j) × (j < n + length (other ∷ others))
     by_same rest true e = let is : n ≡ j = cc in (omega (arith, is), omega (arith, is))
     by_same rest false e = let r = rest e in (omega (arith, r.0), omega (arith, r.1))
 
-predecessor_known : (ids : List (List ℕ)) (line : ℕ) (id : List ℕ) (j : ℕ) → predecessor ids line id ≡ Ok j → IsKnown (length ids) j
-unfolding predecessor
-predecessor_known ids line id j e =
-    then_ok (check (is_printable id) code.NotText line) _ j e (λ u text e. by_number (number_from 2 ids id) refl e)
+named_range : (n : ℕ) (ids : List Label) (word : List ℕ) (j : ℕ) → named_from n ids word ≡ Some j → (n ≤ j) × (j < n + length ids)
+named_range n [] word j e = absurd (cc)
+named_range n (other ∷ others) word j e = by_same (named_range (n + 1) others word j) (has_name word other) (list_any (has_name word) others) e
   where
-    by_number : (o : Option ℕ) → number_from 2 ids id ≡ o → known o line id ≡ Ok j → IsKnown (length ids) j
-    by_number None is e = absurd (cc)
-    by_number (Some n) is e =
-        let same_number : n ≡ j = same_ok n j e in
-        let r = number_range 2 ids id n is in
-        (omega (arith, r.0, same_number), omega (arith, r.1, same_number))
+    by_same : (named_from (n + 1) others word ≡ Some j → (n + 1 ≤ j) × (j < n + 1 + length others)) → (b again : Bool) →
+        cond b (if_alone again n) (named_from (n + 1) others word) ≡ Some j → (n ≤ j) × (j < n + length (other ∷ others))
+    by_same rest true true e = absurd (cc)
+    by_same rest true false e = let is : n ≡ j = cc in (omega (arith, is), omega (arith, is))
+    by_same rest false again e = let r = rest e in (omega (arith, r.0), omega (arith, r.1))
 
-predecessors_known : (ids : List (List ℕ)) (line : ℕ) (before : List ℕ) (ws : List (List ℕ)) (js : List ℕ) → predecessors_at ids line before ws ≡ Ok js →
+-- a number that is found in one of two ways
+by_either : (P : ℕ → Type 0) (a b : Option ℕ) (j : ℕ) → or_else a b ≡ Some j → (a ≡ Some j → P j) → (b ≡ Some j → P j) → P j
+by_either P (Some n) b j e first second = first e
+by_either P None b j e first second = second e
+
+in_range : (m j : ℕ) → (2 ≤ j) × (j < 2 + m) → IsKnown m j
+in_range m j r = (r.0, omega (arith, r.1))
+
+number_known : (ids : List Label) (word : List ℕ) (j : ℕ) → number_by ids word ≡ Some j → IsKnown (length ids) j
+unfolding number_by
+number_known ids word j e =
+    by_either (IsKnown (length ids)) (number_from 2 ids word) (named_from 2 ids word) j e (λ is. in_range (length ids) j (number_range 2 ids word j is)) (λ is. in_range (length ids) j (named_range 2 ids word j is))
+
+linked_known : (ids : List Label) (front end : List ℕ) (b : Bool) (j : ℕ) → cond b (number_by ids front) None ≡ Some j → IsKnown (length ids) j
+linked_known ids front end true j e = number_known ids front j e
+linked_known ids front end false j e = absurd (cc)
+
+word_known : (ids : List Label) (word : List ℕ) (j : ℕ) → or_else (number_by ids word) (linked ids word) ≡ Some j → IsKnown (length ids) j
+word_known ids word j e =
+    by_either (IsKnown (length ids)) (number_by ids word) (linked ids word) j e (number_known ids word j)
+    (linked_known ids (take (length word - 2) word) (drop (length word - 2) word) (same (drop (length word - 2) word) (codes "FS")) j)
+
+predecessor_known : (ids : List Label) (line : ℕ) (word : List ℕ) (j : ℕ) → predecessor ids line word ≡ Ok j → IsKnown (length ids) j
+unfolding predecessor
+predecessor_known ids line word j e =
+    then_ok (check (is_printable word) code.NotText line) _ j e (λ u text e. by_number (or_else (number_by ids word) (linked ids word)) refl e)
+  where
+    by_number : (o : Option ℕ) → or_else (number_by ids word) (linked ids word) ≡ o → known o line word ≡ Ok j → IsKnown (length ids) j
+    by_number None is e = absurd (cc)
+    by_number (Some n) is e = subst (IsKnown (length ids)) (same_ok n j e) (word_known ids word n is)
+
+predecessors_known : (ids : List Label) (line : ℕ) (before : List ℕ) (ws : List (List ℕ)) (js : List ℕ) → predecessors_at ids line before ws ≡ Ok js →
     AllByRecursion (IsKnown (length ids)) before → AllByRecursion (IsKnown (length ids)) js
 unfolding predecessors_at
 predecessors_known ids line before [] js e h = subst (λ (xs : List ℕ). AllByRecursion (IsKnown (length ids)) xs) (same_ok before js e) h
@@ -153,7 +183,7 @@ more_columns m c d a same_count draft = record {
   needs = draft.needs;
 }
 
-cell_draft : (ids before : List (List ℕ)) (line c : ℕ) (a b : Activity) (column : Column) (resource cell : List ℕ) →
+cell_draft : (ids before : List Label) (line c : ℕ) (a b : Activity) (column : Column) (resource cell : List ℕ) →
     cell_read ids before line a column resource cell ≡ Ok b → trim cell ≡ cell → IsDraft (length ids) c a → IsDraft (length ids) (c + resource_count column) b
 unfolding cell_read
 cell_draft ids before line c a b columns.Duration resource cell e trimmed draft =
@@ -204,7 +234,7 @@ cell_draft ids before line c a b columns.Note resource cell e trimmed draft =
 cell_draft ids before line c a b columns.Nothing resource cell e trimmed draft =
     subst (λ (x : Activity). IsDraft (length ids) (c + 0) x) (same_ok a b e) (more_columns (length ids) c (c + 0) a (omega arith) draft)
 
-row_draft : (ids before : List (List ℕ)) (line c : ℕ) (a b : Activity) (heads : List Head) (cells : List (List ℕ)) →
+row_draft : (ids before : List Label) (line c : ℕ) (a b : Activity) (heads : List Head) (cells : List (List ℕ)) →
     row_read ids before line a heads cells ≡ Ok b → IsDraft (length ids) c a → IsDraft (length ids) (c + resources_in heads) b
 unfolding row_read
 row_draft ids before line c a b [] cells e draft =
@@ -216,7 +246,7 @@ row_draft ids before line c a b (head ∷ heads) cells e draft =
     let sums = sum_by-cons (λ (h : Head). resource_count h.column) head heads in
     more_columns (length ids) (c + resource_count head.column + resources_in heads) (c + resources_in (head ∷ heads)) b (omega (arith, sums)) rest)
 
-pub activity_draft : (ids before : List (List ℕ)) (line : ℕ) (id : List ℕ) (heads : List Head) (cells : List (List ℕ)) (b : Activity) →
+pub activity_draft : (ids before : List Label) (line : ℕ) (id : List ℕ) (heads : List Head) (cells : List (List ℕ)) (b : Activity) →
     activity_read ids before line id heads cells ≡ Ok b → IsDraft (length ids) (resources_in heads) b
 unfolding activity_read
 activity_draft ids before line id heads cells b e =

@@ -5,7 +5,9 @@ use Rattle.std.proofs.lemmas.Bool.{false_from_ne_true}
 use Rattle.std.proofs.lemmas.Str.{IsUtf8-from_is_utf8, is_utf8-from_IsUtf8}
 use Rattle.std.specs.declared.alloc.Global.{Global}
 use Rattle.std.proofs.lemmas.List.{drop-map, drop_all, take-map, take_all}
+use Rattle.plan_table.specs.Predecessors.{label_of}
 use Rattle.plan_table.specs.Rows.{first_cell}
+use Rattle.plan_table.specs.declared.predecessors.Label as declared
 use Rattle.plan_table.specs.declared.fault.ReadError.{ReadError}
 use Rattle.plan_table.specs.declared.fault.TableCode.{TableCode}
 use Rattle.plan_table.specs.declared.fault.ReadError.TheVariants as errors
@@ -37,11 +39,11 @@ pub no_cell : (cells : List (Vec ℕ Global)) (n : ℕ) → length cells ≤ n �
 no_cell cells n past = cell_dropped cells n ∙ ap (λ (cs : List (Vec ℕ Global)). first_cell (map (λ cell. cell.items) cs)) (drop_all n cells past)
 
 -- the first ids
-pub ids_taken : (ids : List (Vec ℕ Global)) (n : ℕ) → map (λ id. id.items) (take n ids) ≡ take n (map (λ id. id.items) ids)
-ids_taken ids n = sym (take-map (λ (id : Vec ℕ Global). id.items) n ids)
+pub ids_taken : (ids : List declared.Label) (n : ℕ) → map label_of (take n ids) ≡ take n (map label_of ids)
+ids_taken ids n = sym (take-map label_of n ids)
 
-pub all_taken : (ids : List (Vec ℕ Global)) (n : ℕ) → length ids ≤ n → map (λ id. id.items) ids ≡ take n (map (λ id. id.items) ids)
-all_taken ids n past = ap (map (λ (id : Vec ℕ Global). id.items)) (sym (take_all n ids past)) ∙ ids_taken ids n
+pub all_taken : (ids : List declared.Label) (n : ℕ) → length ids ≤ n → map label_of ids ≡ take n (map label_of ids)
+all_taken ids n past = ap (map label_of) (sym (take_all n ids past)) ∙ ids_taken ids n
 
 -- what isn't UTF-8 fails the test
 pub not_text : (bytes : List ℕ) → ¬ (IsUtf8 bytes) → is_utf8 bytes ≡ false

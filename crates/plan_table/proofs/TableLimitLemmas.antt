@@ -14,9 +14,10 @@ use Rattle.plan_table.specs.Reading.{◌>>=◌, check}
 use Rattle.plan_table.specs.Cells.{amount, same_name}
 use Rattle.plan_table.specs.Header.{Head, resource_count, resources_in}
 use Rattle.plan_table.specs.Rows.{activity_read, first_cell}
-use Rattle.plan_table.specs.Entries.{Entries, is_blank_row, is_capacity, filled_from, id_of, id_place, is_activity, one_more, id_added, with_id, ids_at, added, activity_row, first_capacities, capacity_in, capacity_read, capacities_read, capacity_row, filled_row, row_by, entry_read, entries_at, entries_in, no_entries}
+use Rattle.plan_table.specs.Entries.{Entries, is_blank_row, is_capacity, filled_from, id_of, id_place, name_of, name_place, is_activity, one_more, id_added, with_id, ids_at, added, activity_row, first_capacities, capacity_in, capacity_read, capacities_read, capacity_row, filled_row, row_by, entry_read, entries_at, entries_in, no_entries}
 use Rattle.plan_table.specs.Overrides.{Override, given, is_resource, known_resource, or_row, overridden, override_checked, overrides_checked}
 use Rattle.plan_table.specs.Listing.{known_capacity, resource_by, resource_read, resources_at, or_none, rows_under, table_in, rows_read, table_read_with}
+use Rattle.plan_table.specs.Predecessors.{Label}
 use Rattle.plan_table.specs.Settlement.{header}
 use Rattle.plan_table.specs.Table.{Activity, Resource, Table}
 use Rattle.plan_table.proofs.LimitLemmas.{then_ok, same_ok, check_ok, all_push, push_length, amount_small, IsDraft, IsHeader, activity_draft, header_good}
@@ -106,7 +107,7 @@ capacity_row_good m k heads e f line cells is good =
     subst (λ (x : Entries). AreGood m k x × (length x.activities ≡ length e.activities)) (same_ok g f is)
     (record { few = good.few; activities = good.activities; capacities = capacities_small line [] found heads cells read tt; total = good.total; limit = good.limit }, refl))))
 
-activity_row_good : (heads : List Head) (ids : List (List ℕ)) (e f : Entries) (line : ℕ) (id : List ℕ) (cells : List (List ℕ)) →
+activity_row_good : (heads : List Head) (ids : List Label) (e f : Entries) (line : ℕ) (id : List ℕ) (cells : List (List ℕ)) →
     activity_row heads ids e line id cells ≡ Ok f → AreGood (length ids) (resources_in heads) e →
     AreGood (length ids) (resources_in heads) f × (length f.activities ≡ length e.activities + 1) × (length e.activities < 500)
 unfolding activity_row
@@ -124,74 +125,78 @@ activity_by place id cells a b blank capacity =
     ap (λ x. not x && not (is_capacity place id)) blank ∙ ap (λ y. not a && not y) capacity
 
 -- how many ids there are with that of a row
-added_length : (activity t : Bool) (line n : ℕ) (ids more : List (List ℕ)) (id : List ℕ) → activity ≡ t → length ids ≡ n → id_added activity line ids id ≡ Ok more →
+added_length : (activity t : Bool) (line n : ℕ) (ids more : List Label) (id : Label) → activity ≡ t → length ids ≡ n → id_added activity line ids id ≡ Ok more →
     length more ≡ cond t (n + 1) n
 unfolding one_more
 added_length activity true line n ids more id is size added =
     then_ok (check (nat_lt (length ids) 500) code.Limit line) _ more (subst (λ b. id_added b line ids id ≡ Ok more) is added) (λ u room added.
-    ap (λ (x : List (List ℕ)). length x) (sym (same_ok (ids ++ id ∷ []) more added)) ∙ push_length ids id ∙ ap (λ m. m + 1) size)
+    ap (λ (x : List Label). length x) (sym (same_ok (ids ++ id ∷ []) more added)) ∙ push_length ids id ∙ ap (λ m. m + 1) size)
 added_length activity false line n ids more id is size added =
-    ap (λ (x : List (List ℕ)). length x) (sym (same_ok ids more (subst (λ b. id_added b line ids id ≡ Ok more) is added))) ∙ size
+    ap (λ (x : List Label). length x) (sym (same_ok ids more (subst (λ b. id_added b line ids id ≡ Ok more) is added))) ∙ size
+
+-- the id of a row, and its name
+abbrev labelled : Option ℕ → List ℕ → List (List ℕ) → Label
+labelled names id cells = record { id = id; name = name_of names cells }
 
 -- what a row leaves: good entries, and as many ids as activities
-abbrev RowGoal : List Head → List (List ℕ) → List (List ℕ) → Option ℕ → ℕ → List (List ℕ) → Entries → ℕ → Type 0
-RowGoal heads ids so_far place line cells f n =
+abbrev RowGoal : List Head → List Label → List Label → Option ℕ → Option ℕ → ℕ → List (List ℕ) → Entries → ℕ → Type 0
+RowGoal heads ids so_far place names line cells f n =
     AreGood (length ids) (resources_in heads) f
-    × ((more : List (List ℕ)) → id_added (is_activity place (id_of place n cells) cells) line so_far (id_of place n cells) ≡ Ok more → length more ≡ length f.activities)
+    × ((more : List Label) → id_added (is_activity place (id_of place n cells) cells) line so_far (labelled names (id_of place n cells) cells) ≡ Ok more → length more ≡ length f.activities)
 
-filled_good : (heads : List Head) (place : Option ℕ) (ids so_far : List (List ℕ)) (e f : Entries) (line : ℕ) (cells : List (List ℕ)) (b : Bool) →
+filled_good : (heads : List Head) (place names : Option ℕ) (ids so_far : List Label) (e f : Entries) (line : ℕ) (cells : List (List ℕ)) (b : Bool) →
     is_blank_row cells ≡ false → is_capacity place (id_of place (length e.activities) cells) ≡ b →
     row_by b heads ids e line (id_of place (length e.activities) cells) cells ≡ Ok f → length so_far ≡ length e.activities →
-    AreGood (length ids) (resources_in heads) e → RowGoal heads ids so_far place line cells f (length e.activities)
-filled_good heads place ids so_far e f line cells true filled capacity is size good =
+    AreGood (length ids) (resources_in heads) e → RowGoal heads ids so_far place names line cells f (length e.activities)
+filled_good heads place names ids so_far e f line cells true filled capacity is size good =
     let n = length e.activities in
     let id = id_of place n cells in
     let more = capacity_row_good (length ids) (resources_in heads) heads e f line cells is good in
-    (more.0, λ next added. added_length (is_activity place id cells) false line n so_far next id (activity_by place id cells false true filled capacity) size added ∙ sym more.1)
-filled_good heads place ids so_far e f line cells false filled capacity is size good =
+    (more.0, λ next added. added_length (is_activity place id cells) false line n so_far next (labelled names id cells) (activity_by place id cells false true filled capacity) size added ∙ sym more.1)
+filled_good heads place names ids so_far e f line cells false filled capacity is size good =
     let n = length e.activities in
     let id = id_of place n cells in
     let more = activity_row_good heads ids e f line id cells is good in
-    (more.0, λ next added. added_length (is_activity place id cells) true line n so_far next id (activity_by place id cells false false filled capacity) size added ∙ sym more.1)
+    (more.0, λ next added. added_length (is_activity place id cells) true line n so_far next (labelled names id cells) (activity_by place id cells false false filled capacity) size added ∙ sym more.1)
 
-entry_good : (heads : List Head) (place : Option ℕ) (ids so_far : List (List ℕ)) (e f : Entries) (row : Row) →
+entry_good : (heads : List Head) (place names : Option ℕ) (ids so_far : List Label) (e f : Entries) (row : Row) →
     entry_read heads place ids e row ≡ Ok f → length so_far ≡ length e.activities → AreGood (length ids) (resources_in heads) e →
-    AreGood (length ids) (resources_in heads) f × ((more : List (List ℕ)) → with_id place so_far row ≡ Ok more → length more ≡ length f.activities)
+    AreGood (length ids) (resources_in heads) f × ((more : List Label) → with_id place names so_far row ≡ Ok more → length more ≡ length f.activities)
 unfolding entry_read
-entry_good heads place ids so_far e f row is size good =
-    subst (λ n. RowGoal heads ids so_far place row.line row.cells f n) (sym size) (by_blank (is_blank_row row.cells) refl is)
+entry_good heads place names ids so_far e f row is size good =
+    subst (λ n. RowGoal heads ids so_far place names row.line row.cells f n) (sym size) (by_blank (is_blank_row row.cells) refl is)
   where
     by_blank : (b : Bool) → is_blank_row row.cells ≡ b → cond b (Ok e) (filled_row heads place ids e row.line (id_of place (length e.activities) row.cells) row.cells) ≡ Ok f →
-        RowGoal heads ids so_far place row.line row.cells f (length e.activities)
+        RowGoal heads ids so_far place names row.line row.cells f (length e.activities)
     by_blank true blank is =
         let n = length e.activities in
         let id = id_of place n row.cells in
         let same_entries = same_ok e f is in
         let none = ap (λ x. not x && not (is_capacity place id)) blank in (
           subst (λ (x : Entries). AreGood (length ids) (resources_in heads) x) same_entries good,
-          λ next added. added_length (is_activity place id row.cells) false row.line n so_far next id none size added ∙ ap (λ (x : Entries). length x.activities) same_entries,
+          λ next added. added_length (is_activity place id row.cells) false row.line n so_far next (labelled names id row.cells) none size added ∙ ap (λ (x : Entries). length x.activities) same_entries,
         )
     by_blank false blank is =
-        filled_good heads place ids so_far e f row.line row.cells (is_capacity place (id_of place (length e.activities) row.cells)) blank refl is size good
+        filled_good heads place names ids so_far e f row.line row.cells (is_capacity place (id_of place (length e.activities) row.cells)) blank refl is size good
 
-entries_good : (heads : List Head) (place : Option ℕ) (ids so_far found : List (List ℕ)) (e f : Entries) (rows : List Row) →
-    entries_at heads place ids e rows ≡ Ok f → ids_at place so_far rows ≡ Ok found → length so_far ≡ length e.activities → AreGood (length ids) (resources_in heads) e →
+entries_good : (heads : List Head) (place names : Option ℕ) (ids so_far found : List Label) (e f : Entries) (rows : List Row) →
+    entries_at heads place ids e rows ≡ Ok f → ids_at place names so_far rows ≡ Ok found → length so_far ≡ length e.activities → AreGood (length ids) (resources_in heads) e →
     AreGood (length ids) (resources_in heads) f × (length found ≡ length f.activities)
 unfolding entries_at ids_at
-entries_good heads place ids so_far found e f [] is all size good =
+entries_good heads place names ids so_far found e f [] is all size good =
     let same_entries = same_ok e f is in (
       subst (λ (x : Entries). AreGood (length ids) (resources_in heads) x) same_entries good,
-      ap (λ (x : List (List ℕ)). length x) (sym (same_ok so_far found all)) ∙ size ∙ ap (λ (x : Entries). length x.activities) same_entries,
+      ap (λ (x : List Label). length x) (sym (same_ok so_far found all)) ∙ size ∙ ap (λ (x : Entries). length x.activities) same_entries,
     )
-entries_good heads place ids so_far found e f (row ∷ rows) is all size good =
+entries_good heads place names ids so_far found e f (row ∷ rows) is all size good =
     then_ok (entry_read heads place ids e row) _ f is (λ g read is.
-    then_ok (with_id place so_far row) _ found all (λ next added all.
-    let one = entry_good heads place ids so_far e g row read size good in
-    entries_good heads place ids next found g f rows is all (one.1 next added) one.0))
+    then_ok (with_id place names so_far row) _ found all (λ next added all.
+    let one = entry_good heads place names ids so_far e g row read size good in
+    entries_good heads place names ids next found g f rows is all (one.1 next added) one.0))
 
 -- the entries of a table, with as many ids
 record AreEntries (heads : List Head) (e : Entries) : Type 0 where
-  ids : List (List ℕ)
+  ids : List Label
   good : AreGood (length ids) (resources_in heads) e
   size : length ids ≡ length e.activities
 
@@ -199,11 +204,12 @@ entries_in_good : (heads : List Head) (rows : List Row) (e : Entries) → entrie
 unfolding entries_in
 entries_in_good heads rows e is =
     let place = id_place heads in
-    then_ok (ids_at place [] rows) _ e is (λ ids all is.
+    let names = name_place heads in
+    then_ok (ids_at place names [] rows) _ e is (λ ids all is.
     then_ok (entries_at heads place ids no_entries rows) _ e is (λ f read is.
     then_ok (check (nat_le 1 (length f.activities)) code.Limit 0) _ e is (λ u some is.
     let none : AreGood (length ids) (resources_in heads) no_entries = record { few = omega arith; activities = tt; capacities = tt; total = refl; limit = omega arith } in
-    let good = entries_good heads place ids [] ids no_entries f rows read all refl none in
+    let good = entries_good heads place names ids [] ids no_entries f rows read all refl none in
     subst (AreEntries heads) (same_ok f e is) (record { ids = ids; good = good.0; size = good.1 }))))
 
 -- ---- overrides

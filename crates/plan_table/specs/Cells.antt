@@ -1,10 +1,9 @@
 -- What the cells of an activity say.
-use Rattle.std.specs.Prelude.{ℕ, ◌+◌, ◌==◌, ◌&&◌, ◌||◌, Bool, if◌then◌else◌, List, [], ◌∷◌, ◌++◌, Option, Some, None, Result, Ok, length, map, nat_le}
+use Rattle.std.specs.Prelude.{ℕ, ◌==◌, ◌&&◌, ◌||◌, Bool, if◌then◌else◌, List, [], Option, Some, None, Result, Ok, length, nat_le}
 use Rattle.std.specs.List.{list_all}
 use Rattle.std.specs.Str.{str_eq_ignore_ascii_case}
 use Rattle.plan_table.specs.declared.fault.TableCode.{TableCode}
 use Rattle.plan_table.specs.declared.fault.TableCode.TheVariants as code
-use Rattle.plan_psplib.specs.Lines.{words}
 use Rattle.plan_psplib.specs.Numbers.{number}
 use Rattle.plan_psplib.specs.Sections.{begins_with}
 use Rattle.plan_psplib.specs.Tokens.{greatest}
@@ -41,33 +40,3 @@ is_separator byte = byte == 44 || byte == 59 || byte == 10
 
 abbrev pub as_blank : ℕ → ℕ
 as_blank byte = if is_separator byte then 32 else byte
-
--- the ids of predecessors in a cell
-abbrev pub ids_in : List ℕ → List (List ℕ)
-ids_in cell = words (map as_blank cell)
-
--- the number of the first activity with an id, where the first one of the list has the number n
-abbrev pub number_from : ℕ → List (List ℕ) → List ℕ → Option ℕ
-number_from n [] id = None
-number_from n (other ∷ others) id = if same other id then Some n else number_from (n + 1) others id
-
-abbrev pub known : Option ℕ → ℕ → List ℕ → Result ℕ Fault
-known None line id = fault code.NoSuchId line id
-known (Some n) line id = Ok n
-
--- the number of a predecessor
-unfoldable pub predecessor : List (List ℕ) → ℕ → List ℕ → Result ℕ Fault
-predecessor ids line id = do
-  text ← check (is_printable id) code.NotText line
-  known (number_from 2 ids id) line id
-
--- the numbers of predecessors, behind those before
-unfoldable pub predecessors_at : List (List ℕ) → ℕ → List ℕ → List (List ℕ) → Result (List ℕ) Fault
-predecessors_at ids line before [] = Ok before
-predecessors_at ids line before (id ∷ others) = do
-  n ← predecessor ids line id
-  predecessors_at ids line (before ++ n ∷ []) others
-
--- the numbers of the predecessors in a cell
-abbrev pub predecessors : List (List ℕ) → ℕ → List ℕ → Result (List ℕ) Fault
-predecessors ids line cell = predecessors_at ids line [] (ids_in cell)

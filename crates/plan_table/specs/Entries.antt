@@ -14,6 +14,7 @@ use Rattle.plan_table.specs.Reading.{Fault, fault, check, ◌>>=◌}
 use Rattle.plan_table.specs.Cells.{same_name, amount}
 use Rattle.plan_table.specs.Header.{Head, same_kind}
 use Rattle.plan_table.specs.Limits.{most_rows}
+use Rattle.plan_table.specs.Predecessors.{Label}
 use Rattle.plan_table.specs.Rows.{first_cell, activity_read}
 use Rattle.plan_table.specs.Table.{Activity, activity_of}
 
@@ -35,10 +36,19 @@ place_from kind k (head ∷ heads) = if same_kind kind head.column then Some k e
 abbrev pub id_place : List Head → Option ℕ
 id_place heads = place_from columns.Id 0 heads
 
+-- the column of the names
+abbrev pub name_place : List Head → Option ℕ
+name_place heads = place_from columns.Name 0 heads
+
 -- the id of the row behind so many activities; without a column of ids it is its number
 abbrev pub id_of : Option ℕ → ℕ → List (List ℕ) → List ℕ
 id_of None count cells = decimal (count + 1)
 id_of (Some place) count cells = trim (first_cell (drop place cells))
+
+-- the name in a row
+abbrev pub name_of : Option ℕ → List (List ℕ) → List ℕ
+name_of None cells = []
+name_of (Some place) cells = trim (first_cell (drop place cells))
 
 -- the row of the capacities, without regard to ASCII case
 abbrev pub is_capacity : Option ℕ → List ℕ → Bool
@@ -48,28 +58,28 @@ is_capacity place id = is_some place && same_name id (codes "capacity")
 abbrev pub is_activity : Option ℕ → List ℕ → List (List ℕ) → Bool
 is_activity place id cells = not (is_blank_row cells) && not (is_capacity place id)
 
--- the ids of activities with one more, at most so many as a table has activities
-unfoldable pub one_more : ℕ → List (List ℕ) → List ℕ → Result (List (List ℕ)) Fault
+-- the ids and names of activities with one more, at most so many as a table has activities
+unfoldable pub one_more : ℕ → List Label → Label → Result (List Label) Fault
 one_more line ids id = do
   room ← check (nat_lt (length ids) most_rows) code.Limit line
   Ok (ids ++ id ∷ [])
 
--- the ids of activities with that of a row
-abbrev pub id_added : Bool → ℕ → List (List ℕ) → List ℕ → Result (List (List ℕ)) Fault
+-- the ids and names of activities with those of a row
+abbrev pub id_added : Bool → ℕ → List Label → Label → Result (List Label) Fault
 id_added activity line ids id = if activity then one_more line ids id else Ok ids
 
-abbrev pub with_that : Option ℕ → ℕ → List (List ℕ) → List ℕ → List (List ℕ) → Result (List (List ℕ)) Fault
-with_that place line ids id cells = id_added (is_activity place id cells) line ids id
+abbrev pub with_that : Option ℕ → Option ℕ → ℕ → List Label → List ℕ → List (List ℕ) → Result (List Label) Fault
+with_that place names line ids id cells = id_added (is_activity place id cells) line ids (record { id = id; name = name_of names cells })
 
-abbrev pub with_id : Option ℕ → List (List ℕ) → Row → Result (List (List ℕ)) Fault
-with_id place ids row = with_that place row.line ids (id_of place (length ids) row.cells) row.cells
+abbrev pub with_id : Option ℕ → Option ℕ → List Label → Row → Result (List Label) Fault
+with_id place names ids row = with_that place names row.line ids (id_of place (length ids) row.cells) row.cells
 
--- the ids of the activities, behind others
-unfoldable pub ids_at : Option ℕ → List (List ℕ) → List Row → Result (List (List ℕ)) Fault
-ids_at place ids [] = Ok ids
-ids_at place ids (row ∷ rows) = do
-  more ← with_id place ids row
-  ids_at place more rows
+-- the ids and names of the activities, behind others
+unfoldable pub ids_at : Option ℕ → Option ℕ → List Label → List Row → Result (List Label) Fault
+ids_at place names ids [] = Ok ids
+ids_at place names ids (row ∷ rows) = do
+  more ← with_id place names ids row
+  ids_at place names more rows
 
 -- what rows say so far: the activities, the capacities if their row has come, and the durations in
 -- all
@@ -89,7 +99,7 @@ added line e a = do
   Ok (record { activities = e.activities ++ a ∷ []; capacities = e.capacities; total = e.total + a.duration })
 
 -- the row of an activity
-unfoldable pub activity_row : List Head → List (List ℕ) → Entries → ℕ → List ℕ → List (List ℕ) → Result Entries Fault
+unfoldable pub activity_row : List Head → List Label → Entries → ℕ → List ℕ → List (List ℕ) → Result Entries Fault
 activity_row heads ids e line id cells = do
   room ← check (nat_lt (length e.activities) most_rows) code.Limit line
   a ← activity_read ids (take (length e.activities) ids) line id heads cells
@@ -127,21 +137,21 @@ capacity_row heads e line cells = do
   Ok (record { activities = e.activities; capacities = Some found; total = e.total })
 
 -- the row with an id
-abbrev pub row_by : Bool → List Head → List (List ℕ) → Entries → ℕ → List ℕ → List (List ℕ) → Result Entries Fault
+abbrev pub row_by : Bool → List Head → List Label → Entries → ℕ → List ℕ → List (List ℕ) → Result Entries Fault
 row_by capacity heads ids e line id cells = if capacity then capacity_row heads e line cells else activity_row heads ids e line id cells
 
 -- a row that isn't blank
-abbrev pub filled_row : List Head → Option ℕ → List (List ℕ) → Entries → ℕ → List ℕ → List (List ℕ) → Result Entries Fault
+abbrev pub filled_row : List Head → Option ℕ → List Label → Entries → ℕ → List ℕ → List (List ℕ) → Result Entries Fault
 filled_row heads place ids e line id cells = row_by (is_capacity place id) heads ids e line id cells
 
 -- what a row adds
-unfoldable pub entry_read : List Head → Option ℕ → List (List ℕ) → Entries → Row → Result Entries Fault
+unfoldable pub entry_read : List Head → Option ℕ → List Label → Entries → Row → Result Entries Fault
 entry_read heads place ids e row =
     if is_blank_row row.cells then Ok e
     else filled_row heads place ids e row.line (id_of place (length e.activities) row.cells) row.cells
 
 -- what rows add
-unfoldable pub entries_at : List Head → Option ℕ → List (List ℕ) → Entries → List Row → Result Entries Fault
+unfoldable pub entries_at : List Head → Option ℕ → List Label → Entries → List Row → Result Entries Fault
 entries_at heads place ids e [] = Ok e
 entries_at heads place ids e (row ∷ rows) = do
   f ← entry_read heads place ids e row
@@ -155,7 +165,7 @@ no_entries = record { activities = []; capacities = None; total = 0 }
 -- has an activity
 unfoldable pub entries_in : List Head → List Row → Result Entries Fault
 entries_in heads rows = do
-  ids ← ids_at (id_place heads) [] rows
+  ids ← ids_at (id_place heads) (name_place heads) [] rows
   e ← entries_at heads (id_place heads) ids no_entries rows
   some ← check (nat_le 1 (length e.activities)) code.Limit 0
   Ok e

@@ -10,6 +10,7 @@ pub mod Csv
 pub mod Reading
 pub mod Cells
 pub mod Durations
+pub mod Predecessors
 pub mod Header
 pub mod Rows
 pub mod Entries

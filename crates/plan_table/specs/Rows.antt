@@ -7,10 +7,11 @@ use Rattle.plan_table.specs.declared.header.Column.{Column}
 use Rattle.plan_table.specs.declared.header.Column.TheVariants as columns
 use Rattle.plan_psplib.specs.Lines.{is_blank, trim}
 use Rattle.plan_table.specs.Reading.{Fault, fault, check, ◌>>=◌}
-use Rattle.plan_table.specs.Cells.{same, amount, name, is_separator, predecessors}
+use Rattle.plan_table.specs.Cells.{amount, name, is_separator}
 use Rattle.plan_table.specs.Durations.{duration}
 use Rattle.plan_table.specs.Header.{Head}
 use Rattle.plan_table.specs.Limits.{is_printable}
+use Rattle.plan_table.specs.Predecessors.{Label, has_id, predecessors}
 use Rattle.plan_table.specs.Table.{Activity}
 
 -- 1 for the first byte of a character
@@ -33,10 +34,10 @@ abbrev pub is_id : List ℕ → Bool
 is_id cell = not (length cell == 0) && nat_le (characters cell) longest_id && list_all is_id_byte cell && is_printable cell
 
 -- an id that no earlier activity has
-abbrev pub new_id : List (List ℕ) → ℕ → List ℕ → Result (Unit {0}) Fault
-new_id before line cell = if list_any (λ other. same other cell) before then fault code.IdTwice line cell else Ok tt
+abbrev pub new_id : List Label → ℕ → List ℕ → Result (Unit {0}) Fault
+new_id before line cell = if list_any (has_id cell) before then fault code.IdTwice line cell else Ok tt
 
-unfoldable pub id_read : List (List ℕ) → ℕ → List ℕ → Result (Unit {0}) Fault
+unfoldable pub id_read : List Label → ℕ → List ℕ → Result (Unit {0}) Fault
 id_read before line cell = do
   good ← check (is_id cell) code.BadId line
   new_id before line cell
@@ -45,9 +46,9 @@ id_read before line cell = do
 abbrev pub need : ℕ → List ℕ → List ℕ → Result ℕ Fault
 need line resource cell = if length cell == 0 then Ok 0 else amount code.BadNeed line resource cell
 
--- an activity with what a cell of a column says; the ids are those of all activities and of the
--- earlier ones
-unfoldable pub cell_read : List (List ℕ) → List (List ℕ) → ℕ → Activity → Column → List ℕ → List ℕ → Result Activity Fault
+-- an activity with what a cell of a column says; the ids and names are those of all activities and
+-- of the earlier ones
+unfoldable pub cell_read : List Label → List Label → ℕ → Activity → Column → List ℕ → List ℕ → Result Activity Fault
 cell_read ids before line a columns.Duration resource cell = duration line cell >>= λ n. Ok (record a { duration = n })
 cell_read ids before line a columns.Id resource cell = id_read before line cell >>= λ u. Ok a
 cell_read ids before line a columns.Name resource cell = name line cell >>= λ text. Ok (record a { name = text })
@@ -62,7 +63,7 @@ first_cell [] = []
 first_cell (cell ∷ cells) = cell
 
 -- an activity with what the cells of columns say
-unfoldable pub row_read : List (List ℕ) → List (List ℕ) → ℕ → Activity → List Head → List (List ℕ) → Result Activity Fault
+unfoldable pub row_read : List Label → List Label → ℕ → Activity → List Head → List (List ℕ) → Result Activity Fault
 row_read ids before line a [] cells = Ok a
 row_read ids before line a (head ∷ heads) cells = do
   b ← cell_read ids before line a head.column head.name (trim (first_cell cells))
@@ -73,7 +74,7 @@ abbrev pub fresh_activity : List ℕ → Activity
 fresh_activity id = record { id = utf8_lossy id; name = []; duration = 0; predecessors = []; needs = [] }
 
 -- the activity of a row, which has no more cells than there are columns
-unfoldable pub activity_read : List (List ℕ) → List (List ℕ) → ℕ → List ℕ → List Head → List (List ℕ) → Result Activity Fault
+unfoldable pub activity_read : List Label → List Label → ℕ → List ℕ → List Head → List (List ℕ) → Result Activity Fault
 activity_read ids before line id heads cells = do
   a ← row_read ids before line (fresh_activity id) heads cells
   whole ← check (nat_le (length cells) (length heads)) code.Cells line

@@ -1,6 +1,6 @@
 //! The cells of an activity.
 
-ghost use Rattle.std.specs.Prelude.{◌≡◌, ◌≤◌, ℕ, List, Option, length, map, nat_le, IfOk, string_bytes};
+ghost use Rattle.std.specs.Prelude.{◌≡◌, ◌≤◌, ℕ, List, Option, nat_le, IfOk, string_bytes};
 ghost use Rattle.std.specs.Char.{is_control};
 ghost use Rattle.std.specs.List.{list_all, list_any};
 ghost use Rattle.std.specs.Str.{chars};
@@ -10,12 +10,12 @@ ghost use Rattle.plan_table.specs.Header.{Head};
 ghost use Rattle.plan_table.specs.Entries.{Entries};
 ghost use Rattle.plan_table.specs.Table.{Activity, Resource, Table};
 ghost use Rattle.plan_table.specs.Limits as limits;
-ghost use Rattle.plan_table.specs.Limits.{most_rows};
+ghost use Rattle.plan_table.specs.Predecessors.{Label};
 ghost use Rattle.plan_table.specs.Reading.{Fails, Gives, fault};
 
 use crate::fault::{ReadError, TableCode, TableFault};
-use plan_psplib::{GREATEST_AMOUNT, Words, number};
-use std::alloc::{AllocError, Global};
+use plan_psplib::{GREATEST_AMOUNT, number};
+use std::alloc::Global;
 use std::str;
 
 /// The most bytes of a name.
@@ -34,6 +34,7 @@ pub fn word_fault(alloc: Global, code: TableCode, line: u64, word: &[u8]) -> Rea
     ensures rows { Fails result (fault {A = List Row} code line word.now) }
     ensures entries { Fails result (fault {A = Entries} code line word.now) }
     ensures ids { Fails result (fault {A = List (List ℕ)} code line word.now) }
+    ensures labels { Fails result (fault {A = List Label} code line word.now) }
     ensures capacities { Fails result (fault {A = List (Option ℕ)} code line word.now) }
 {
     match Vec::from_slice(alloc, word) {
@@ -116,76 +117,4 @@ pub fn name(alloc: Global, line: u64, cell: &[u8]) -> Result<String, ReadError>
         Ok(text) if is_printable(cell) => Ok(String::from_str(alloc, text)?),
         _ => Err(word_fault(alloc, TableCode::NotText, line, b"")),
     }
-}
-
-// A space in place of what stands between ids.
-fn as_blank(byte: u8) -> u8
-    ensures { result ≡ spec.as_blank byte }
-{
-    match byte {
-        b',' | b';' | b'\n' => b' ',
-        other => other,
-    }
-}
-
-// A cell with spaces in place of what stands between ids.
-fn with_blanks(alloc: Global, cell: &[u8]) -> Result<Vec<u8>, AllocError>
-    ensures { IfOk result (λ v. v.items ≡ map spec.as_blank cell.now) }
-{
-    let mut text = Vec::new(alloc);
-    for &byte in cell {
-        text.push(as_blank(byte))?;
-    }
-    Ok(text)
-}
-
-// The number of the first activity with an id.
-fn number_of(ids: &[Vec<u8>], id: &[u8]) -> Option<u32>
-    requires { length ids.now ≤ most_rows }
-    ensures { result ≡ spec.number_from 2 (map (λ other. other.items) ids.now) id.now }
-{
-    for (k, other) in ids.iter().enumerate() {
-        if same(other, id) {
-            return Some(k as u32 + 2);
-        }
-    }
-    None
-}
-
-// The number of a predecessor.
-#[tactic(auto, unfolding(crate::specs::Cells::predecessor))]
-fn predecessor(alloc: Global, ids: &[Vec<u8>], line: u64, id: &[u8]) -> Result<u32, ReadError>
-    requires { length ids.now ≤ most_rows }
-    ensures { Gives (λ n. n) result (spec.predecessor (map (λ other. other.items) ids.now)
-        line id.now) }
-{
-    if !is_printable(id) {
-        return Err(word_fault(alloc, TableCode::NotText, line, b""));
-    }
-    match number_of(ids, id) {
-        Some(n) => Ok(n),
-        None => Err(word_fault(alloc, TableCode::NoSuchId, line, id)),
-    }
-}
-
-/// The numbers of the predecessors in a cell.
-#[tactic(auto, unfolding(crate::specs::Cells::predecessors_at))]
-pub fn predecessors(
-    alloc: Global,
-    ids: &[Vec<u8>],
-    line: u64,
-    cell: &[u8],
-) -> Result<Vec<u32>, ReadError>
-    requires { length ids.now ≤ most_rows }
-    ensures { Gives (λ v. v.items) result (spec.predecessors
-        (map (λ other. other.items) ids.now) line cell.now) }
-{
-    let text = with_blanks(alloc, cell)?;
-    let mut words = Words::new(&text);
-    let mut numbers = Vec::new(alloc);
-    while let Some(id) = words.next_word() {
-        let number = predecessor(alloc, ids, line, id)?;
-        numbers.push(number)?;
-    }
-    Ok(numbers)
 }

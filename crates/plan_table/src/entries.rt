@@ -6,6 +6,7 @@ ghost use Rattle.plan_table.specs.Csv.{row_of};
 ghost use Rattle.plan_table.specs.Entries as spec;
 ghost use Rattle.plan_table.specs.Header.{head_of};
 ghost use Rattle.plan_table.specs.Limits.{most_rows};
+ghost use Rattle.plan_table.specs.Predecessors.{label_of};
 ghost use Rattle.plan_table.specs.Reading.{Gives};
 ghost use Rattle.plan_table.specs.Rows.{first_cell};
 ghost use Rattle.plan_table.specs.Table.{activity_of};
@@ -13,6 +14,7 @@ ghost use Rattle.plan_table.specs.Table.{activity_of};
 use crate::cells::{amount, same_name, word_fault};
 use crate::fault::{ReadError, TableCode};
 use crate::header::{Column, Head, same_kind};
+use crate::predecessors::Label;
 use crate::records::Row;
 use crate::rows::{Ids, read_activity, split_first};
 use crate::table::Activity;
@@ -73,16 +75,30 @@ pub fn cell_at(cells: &[Vec<u8>], place: usize) -> &[u8]
     }
 }
 
-/// The column of the ids.
-pub fn id_place(heads: &[Head]) -> Option<usize>
-    ensures { result ≡ spec.id_place (map head_of heads.now) }
+// The first column of a kind.
+fn place_of(heads: &[Head], kind: Column) -> Option<usize>
+    ensures { result ≡ spec.place_from kind 0 (map head_of heads.now) }
 {
     for (k, head) in heads.iter().enumerate() {
-        if same_kind(Column::Id, head.column) {
+        if same_kind(kind, head.column) {
             return Some(k);
         }
     }
     None
+}
+
+/// The column of the ids.
+pub fn id_place(heads: &[Head]) -> Option<usize>
+    ensures { result ≡ spec.id_place (map head_of heads.now) }
+{
+    place_of(heads, Column::Id)
+}
+
+// The column of the names.
+fn name_place(heads: &[Head]) -> Option<usize>
+    ensures { result ≡ spec.name_place (map head_of heads.now) }
+{
+    place_of(heads, Column::Name)
 }
 
 // The digits of a number.
@@ -110,6 +126,16 @@ fn id_of(
     }
 }
 
+// The name in a row.
+fn name_of(place: Option<usize>, cells: &[Vec<u8>]) -> &[u8]
+    ensures { result.now ≡ spec.name_of place (map (λ cell. cell.items) cells.now) }
+{
+    match place {
+        Some(place) => trim(cell_at(cells, place)),
+        None => b"",
+    }
+}
+
 // Whether a row with this id is that of an activity.
 fn is_activity(place: Option<usize>, id: &[u8], cells: &[Vec<u8>]) -> bool
     ensures { result ≡ spec.is_activity place id.now (map (λ cell. cell.items) cells.now) }
@@ -117,17 +143,18 @@ fn is_activity(place: Option<usize>, id: &[u8], cells: &[Vec<u8>]) -> bool
     !is_blank_row(cells) && !is_capacity(place, id)
 }
 
-// The ids with that of a row.
+// The ids and names with those of a row.
 #[tactic(auto, unfolding(crate::specs::Entries::one_more))]
 fn push_id(
     alloc: Global,
     place: Option<usize>,
-    ids: &mut Vec<Vec<u8>>,
+    names: Option<usize>,
+    ids: &mut Vec<Label>,
     row: &Row,
 ) -> Result<(), ReadError>
     requires { length ids.old.items ≤ most_rows }
-    ensures ids { Gives (λ _. map (λ id. id.items) ids.new.items) result (spec.with_id place
-        (map (λ id. id.items) ids.old.items) (row_of row.now)) }
+    ensures ids { Gives (λ _. map label_of ids.new.items) result (spec.with_id place names
+        (map label_of ids.old.items) (row_of row.now)) }
     ensures few { OnOk result (length ids.new.items ≤ most_rows) }
 {
     let count = ids.as_slice().len();
@@ -138,7 +165,8 @@ fn push_id(
     if count >= MOST_ROWS {
         return Err(word_fault(alloc, TableCode::Limit, row.line, b""));
     }
-    ids.push(id)?;
+    let name = Vec::from_slice(alloc, name_of(names, &row.cells))?;
+    ids.push(Label { id, name })?;
     Ok(())
 }
 
@@ -218,16 +246,21 @@ fn read_capacities(
     Ok(capacities)
 }
 
-// The ids of the activities.
+// The ids and names of the activities.
 #[tactic(auto, unfolding(crate::specs::Entries::ids_at))]
-fn read_ids(alloc: Global, place: Option<usize>, rows: &[Row]) -> Result<Vec<Vec<u8>>, ReadError>
-    ensures ids { Gives (λ v. map (λ id. id.items) v.items) result (spec.ids_at place []
+fn read_ids(
+    alloc: Global,
+    place: Option<usize>,
+    names: Option<usize>,
+    rows: &[Row],
+) -> Result<Vec<Label>, ReadError>
+    ensures ids { Gives (λ v. map label_of v.items) result (spec.ids_at place names []
         (map row_of rows.now)) }
     ensures few { IfOk result (λ v. length v.items ≤ most_rows) }
 {
     let mut ids = Vec::new(alloc);
     for row in rows {
-        push_id(alloc, place, &mut ids, row)?;
+        push_id(alloc, place, names, &mut ids, row)?;
     }
     Ok(ids)
 }
@@ -259,8 +292,8 @@ fn read_capacity_row(
 
 // The first ids.
 #[tactic(auto, using(crate::proofs::ReadLemmas::ids_taken, crate::proofs::ReadLemmas::all_taken))]
-fn first_ids(ids: &[Vec<u8>], count: usize) -> &[Vec<u8>]
-    ensures { map (λ id. id.items) result.now ≡ take count (map (λ id. id.items) ids.now) }
+fn first_ids(ids: &[Label], count: usize) -> &[Label]
+    ensures { map label_of result.now ≡ take count (map label_of ids.now) }
 {
     if count < ids.len() {
         &ids[..count]
@@ -274,7 +307,7 @@ fn first_ids(ids: &[Vec<u8>], count: usize) -> &[Vec<u8>]
 fn read_activity_row(
     alloc: Global,
     heads: &[Head],
-    ids: &[Vec<u8>],
+    ids: &[Label],
     entries: &mut Entries,
     line: u64,
     id: &[u8],
@@ -282,7 +315,7 @@ fn read_activity_row(
 ) -> Result<(), ReadError>
     requires { length ids.now ≤ most_rows }
     ensures exact { Gives (λ _. spec.entries_of entries.new) result (spec.activity_row
-        (map head_of heads.now) (map (λ id. id.items) ids.now) (spec.entries_of entries.old)
+        (map head_of heads.now) (map label_of ids.now) (spec.entries_of entries.old)
         line id.now (map (λ cell. cell.items) cells.now)) }
     ensures few { OnOk result (length entries.new.activities.items ≤ most_rows) }
 {
@@ -304,14 +337,14 @@ fn read_entry(
     alloc: Global,
     heads: &[Head],
     place: Option<usize>,
-    ids: &[Vec<u8>],
+    ids: &[Label],
     entries: &mut Entries,
     row: &Row,
 ) -> Result<(), ReadError>
     requires ids { length ids.now ≤ most_rows }
     requires few { length entries.old.activities.items ≤ most_rows }
     ensures exact { Gives (λ _. spec.entries_of entries.new) result (spec.entry_read
-        (map head_of heads.now) place (map (λ id. id.items) ids.now)
+        (map head_of heads.now) place (map label_of ids.now)
         (spec.entries_of entries.old) (row_of row.now)) }
     ensures few { OnOk result (length entries.new.activities.items ≤ most_rows) }
 {
@@ -332,12 +365,12 @@ fn read_all(
     alloc: Global,
     heads: &[Head],
     place: Option<usize>,
-    ids: &[Vec<u8>],
+    ids: &[Label],
     rows: &[Row],
 ) -> Result<Entries, ReadError>
     requires { length ids.now ≤ most_rows }
     ensures { Gives spec.entries_of result (spec.entries_at (map head_of heads.now) place
-        (map (λ id. id.items) ids.now) spec.no_entries (map row_of rows.now)) }
+        (map label_of ids.now) spec.no_entries (map row_of rows.now)) }
 {
     let mut entries = Entries {
         activities: Vec::new(alloc),
@@ -358,7 +391,7 @@ pub fn read_entries(alloc: Global, heads: &[Head], rows: &[Row]) -> Result<Entri
         (map row_of rows.now)) }
 {
     let place = id_place(heads);
-    let ids = read_ids(alloc, place, rows)?;
+    let ids = read_ids(alloc, place, name_place(heads), rows)?;
     let entries = read_all(alloc, heads, place, &ids, rows)?;
     if entries.activities.is_empty() {
         return Err(word_fault(alloc, TableCode::Limit, 0, b""));

@@ -15,6 +15,7 @@ mod laws;
 mod listing;
 mod names;
 mod overrides;
+mod predecessors;
 mod reading;
 mod records;
 mod rows;

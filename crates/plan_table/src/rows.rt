@@ -3,17 +3,18 @@
 ghost use Rattle.std.specs.Prelude.{◌≡◌, ◌≤◌, ◌++◌, length, map, drop, IfOk, OnOk};
 ghost use Rattle.std.specs.List.{list_all, list_any};
 ghost use Rattle.plan_psplib.specs.Lines as lines;
-ghost use Rattle.plan_table.specs.Cells as cells;
 ghost use Rattle.plan_table.specs.Header.{head_of};
 ghost use Rattle.plan_table.specs.Limits.{most_rows};
+ghost use Rattle.plan_table.specs.Predecessors.{has_id, label_of};
 ghost use Rattle.plan_table.specs.Reading.{Gives};
 ghost use Rattle.plan_table.specs.Rows as spec;
 ghost use Rattle.plan_table.specs.Table.{activity_of};
 
-use crate::cells::{amount, is_printable, name, predecessors, same, word_fault};
+use crate::cells::{amount, is_printable, name, same, word_fault};
 use crate::durations::duration;
 use crate::fault::{ReadError, TableCode};
 use crate::header::{Column, Head};
+use crate::predecessors::{Label, predecessors};
 use crate::table::Activity;
 use plan_psplib::{is_blank, trim};
 use std::alloc::{AllocError, Global};
@@ -59,12 +60,11 @@ fn is_id(cell: &[u8]) -> bool
 }
 
 // Whether an id is among others.
-fn is_among(ids: &[Vec<u8>], id: &[u8]) -> bool
-    ensures { result ≡ list_any (λ other. cells.same other id.now)
-        (map (λ other. other.items) ids.now) }
+fn is_among(ids: &[Label], id: &[u8]) -> bool
+    ensures { result ≡ list_any (has_id id.now) (map label_of ids.now) }
 {
     for other in ids {
-        if same(other, id) {
+        if same(&other.id, id) {
             return true;
         }
     }
@@ -73,8 +73,8 @@ fn is_among(ids: &[Vec<u8>], id: &[u8]) -> bool
 
 // An id that no earlier activity has.
 #[tactic(auto, unfolding(crate::specs::Rows::id_read))]
-fn check_id(alloc: Global, before: &[Vec<u8>], line: u64, cell: &[u8]) -> Result<(), ReadError>
-    ensures { Gives (λ u. u) result (spec.id_read (map (λ other. other.items) before.now)
+fn check_id(alloc: Global, before: &[Label], line: u64, cell: &[u8]) -> Result<(), ReadError>
+    ensures { Gives (λ u. u) result (spec.id_read (map label_of before.now)
         line cell.now) }
 {
     if !is_id(cell) {
@@ -104,11 +104,11 @@ fn append(numbers: &mut Vec<u32>, more: &[u32]) -> Result<(), AllocError>
     numbers.extend_from_slice(more)
 }
 
-/// The ids of all activities, and of those before the one that is read.
+/// The ids and names of all activities, and of those before the one that is read.
 #[derive(Clone, Copy)]
 pub struct Ids<'a> {
-    pub all: &'a [Vec<u8>],
-    pub before: &'a [Vec<u8>],
+    pub all: &'a [Label],
+    pub before: &'a [Label],
 }
 
 // What a cell of a column says of an activity.
@@ -123,8 +123,8 @@ fn read_cell(
 ) -> Result<(), ReadError>
     requires { length ids.now.all.now ≤ most_rows }
     ensures { Gives (λ _. activity_of activity.new) result (spec.cell_read
-        (map (λ other. other.items) ids.now.all.now)
-        (map (λ other. other.items) ids.now.before.now) line (activity_of activity.old)
+        (map label_of ids.now.all.now)
+        (map label_of ids.now.before.now) line (activity_of activity.old)
         (head_of head.now).column (head_of head.now).name cell.now) }
 {
     match head.column {
@@ -183,8 +183,8 @@ fn read_row(
 ) -> Result<Activity, ReadError>
     requires { length ids.now.all.now ≤ most_rows }
     ensures { Gives activity_of result (spec.row_read
-        (map (λ other. other.items) ids.now.all.now)
-        (map (λ other. other.items) ids.now.before.now) line (spec.fresh_activity id.now)
+        (map label_of ids.now.all.now)
+        (map label_of ids.now.before.now) line (spec.fresh_activity id.now)
         (map head_of heads.now) (map (λ cell. cell.items) cells.now)) }
 {
     let mut activity = fresh(alloc, id)?;
@@ -209,8 +209,8 @@ pub fn read_activity(
 ) -> Result<Activity, ReadError>
     requires { length ids.now.all.now ≤ most_rows }
     ensures { Gives activity_of result (spec.activity_read
-        (map (λ other. other.items) ids.now.all.now)
-        (map (λ other. other.items) ids.now.before.now) line id.now
+        (map label_of ids.now.all.now)
+        (map label_of ids.now.before.now) line id.now
         (map head_of heads.now) (map (λ cell. cell.items) cells.now)) }
 {
     let activity = read_row(alloc, ids, line, id, heads, cells)?;

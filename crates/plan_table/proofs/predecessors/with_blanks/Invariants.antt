@@ -1,6 +1,6 @@
 use Rattle.std.proofs.Common.{◌≡◌, map, take}
 use Rattle.plan_table.specs.Cells.{as_blank}
-use Rattle.plan_table.proofs.cells.with_blanks.Given as goal
+use Rattle.plan_table.proofs.predecessors.with_blanks.Given as goal
 
 -- the bytes so far
 abbrev pub invariant-loop-byte : goal.invariant-loop-byte
