@@ -32,8 +32,8 @@ fn proof_table(alloc: Global, shop: &Shop, proof: &Proof) -> Result<Table<'stati
         proof.now.lower proof.now.schedule.starts.items proof.now.schedule.makespan) }
 {
     let schedule = &proof.schedule;
-    let shop = PlanRef::Shop(shop);
-    let table = schedule_view(alloc, shop, &schedule.starts, schedule.makespan)?;
+    let plan = PlanRef::Shop(shop);
+    let table = schedule_view(alloc, plan, &schedule.starts, schedule.makespan)?;
     with_line(bound_line(proof.lower, schedule.makespan), table)
 }
 

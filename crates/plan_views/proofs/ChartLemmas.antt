@@ -61,9 +61,9 @@ later start d = omega arith
 
 -- the line of an activity has its number and its interval
 activity_line : (i : Planned) (starts : List ℕ) (place makespan k : ℕ)
-    → named_row owner.Activity place makespan (activity_row (project i) starts k) ≡ chart_line makespan (k + 1) (activity_intervals i.project.network starts (k + 1))
+    → named_row owner.Activity place makespan (activity_row i starts k) ≡ chart_line makespan (k + 1) (activity_intervals i.project.network starts (k + 1))
 activity_line i starts place makespan k =
-    plain_row owner.Activity place makespan (activity_row (project i) starts k)
+    plain_row owner.Activity place makespan (activity_row i starts k)
     ∙ ap (λ d. chart_line makespan (k + 1) (record { start = slice_index starts k; duration = d } ∷ [])) (later (slice_index starts k) (duration_of i.project.network (k + 1)))
     ∙ ap (λ t. chart_line makespan (k + 1) (record { start = t; duration = duration_of i.project.network (k + 1) } ∷ [])) (at_index starts k)
 
@@ -83,7 +83,7 @@ machine_line s starts place makespan m =
 -- the chart of a schedule
 pub chart_text_is : (p : Plan) (starts : List ℕ) (ends : ℕ) → named_text_of [] (chart_view_of p starts ends) ≡ chart_text_of p starts ends
 chart_text_is (project i) starts ends =
-    body owner.Activity ends (activity_row (project i) starts) (λ k. chart_line ends (k + 1) (activity_intervals i.project.network starts (k + 1))) (λ place k. activity_line i starts place ends k) 0 (count_of (project i))
+    body owner.Activity ends (activity_row i starts) (λ k. chart_line ends (k + 1) (activity_intervals i.project.network starts (k + 1))) (λ place k. activity_line i starts place ends k) 0 (count_of (project i))
     ∙ ap (λ bytes. unit_line ends ++ bytes) (lines_by_index (λ n. chart_line ends n (activity_intervals i.project.network starts n)) (count_of (project i)))
 chart_text_is (shop s) starts ends =
     body owner.Machine ends (machine_row s starts) (λ m. chart_line ends m (machine_intervals s starts m)) (λ place m. machine_line s starts place ends m) 0 s.machines

@@ -1,9 +1,9 @@
 -- The rows of tables of working days, and their texts.
-use Rattle.std.proofs.Common.{◌≡◌, ℕ, zero, suc, ◌+◌, ◌-◌, ◌<◌, ◌≤◌, ◌⊎◌, List, [], ◌∷◌, ◌++◌, map, codes, slice_index, Vec, refl, sym, ap, ◌∙◌, subst, arith}
+use Rattle.std.proofs.Common.{◌≡◌, ℕ, zero, suc, ◌+◌, ◌-◌, ◌<◌, ◌⊎◌, List, [], ◌∷◌, ◌++◌, map, codes, slice_index, Vec, refl, sym, ap, ◌∙◌, subst, arith}
 use Rattle.std.proofs.lemmas.List.{append_assoc, append-nil, map-append}
 use Rattle.std.specs.Global.{Global}
 use Rattle.std.specs.List.{flat_map}
-use Rattle.plan_net.specs.Network.{IsActivity, duration_of}
+use Rattle.plan_net.specs.Network.{duration_of}
 use Rattle.plan_sgs.specs.Instances.{Planned}
 use Rattle.plan_shop.specs.Shop.{JobShop}
 use Rattle.plan_calendar.specs.WorkingDay.{Workdays, IsBeyond}
@@ -145,10 +145,9 @@ calendar_text calendar (shop s) starts table (rows, are, is) =
 
 -- a day of a row that would be after the last date
 pub days_beyond : (calendar : Workdays) (p : Plan) (starts : List ℕ) → HasRowBeyond calendar p starts → HasDayBeyond calendar p starts
-days_beyond calendar (project i) starts (k, below, beyond) =
-    let number : k + 1 ≡ suc k = omega arith in (
-      suc k,
-      omega (arith, below),
-      subst (λ (v : Interval). texts.HasDayBeyond calendar v) (activity_interval-at i starts k) beyond,
-    )
+days_beyond calendar (project i) starts (k, below, beyond) = (
+  suc k,
+  (omega arith, omega (arith, below)),
+  subst (λ (v : Interval). texts.HasDayBeyond calendar v) (activity_interval-at i starts k) beyond,
+)
 days_beyond calendar (shop s) starts beyond = beyond

@@ -2,6 +2,7 @@
 use Rattle.std.specs.Prelude.{ℕ, ◌+◌, List, [], ◌∷◌, ◌++◌, Option, Some, None, map, nat_eq}
 use Rattle.std.specs.Prelude.{codes, slice_index, string_bytes}
 use Rattle.std.specs.List.{range_with_len}
+use Rattle.plan_sgs.specs.Instances.{Planned}
 use Rattle.plan_shop.specs.Shop.{JobShop, count_steps, machine_of, those_below}
 use Rattle.plan_gantt.specs.Chart.{chart_text, chart_unit, chart_cells, cell_texts, unit_line}
 use Rattle.plan_gantt.specs.Charts.{activity_intervals}
@@ -44,9 +45,9 @@ bar_at p starts k = record {
   step = step_at p k;
 }
 
--- the row of the activity in row k of a table
-abbrev pub activity_row : Plan → List ℕ → ℕ → ChartRow
-activity_row p starts k = record { number = k + 1; bars = bar_at p starts k ∷ [] }
+-- the row of activity k + 1
+abbrev pub activity_row : Planned → List ℕ → ℕ → ChartRow
+activity_row i starts k = record { number = k + 1; bars = bar_at (project i) starts k ∷ [] }
 
 -- the row of machine m: a bar for each of its steps
 abbrev pub machine_row : JobShop → List ℕ → ℕ → ChartRow
@@ -64,7 +65,7 @@ owner_of (shop s) = owner.Machine
 
 abbrev pub chart_rows : Plan → List ℕ → List ChartRow
 chart_rows (project i) starts =
-    map (activity_row (project i) starts) (range_with_len 0 (count_of (project i)))
+    map (activity_row i starts) (range_with_len 0 (count_of (project i)))
 chart_rows (shop s) starts = map (machine_row s starts) (range_with_len 0 s.machines)
 
 -- the chart of a schedule

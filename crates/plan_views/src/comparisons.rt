@@ -1,6 +1,6 @@
 //! The comparison of two schedules.
 
-ghost use Rattle.std.specs.Prelude.{◌≡◌, ◌≤◌, ◌<◌, ◌∷◌, [], All, map, length, IfOk};
+ghost use Rattle.std.specs.Prelude.{◌≡◌, ◌++◌, ◌≤◌, ◌<◌, All, map, length, IfOk, OnOk};
 ghost use Rattle.std.specs.Prelude.{string_bytes};
 ghost use Rattle.plan_net.specs.Network as networks;
 ghost use Rattle.plan_profile.specs.Usage.{IsInTime};
@@ -22,6 +22,7 @@ use crate::plans::{PlanRef, count, placed_columns, placed_front};
 use plan_formats::{Cell, Column, Line, Table};
 use plan_report::{makespan_of, push_sentence, push_shop_sentence, shop_makespan_of};
 use plan_sgs::{Instance, Verdict, check};
+use plan_shop::{self};
 use std::alloc::{AllocError, Global};
 
 // Returns the columns.
@@ -60,10 +61,10 @@ fn row<'a>(
     b: &[u64],
     k: u32,
 ) -> Result<Vec<Cell<'a>>, AllocError>
-    requires row { k < count_of (plan_of plan.entry) }
-    requires a { length a.now ≡ count_of (plan_of plan.entry) }
+    requires row { k < count_of (plan_of plan) }
+    requires a { length a.now ≡ count_of (plan_of plan) }
     requires limit_a { All IsInTime a.now }
-    requires b { length b.now ≡ count_of (plan_of plan.entry) }
+    requires b { length b.now ≡ count_of (plan_of plan) }
     requires limit_b { All IsInTime b.now }
     ensures { IfOk result (λ cells.
         cells_of cells.items ≡ spec.comparison_row (plan_of plan.entry) a.now b.now k) }
@@ -84,9 +85,9 @@ fn rows<'a>(
     a: &[u64],
     b: &[u64],
 ) -> Result<Vec<Vec<Cell<'a>>>, AllocError>
-    requires whole_a { length a.now ≡ count_of (plan_of plan.entry) }
+    requires whole_a { length a.now ≡ count_of (plan_of plan) }
     requires limit_a { All IsInTime a.now }
-    requires whole_b { length b.now ≡ count_of (plan_of plan.entry) }
+    requires whole_b { length b.now ≡ count_of (plan_of plan) }
     requires limit_b { All IsInTime b.now }
     ensures { IfOk result (λ rows. rows_of rows.items ≡ rows_from
         (spec.comparison_row (plan_of plan.entry) a.now b.now) 0
@@ -99,22 +100,30 @@ fn rows<'a>(
     Ok(rows)
 }
 
+// Appends the sentence of a verdict.
+fn push_verdict(text: &mut String, plan: PlanRef<'_>, verdict: Verdict) -> Result<(), AllocError>
+    ensures { OnOk result (string_bytes text.new
+        ≡ string_bytes text.old ++ spec.sentence_of (plan_of plan.entry) verdict) }
+{
+    match plan {
+        PlanRef::Project(_) => push_sentence(text, verdict),
+        PlanRef::Shop(shop) => push_shop_sentence(text, shop, verdict),
+    }
+}
+
 // Returns the sentence of a verdict.
 fn sentence(alloc: Global, plan: PlanRef<'_>, verdict: Verdict) -> Result<String, AllocError>
     ensures { IfOk result (λ text.
         string_bytes text ≡ spec.sentence_of (plan_of plan.entry) verdict) }
 {
     let mut text = String::new(alloc);
-    match plan {
-        PlanRef::Project(_) => push_sentence(&mut text, verdict)?,
-        PlanRef::Shop(shop) => push_shop_sentence(&mut text, shop, verdict)?,
-    }
+    push_verdict(&mut text, plan, verdict)?;
     Ok(text)
 }
 
 // Returns the makespan of a list of starts.
 fn makespan_on(plan: PlanRef<'_>, starts: &[u64]) -> u64
-    requires whole { length starts.now ≡ count_of (plan_of plan.entry) }
+    requires whole { length starts.now ≡ count_of (plan_of plan) }
     requires limit { All IsInTime starts.now }
     ensures { result ≡ problems.makespan (problem_of (plan_of plan.entry)) starts.now }
 {
@@ -132,7 +141,7 @@ fn summary(
     starts: &[u64],
     verdict: Verdict,
 ) -> Result<Line, AllocError>
-    requires whole { length starts.now ≡ count_of (plan_of plan.entry) }
+    requires whole { length starts.now ≡ count_of (plan_of plan) }
     requires limit { All IsInTime starts.now }
     ensures { IfOk result (λ line. line_of line ≡ spec.summary_of (plan_of plan.entry) name.now
         (problems.makespan (problem_of (plan_of plan.entry)) starts.now) verdict) }
@@ -155,9 +164,9 @@ fn summaries(
     verdict_a: Verdict,
     verdict_b: Verdict,
 ) -> Result<Vec<Line>, AllocError>
-    requires whole_a { length a.now ≡ count_of (plan_of plan.entry) }
+    requires whole_a { length a.now ≡ count_of (plan_of plan) }
     requires limit_a { All IsInTime a.now }
-    requires whole_b { length b.now ≡ count_of (plan_of plan.entry) }
+    requires whole_b { length b.now ≡ count_of (plan_of plan) }
     requires limit_b { All IsInTime b.now }
     ensures { IfOk result (λ lines. map line_of lines.items
         ≡ spec.summaries_of (plan_of plan.entry) a.now b.now verdict_a verdict_b) }
@@ -177,9 +186,9 @@ fn comparison<'a>(
     verdict_a: Verdict,
     verdict_b: Verdict,
 ) -> Result<Table<'a>, AllocError>
-    requires whole_a { length a.now ≡ count_of (plan_of plan.entry) }
+    requires whole_a { length a.now ≡ count_of (plan_of plan) }
     requires limit_a { All IsInTime a.now }
-    requires whole_b { length b.now ≡ count_of (plan_of plan.entry) }
+    requires whole_b { length b.now ≡ count_of (plan_of plan) }
     requires limit_b { All IsInTime b.now }
     ensures { IfOk result (λ table. table_of table
         ≡ spec.comparison_view_of (plan_of plan.entry) a.now b.now verdict_a verdict_b) }
@@ -210,7 +219,7 @@ fn project_verdict(
 
 // Returns the first verdict on a list of starts.
 fn verdict_on(alloc: Global, plan: PlanRef<'_>, starts: &[u64]) -> Result<Verdict, AllocError>
-    requires whole { length starts.now ≡ count_of (plan_of plan.entry) }
+    requires whole { length starts.now ≡ count_of (plan_of plan) }
     requires limit { All IsInTime starts.now }
     ensures { IfOk result (IsFirstVerdict (problem_of (plan_of plan.entry)) starts.now) }
 {
@@ -231,9 +240,9 @@ pub fn comparison_view<'a>(
     a: &[u64],
     b: &[u64],
 ) -> Result<Table<'a>, AllocError>
-    requires whole_a { length a.now ≡ count_of (plan_of plan.entry) }
+    requires whole_a { length a.now ≡ count_of (plan_of plan) }
     requires limit_a { All IsInTime a.now }
-    requires whole_b { length b.now ≡ count_of (plan_of plan.entry) }
+    requires whole_b { length b.now ≡ count_of (plan_of plan) }
     requires limit_b { All IsInTime b.now }
     ensures value { IfOk result (λ table.
         spec.IsComparisonView (plan_of plan.entry) a.now b.now (table_of table)) }

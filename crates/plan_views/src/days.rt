@@ -1,6 +1,7 @@
 //! The tables of working days.
 
-ghost use Rattle.std.specs.Prelude.{◌≡◌, ◌+◌, ◌≤◌, ◌<◌, map, length, slice_index};
+ghost use Rattle.std.specs.Prelude.{◌≡◌, ◌+◌, ◌≤◌, ◌<◌, ◌++◌, ◌∷◌, [], map, length};
+ghost use Rattle.std.specs.Prelude.{slice_index};
 ghost use Rattle.std.specs.Prelude.{EachIndex, IfOk, IfSome, IfNone, IsErrOf};
 ghost use Rattle.plan_calendar.specs.WorkingDay.{IsBeyond};
 ghost use Rattle.plan_gantt.specs.Limits.{latest_start, latest_end};
@@ -48,6 +49,21 @@ fn days<'a>(calendar: &Calendar, start: u64, duration: u64) -> Option<(Cell<'a>,
     Some((first, last))
 }
 
+// Returns a row with the cells of two days behind its front.
+fn extended<'a>(
+    front: Vec<Cell<'a>>,
+    first: Cell<'a>,
+    last: Cell<'a>,
+) -> Result<Vec<Cell<'a>>, AllocError>
+    ensures { IfOk result (λ row. cells_of row.items
+        ≡ cells_of front.entry.items ++ cell_of first.entry ∷ cell_of last.entry ∷ []) }
+{
+    let mut row = front;
+    row.push(first)?;
+    row.push(last)?;
+    Ok(row)
+}
+
 // Returns row `k`.
 fn row<'a>(
     alloc: Global,
@@ -56,8 +72,8 @@ fn row<'a>(
     calendar: &Calendar,
     k: u32,
 ) -> Result<Vec<Cell<'a>>, DaysFault>
-    requires row { k < count_of (plan_of plan.entry) }
-    requires starts { length starts.now ≡ count_of (plan_of plan.entry) }
+    requires row { k < count_of (plan_of plan) }
+    requires starts { length starts.now ≡ count_of (plan_of plan) }
     requires limit { EachIndex starts.now (λ k. slice_index starts.now k ≤ latest_start) }
     ensures row { IfOk result (λ cells. spec.IsDaysRow calendar.now
         (front_of (plan_of plan.entry) k) (interval_of (plan_of plan.entry) starts.now k)
@@ -68,9 +84,8 @@ fn row<'a>(
     let Some((first, last)) = days(calendar, starts[k as usize], duration_at(plan, k)) else {
         return Err(DaysFault::BeyondCalendar);
     };
-    let mut row = front(alloc, plan, k)?;
-    row.push(first)?;
-    row.push(last)?;
+    let front = front(alloc, plan, k)?;
+    let row = extended(front, first, last)?;
     Ok(row)
 }
 
@@ -81,7 +96,7 @@ fn rows<'a>(
     starts: &[u64],
     calendar: &Calendar,
 ) -> Result<Vec<Vec<Cell<'a>>>, DaysFault>
-    requires starts { length starts.now ≡ count_of (plan_of plan.entry) }
+    requires starts { length starts.now ≡ count_of (plan_of plan) }
     requires limit { EachIndex starts.now (λ k. slice_index starts.now k ≤ latest_start) }
     ensures rows { IfOk result (λ rows. spec.AreDaysRows calendar.now
         (front_of (plan_of plan.entry)) (interval_of (plan_of plan.entry) starts.now)
@@ -133,7 +148,7 @@ pub fn days_view<'a>(
     starts: &[u64],
     calendar: &Calendar,
 ) -> Result<Table<'a>, DaysFault>
-    requires starts { length starts.now ≡ count_of (plan_of plan.entry) }
+    requires starts { length starts.now ≡ count_of (plan_of plan) }
     requires limit { EachIndex starts.now (λ k. slice_index starts.now k ≤ latest_start) }
     ensures value { IfOk result (λ table.
         spec.IsDaysView calendar.now (plan_of plan.entry) starts.now (table_of table)) }

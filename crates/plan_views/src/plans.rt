@@ -1,6 +1,7 @@
 //! Projects and job shops, with the first cells of the rows of their tables.
 
 ghost use Rattle.std.specs.Prelude.{◌≡◌, ◌+◌, ◌≤◌, ◌<◌, map, IfOk};
+ghost use Rattle.plan_net.specs.Network as networks;
 ghost use Rattle.plan_gantt.specs.Limits.{latest_start, latest_end};
 ghost use Rattle.plan_formats.specs.Columns.{column_of};
 ghost use Rattle.plan_formats.specs.Tables.{cells_of};
@@ -33,14 +34,24 @@ pub(crate) fn count(plan: PlanRef<'_>) -> u32
     }
 }
 
+/// Returns the activity of row `k` of a project.
+pub(crate) fn activity_at(instance: &Instance<'_>, k: u32) -> u32
+    requires { k < networks.count_of instance.now.project.network }
+    ensures { result ≡ k + 1 }
+{
+    // The proof needs the greatest number of activities, which this call states.
+    let _count = instance.network().len();
+    k + 1
+}
+
 /// Returns the duration in row `k`.
 pub(crate) fn duration_at(plan: PlanRef<'_>, k: u32) -> u64
-    requires { k < count_of (plan_of plan.entry) }
+    requires { k < count_of (plan_of plan) }
     ensures value { result ≡ duration_of (plan_of plan.entry) k }
     ensures short { latest_start + result ≤ latest_end }
 {
     match plan {
-        PlanRef::Project(instance) => instance.network().duration(k + 1),
+        PlanRef::Project(instance) => instance.network().duration(activity_at(instance, k)),
         PlanRef::Shop(shop) => time_at(shop, k),
     }
 }
@@ -57,6 +68,17 @@ fn step_cells<'a>(alloc: Global, shop: &Shop, x: u32) -> Result<Vec<Cell<'a>>, A
         Cell::Number(number.step as u64),
     ];
     row_of(alloc, &cells)
+}
+
+// Returns the same with the machine of the step.
+fn placed_step<'a>(alloc: Global, shop: &Shop, x: u32) -> Result<Vec<Cell<'a>>, AllocError>
+    requires { x < spec.count_of (spec.shop shop.now) }
+    ensures { IfOk result (λ cells.
+        cells_of cells.items ≡ spec.placed_front_of (spec.shop shop.now) x) }
+{
+    let mut cells = step_cells(alloc, shop, x)?;
+    cells.push(Cell::Number(machine_at(shop, x) as u64))?;
+    Ok(cells)
 }
 
 /// Returns the columns that name an activity or a step.
@@ -76,7 +98,7 @@ pub(crate) fn front<'a>(
     plan: PlanRef<'_>,
     k: u32,
 ) -> Result<Vec<Cell<'a>>, AllocError>
-    requires { k < count_of (plan_of plan.entry) }
+    requires { k < count_of (plan_of plan) }
     ensures { IfOk result (λ cells.
         cells_of cells.items ≡ spec.front_of (plan_of plan.entry) k) }
 {
@@ -103,13 +125,12 @@ pub(crate) fn placed_front<'a>(
     plan: PlanRef<'_>,
     k: u32,
 ) -> Result<Vec<Cell<'a>>, AllocError>
-    requires { k < count_of (plan_of plan.entry) }
+    requires { k < count_of (plan_of plan) }
     ensures { IfOk result (λ cells.
         cells_of cells.items ≡ spec.placed_front_of (plan_of plan.entry) k) }
 {
-    let mut cells = front(alloc, plan, k)?;
-    if let PlanRef::Shop(shop) = plan {
-        cells.push(Cell::Number(machine_at(shop, k) as u64))?;
+    match plan {
+        PlanRef::Project(_) => front(alloc, plan, k),
+        PlanRef::Shop(shop) => placed_step(alloc, shop, k),
     }
-    Ok(cells)
 }

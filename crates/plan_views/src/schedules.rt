@@ -20,7 +20,9 @@ fn columns(alloc: Global, plan: PlanRef<'_>) -> Result<Vec<Column>, AllocError>
         map column_of columns.items ≡ spec.schedule_columns (plan_of plan.entry)) }
 {
     let mut columns = placed_columns(alloc, plan)?;
-    columns.extend_from_slice(&[duration(), start(), end()])?;
+    columns.push(duration())?;
+    columns.push(start())?;
+    columns.push(end())?;
     Ok(columns)
 }
 
@@ -32,8 +34,8 @@ fn row<'a>(
     starts: &[u64],
     k: u32,
 ) -> Result<Vec<Cell<'a>>, AllocError>
-    requires row { k < count_of (plan_of plan.entry) }
-    requires starts { length starts.now ≡ count_of (plan_of plan.entry) }
+    requires row { k < count_of (plan_of plan) }
+    requires starts { length starts.now ≡ count_of (plan_of plan) }
     requires limit { EachIndex starts.now (λ k. slice_index starts.now k ≤ latest_start) }
     ensures { IfOk result (λ cells.
         cells_of cells.items ≡ spec.schedule_row (plan_of plan.entry) starts.now k) }
@@ -53,7 +55,7 @@ fn rows<'a>(
     plan: PlanRef<'_>,
     starts: &[u64],
 ) -> Result<Vec<Vec<Cell<'a>>>, AllocError>
-    requires starts { length starts.now ≡ count_of (plan_of plan.entry) }
+    requires starts { length starts.now ≡ count_of (plan_of plan) }
     requires limit { EachIndex starts.now (λ k. slice_index starts.now k ≤ latest_start) }
     ensures { IfOk result (λ rows. rows_of rows.items ≡ rows_from
         (spec.schedule_row (plan_of plan.entry) starts.now) 0 (count_of (plan_of plan.entry))) }
@@ -75,7 +77,7 @@ pub fn schedule_view<'a>(
     starts: &[u64],
     makespan: u64,
 ) -> Result<Table<'a>, AllocError>
-    requires starts { length starts.now ≡ count_of (plan_of plan.entry) }
+    requires starts { length starts.now ≡ count_of (plan_of plan) }
     requires limit { EachIndex starts.now (λ k. slice_index starts.now k ≤ latest_start) }
     ensures value { IfOk result (λ table. table_of table
         ≡ spec.schedule_view_of (plan_of plan.entry) starts.now makespan) }

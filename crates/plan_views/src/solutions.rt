@@ -21,7 +21,7 @@ pub fn best_view<'a>(
     plan: PlanRef<'_>,
     solved: &Solved,
 ) -> Result<Table<'a>, AllocError>
-    requires starts { length solved.now.schedule.starts.items ≡ count_of (plan_of plan.entry) }
+    requires starts { length solved.now.schedule.starts.items ≡ count_of (plan_of plan) }
     requires limit { EachIndex solved.now.schedule.starts.items
         (λ k. slice_index solved.now.schedule.starts.items k ≤ latest_start) }
     ensures value { IfOk result (λ table.
