@@ -1,10 +1,10 @@
 -- The tests of an encoding, and the text of a file in UTF-8 or UTF-16.
-use Rattle.std.proofs.Common.{◌≡◌, ◌∙◌, ℕ, ◌+◌, ◌-◌, ◌*◌, ◌≤◌, Bool, true, false, ◌&&◌, List, [], ◌∷◌, ap, refl, sym, subst, IsUtf8, bytes_eq, encode_utf8_all, arith}
+use Rattle.std.proofs.Common.{◌≡◌, ◌∙◌, ℕ, ◌+◌, ◌-◌, ◌*◌, ◌≤◌, Bool, true, false, ◌&&◌, List, [], ◌∷◌, ap, refl, IsUtf8, bytes_eq, encode_utf8_all, arith}
 use Rattle.std.proofs.lemmas.Bool.{and_left, le-ltb, le-leb}
 use Rattle.std.proofs.lemmas.Str.{IsUtf8-from_is_utf8, is_utf8-from_IsUtf8, encodes-chars}
 use Rattle.std.specs.Str.{all_scalars, chars, chars_after, continuation_len, lead_bits, is_utf8}
 use Rattle.plan_encoding.specs.Encodings.{ReadsUtf16, encoding, chars_in, utf8_of, utf16_file}
-use Rattle.plan_encoding.specs.declared.encoding.Encoding.TheVariants.{Utf8, Utf16Le, Utf16Be}
+use Rattle.plan_encoding.specs.declared.encoding.Encoding.TheVariants.{Utf16Le, Utf16Be}
 use Rattle.plan_encoding.specs.declared.utf16.ByteOrder.{ByteOrder}
 use Rattle.plan_encoding.specs.declared.utf16.ByteOrder.TheVariants.{Little, Big}
 use Rattle.plan_encoding.proofs.RoundTripLemmas.{utf16_text-bytes}

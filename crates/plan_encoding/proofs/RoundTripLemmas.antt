@@ -1,15 +1,15 @@
 -- Characters that are written in UTF-16 are read as themselves.
-use Rattle.std.proofs.Common.{◌≡◌, ◌∙◌, ◌⊎◌, ℕ, ◌+◌, ◌-◌, ◌*◌, ◌/◌, ◌%◌, ◌<◌, ◌≤◌, Bool, true, List, [], ◌∷◌, ◌++◌, map, length, get_or, Some, None, Option, inl, inr, ⊎_elim, refl, sym, ap, ap₂, arith}
+use Rattle.std.proofs.Common.{◌≡◌, ◌∙◌, ◌⊎◌, ℕ, ◌+◌, ◌-◌, ◌*◌, ◌/◌, ◌%◌, ◌<◌, ◌≤◌, true, List, [], ◌∷◌, map, length, Some, inl, inr, ⊎_elim, refl, ap, ap₂, arith}
 use Rattle.std.proofs.Math.Utf8.{scalar_cases}
 use Rattle.std.specs.Str.{all_scalars}
 use Rattle.std.proofs.lemmas.Bool.{and_parts, cases_lt, lt-ltb, le-ltb, le-leb, lt-leb}
-use Rattle.std.proofs.lemmas.List.{append-nil, length-append}
+use Rattle.std.proofs.lemmas.List.{append-nil}
 use Rattle.std.proofs.lemmas.Str.{utf16_chars-nil, utf16_chars_lone, utf16_chars_pair}
 use Rattle.std.specs.Char.Escape.{encode_utf16}
 use Rattle.std.specs.Char.Utf16.{utf16_chars, lone_unit_char}
 use Rattle.std.specs.List.{flat_map}
 use Rattle.std.specs.Option.{unwrap_or}
-use Rattle.plan_encoding.specs.Utf16.{REPLACEMENT, unit_bytes, units_of, utf16_bytes, utf16_text}
+use Rattle.plan_encoding.specs.Utf16.{unit_bytes, units_of, utf16_bytes, utf16_text}
 use Rattle.plan_encoding.specs.declared.utf16.ByteOrder.{ByteOrder}
 use Rattle.plan_encoding.specs.declared.utf16.ByteOrder.TheVariants.{Little, Big}
 

@@ -43,8 +43,8 @@ module _ (order : ByteOrder) where
   utf16_text-odd bytes text odd is =
       rw odd
       (ap (λ t. t ++ encode REPLACEMENT) is
-        ∙ ap (λ t. encode_utf8_all (utf16_lossy_chars (units_of order bytes)) ++ t) (sym (append-nil (encode REPLACEMENT)))
-        ∙ sym (encodes-append (utf16_lossy_chars (units_of order bytes)) (REPLACEMENT ∷ [])))
+      ∙ ap (λ t. encode_utf8_all (utf16_lossy_chars (units_of order bytes)) ++ t) (sym (append-nil (encode REPLACEMENT)))
+      ∙ sym (encodes-append (utf16_lossy_chars (units_of order bytes)) (REPLACEMENT ∷ [])))
 
   -- there is no odd byte
   pub utf16_text-even : (bytes text : List ℕ) → length bytes % 2 ≡ 0 → text ≡ encode_utf8_all (utf16_lossy_chars (units_of order bytes)) →

@@ -8,7 +8,7 @@ use Rattle.plan_encoding.proofs.utf16.decode_utf16.Goals as goal
 pub returns : goal.returns
 returns c =
     let units : string_bytes c.in_ok-text.text ≡ encode_utf8_all (utf16_lossy_chars (units_of c.args.order c.args.bytes.now)) =
-        c.in_ok-text.ensures ∙ ap (λ u. encode_utf8_all (utf16_lossy_chars u)) (c.deref.ensures.value ∙ c.in_ok-units.ensures) in
+    c.in_ok-text.ensures ∙ ap (λ u. encode_utf8_all (utf16_lossy_chars u)) (c.deref.ensures.value ∙ c.in_ok-units.ensures) in
     elim c.if-bytes-eq1.branch [
       | then-bytes-eq1+in_ok-push w ↦
           ap string_bytes w.text-is ∙ w.in_ok-push.ensures.bytes ∙ utf16_text-odd c.args.order c.args.bytes.now (string_bytes c.in_ok-text.text) w.if-bytes-eq1.true units

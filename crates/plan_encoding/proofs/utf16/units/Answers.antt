@@ -1,6 +1,5 @@
-use Rattle.std.proofs.Common.{◌≡◌, ◌∙◌, ◌++◌, ◌∷◌, [], ◌+◌, ◌*◌, ◌<◌, drop, get_or, ap, sym, rules, arith}
+use Rattle.std.proofs.Common.{◌∙◌, ◌++◌, ◌*◌, drop, ap, sym, arith}
 use Rattle.std.proofs.lemmas.List.{append-nil, length-drop}
-use Rattle.plan_encoding.specs.Utf16.{unit_of, units_of}
 use Rattle.plan_encoding.proofs.Utf16Lemmas.{units_of-few, units_of-step}
 use Rattle.plan_encoding.proofs.utf16.units.Goals as goal
 
