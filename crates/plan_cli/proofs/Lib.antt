@@ -21,3 +21,4 @@ pub mod CheckLemmas
 pub mod ViewLemmas
 pub mod SearchLemmas
 pub mod InfeasibleLemmas
+pub mod ListLemmas

@@ -2,6 +2,7 @@ pub mod Capacities
 pub mod Run
 pub mod Plans
 pub mod Documents
+pub mod Lists
 pub mod ScheduleRun
 pub mod ShopRun
 pub mod Tasks

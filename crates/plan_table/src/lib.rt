@@ -10,6 +10,7 @@ mod fault;
 mod header;
 mod jobs;
 mod jobshop;
+mod kinds;
 mod laws;
 mod listing;
 mod names;
@@ -27,7 +28,8 @@ mod templates;
 
 pub use fault::{ReadError, TableCode, TableFault, TextFault};
 pub use jobshop::shop_text;
-pub use laws::names_change_nothing;
+pub use kinds::{ListKind, list_kind};
+pub use laws::{names_change_nothing, plan_files_are_no_lists};
 pub use names::{NameLine, activity_names, first_name, resource_names};
 pub use overrides::Override;
 pub use reading::{read_table, read_table_with};
