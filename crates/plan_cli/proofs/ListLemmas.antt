@@ -129,12 +129,20 @@ list_front kinds.Orders = no_shop_import_front
 as_front : (of : Subject) (Holds : Option ListKind → Subject → List ℕ → Type 0) (file : List ℕ)
     → ((s : Subject) → Holds None s (take (longest_text + 1) file) → Holds None s file)
     → ReadsAs of (take (longest_text + 1) file) Holds → ReadsAs of file Holds
-as_front of Holds file whole (None, s, text, is, holds) =
-    (None, s, file, record { kind_is = kind_front file None is.kind_is; read = (is.read.0, refl) },
-    whole s (subst (Holds None s) is.read.1 holds))
-as_front of Holds file whole (Some kind, s, text, is, holds) =
-    (Some kind, s, text,
-    record { kind_is = kind_front file (Some kind) is.kind_is; read = (made_front kind file text is.read.0, is.read.1) }, holds)
+as_front of Holds file whole (None, s, text, is, holds) = (
+  None,
+  s,
+  file,
+  record { kind_is = kind_front file None is.kind_is; read = (is.read.0, refl) },
+  whole s (subst (Holds None s) is.read.1 holds),
+)
+as_front of Holds file whole (Some kind, s, text, is, holds) = (
+  Some kind,
+  s,
+  text,
+  record { kind_is = kind_front file (Some kind) is.kind_is; read = (made_front kind file text is.read.0, is.read.1) },
+  holds,
+)
 
 reading_front : (of : Subject) → HoldsByFront (RefusesReading of)
 reading_front of file line (kind, is, inl tells) = (kind, kind_front file (Some kind) is, inl (list_front kind file line tells))

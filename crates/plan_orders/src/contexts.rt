@@ -100,7 +100,7 @@ fn print_context<'a>(print: Print<'a>) -> Context<'a> {
             context.starts = Some(name);
             context.unread = None;
         }
-        NamedOrigin::Solved { .. } => {}
+        NamedOrigin::Default | NamedOrigin::Solved { .. } => {}
     }
     if let Some(name) = print.holidays {
         context.holidays = Some(name);
@@ -168,7 +168,7 @@ impl<'a> FileOrder<'a> {
             FileOrder::Texts { task, .. } => replaceable_rule(task),
             FileOrder::Print(print, _) => match print.origin {
                 NamedOrigin::Rule(rule) => Some(rule),
-                NamedOrigin::Starts(_) | NamedOrigin::Solved { .. } => None,
+                NamedOrigin::Default | NamedOrigin::Starts(_) | NamedOrigin::Solved { .. } => None,
             },
             _ => None,
         }

@@ -1,14 +1,19 @@
 -- The header of a text is in the first record with content.
-use Rattle.std.proofs.Common.{◌≡◌, ◌⊎◌, inl, inr, ℕ, ◌+◌, ◌≤◌, ◌<◌, Bool, true, false, List, [], ◌∷◌, ◌++◌, Option, Some, None, Ok, Err, length, map, fold, take, drop, get_or, refl, sym, ap, ◌∙◌, subst, append-nil, append_assoc, take-drop, arith}
-use Rattle.std.specs.Prelude.{not, Contains, codes}
+use Rattle.std.proofs.Common.{◌≡◌, ◌⊎◌, inl, inr, ℕ, ◌+◌, ◌≤◌, ◌<◌, Bool, true, false, List, [], ◌∷◌, ◌++◌, Option, Some, None, Ok, Err, length, map, fold, take, drop, get_or, refl, sym, ap, ◌∙◌, subst, append-nil, append_assoc, take-drop, length-append, arith}
+use Rattle.std.specs.Prelude.{not, if◌then◌else◌, Contains}
+use Rattle.std.proofs.Math.ListN.{get_or-map as mapped}
 use Rattle.std.proofs.Math.Seq.{get_or-append_seam}
-use Rattle.std.proofs.lemmas.List.{length-map, get_or-map}
+use Rattle.std.proofs.lemmas.List.{length-map}
 use Rattle.std.proofs.lemmas.List.Sums.{fold-append}
-use Rattle.csv.specs.Machine.{step}
+use Rattle.csv.specs.Machine.{step, ends_at_end}
 use Rattle.csv.specs.declared.parser.State as machine
 use Rattle.csv.specs.declared.parser.Action as actions
 use Rattle.csv.specs.declared.parser.Action.TheVariants as act
-use Rattle.plan_psplib.specs.Project.{Project, SaysProject}
+use Rattle.plan_psplib.specs.Faults.{IsWantOfMemory}
+use Rattle.plan_psplib.specs.Project.{Project, SaysProject, IsFirstFailing}
+use Rattle.plan_psplib.specs.declared.text.fault.FileCode.TheVariants as code
+use Rattle.plan_psplib.specs.declared.text.fault.FileFault.{FileFault}
+use Rattle.plan_psplib.proofs.OnceLemmas.{said_fails_none}
 use Rattle.plan_orlib.specs.Instances.{names_of}
 use Rattle.plan_orlib.specs.Says.{Says}
 use Rattle.plan_orlib.specs.Shop.{Shop}
@@ -17,18 +22,29 @@ use Rattle.plan_table.specs.declared.kinds.ListKind.{ListKind}
 use Rattle.plan_table.specs.declared.records.Row as declared
 use Rattle.plan_table.specs.Csv.{Row, Machine, row_of, config, acted, moved, fed, scanned, fresh, rows_at_end}
 use Rattle.plan_table.specs.Entries.{filled_from, is_blank_row}
-use Rattle.plan_table.specs.Kinds as spec
-use Rattle.plan_table.specs.Kinds.{has_content, first_cells, cells_of_first, IsKind, ProjectsAreNoLists, ShopsAreNoLists, KindsAreSingle}
+use Rattle.plan_table.specs.Kinds.{has_content, first_cells, cells_of_first, IsKind, IsProjectFile, ProjectsAreNoLists, ShopsAreNoLists, KindsAreSingle}
 
 -- ---- the first record with content
+
+-- a list that has an item
+abbrev IsCons : List Row → Type 0
+IsCons [] = ⊥
+IsCons (x ∷ xs) = Unit {0}
+
+abbrev IsYes : Bool → Type 0
+IsYes true = Unit {0}
+IsYes false = ⊥
+
+behind_if : (b : Bool) (x : Row) (xs ys : List Row) → (if b then filled_from xs else x ∷ xs) ≡ []
+    → (filled_from xs ≡ [] → filled_from (xs ++ ys) ≡ filled_from ys)
+    → (if b then filled_from (xs ++ ys) else x ∷ (xs ++ ys)) ≡ filled_from ys
+behind_if true x xs ys none later = later none
+behind_if false x xs ys none later = absurd (subst IsCons none tt)
 
 -- records that are behind others in which nothing stands
 pub filled_behind : (xs ys : List Row) → filled_from xs ≡ [] → filled_from (xs ++ ys) ≡ filled_from ys
 filled_behind [] ys none = refl
-filled_behind (x ∷ xs) ys none = by_blank (is_blank_row x.cells) refl
-  where
-    by_blank : (b : Bool) → is_blank_row x.cells ≡ b → filled_from ((x ∷ xs) ++ ys) ≡ filled_from ys
-    by_blank b is = ?
+filled_behind (x ∷ xs) ys none = behind_if (is_blank_row x.cells) x xs ys none (λ n. filled_behind xs ys n)
 
 -- the first record with content, if there is one
 pub record First (xs : List Row) : Type 0 where
@@ -38,30 +54,54 @@ pub record First (xs : List Row) : Type 0 where
   pub more : (ys : List Row) → filled_from (xs ++ ys) ≡ row ∷ (rest ++ ys)
   pub content : is_blank_row row.cells ≡ false
 
+first_if : (b : Bool) (x : Row) (xs : List Row) → is_blank_row x.cells ≡ b → (filled_from xs ≡ []) ⊎ First xs
+    → (filled_from (x ∷ xs) ≡ []) ⊎ First (x ∷ xs)
+first_if false x xs is later = inr (record {
+  row = x;
+  rest = xs;
+  is = subst (λ (c : Bool). (if c then filled_from xs else x ∷ xs) ≡ x ∷ xs) (sym is) refl;
+  more = λ ys. subst (λ (c : Bool). (if c then filled_from (xs ++ ys) else x ∷ (xs ++ ys)) ≡ x ∷ (xs ++ ys)) (sym is) refl;
+  content = is;
+})
+first_if true x xs is (inl none) = inl (subst (λ (c : Bool). (if c then filled_from xs else x ∷ xs) ≡ []) (sym is) none)
+first_if true x xs is (inr first) = inr (record {
+  row = first.row;
+  rest = first.rest;
+  is = subst (λ (c : Bool). (if c then filled_from xs else x ∷ xs) ≡ first.row ∷ first.rest) (sym is) first.is;
+  more = λ ys. subst (λ (c : Bool). (if c then filled_from (xs ++ ys) else x ∷ (xs ++ ys)) ≡ first.row ∷ (first.rest ++ ys)) (sym is) (first.more ys);
+  content = first.content;
+})
+
 -- records without content, or a first one with content
 pub filled : (xs : List Row) → (filled_from xs ≡ []) ⊎ First xs
 filled [] = inl refl
-filled (x ∷ xs) = by_blank (is_blank_row x.cells) refl (filled xs)
-  where
-    by_blank : (b : Bool) → is_blank_row x.cells ≡ b → (filled_from xs ≡ []) ⊎ First xs → (filled_from (x ∷ xs) ≡ []) ⊎ First (x ∷ xs)
-    by_blank false is later = ?
-    by_blank true is (inl none) = ?
-    by_blank true is (inr first) = ?
+filled (x ∷ xs) = first_if (is_blank_row x.cells) x xs refl (filled xs)
 
--- no content in records none of which is filled
+-- whether records have content, by those from the first one with content on
+abbrev content_from : List Row → Bool
+content_from rows = not (is_blank_row (cells_of_first rows))
+
+-- records of which none has content
+none_has : (xs : List Row) → filled_from xs ≡ [] → has_content xs ≡ false
+none_has xs none = ap content_from none
+
+first_has : (xs : List Row) (first : First xs) → has_content xs ≡ true
+first_has xs first = ap content_from first.is ∙ ap not first.content
+
+-- without content no record is filled
 pub no_content : (xs : List Row) → has_content xs ≡ false → filled_from xs ≡ []
 no_content xs has = by_first (filled xs)
   where
     by_first : (filled_from xs ≡ []) ⊎ First xs → filled_from xs ≡ []
     by_first (inl none) = none
-    by_first (inr first) = ?
+    by_first (inr first) = absurd (subst IsYes (sym (first_has xs first) ∙ has) tt)
 
 -- records behind a first one with content change nothing
 pub cells_before : (xs ys : List Row) → has_content xs ≡ true → first_cells (xs ++ ys) ≡ first_cells xs
 cells_before xs ys has = by_first (filled xs)
   where
     by_first : (filled_from xs ≡ []) ⊎ First xs → first_cells (xs ++ ys) ≡ first_cells xs
-    by_first (inl none) = ?
+    by_first (inl none) = absurd (subst IsYes (sym has ∙ none_has xs none) tt)
     by_first (inr first) = ap cells_of_first (first.more ys) ∙ sym (ap cells_of_first first.is)
 
 -- ---- the machine
@@ -91,9 +131,44 @@ scan_grows d (byte ∷ text) m =
     let later = scan_grows d text (fed d m byte) in
     (first.0 ++ later.0, later.1 ∙ ap (λ (rows : List Row). rows ++ later.0) first.1 ∙ append_assoc m.rows first.0 later.0)
 
+last_if : (b : Bool) (rows : List Row) (row : Row) → has_content rows ≡ true
+    → first_cells (if b then rows ++ row ∷ [] else rows) ≡ first_cells rows
+last_if true rows row has = cells_before rows (row ∷ []) has
+last_if false rows row has = refl
+
 -- the end of a text changes nothing of the first record with content
 at_end : (m : Machine) → has_content m.rows ≡ true → first_cells (rows_at_end m) ≡ first_cells m.rows
-at_end m has = ?
+at_end m has = last_if (ends_at_end m.state) m.rows (record { line = m.first; cells = m.cells ++ m.cell ∷ [] }) has
+
+single_if : (b : Bool) (row : Row) → is_blank_row row.cells ≡ b → has_content (row ∷ []) ≡ not b
+single_if true row is = subst (λ (c : Bool). content_from (if c then [] else row ∷ []) ≡ false) (sym is) refl
+single_if false row is = subst (λ (c : Bool). content_from (if c then [] else row ∷ []) ≡ true) (sym is) (ap not is)
+
+-- a new record has content if records do of which the others have none
+pub content_found : (before : List Row) (after : List declared.Row) (row : declared.Row) → Grows before (map row_of after)
+    → filled_from before ≡ [] → length before < length after → row ≡ get_or after (length before) row
+    → not (is_blank_row (row_of row).cells) ≡ has_content (map row_of after)
+content_found before after row (inl same) none more is =
+    let n = length-map after row_of in
+    let e = ap length same in
+    absurd (omega (arith, n, e, more))
+content_found before after row (inr (new, grown)) none more is =
+    let at : get_or (map row_of after) (length before) (row_of row) ≡ row_of row =
+    mapped row_of after (length before) row ∙ ap row_of (sym is) in
+    let seam : get_or (before ++ new ∷ []) (length before) (row_of row) ≡ new = get_or-append_seam before new [] (row_of row) in
+    let same : row_of row ≡ new = sym at ∙ ap (λ (rows : List Row). get_or rows (length before) (row_of row)) grown ∙ seam in
+    ap (λ (r : Row). not (is_blank_row r.cells)) same ∙ sym (single_if (is_blank_row new.cells) new refl)
+    ∙ sym (ap content_from (filled_behind before (new ∷ []) none)) ∙ sym (ap has_content grown)
+
+-- without a new record there is no content
+pub content_none : (before : List Row) (after : List declared.Row) → Grows before (map row_of after) → filled_from before ≡ []
+    → length after ≤ length before → false ≡ has_content (map row_of after)
+content_none before after (inl same) none few = sym (ap has_content same ∙ none_has before none)
+content_none before after (inr (new, grown)) none few =
+    let n = length-map after row_of in
+    let m = length-append before (new ∷ []) in
+    let e = ap length grown in
+    absurd (omega (arith, n, m, e, few))
 
 -- the first record with content in a text is found in the part that has been read
 pub found_early : (d : ℕ) (text : List ℕ) (k : ℕ) (m : Machine) → m ≡ scanned d (take k text) → has_content m.rows ≡ true
@@ -112,8 +187,27 @@ found_early d text k m is has =
 pub projects_are_no_lists : ProjectsAreNoLists
 projects_are_no_lists text p kind says is = is.1 (inl (p, says))
 
+-- a list that contains something has an item
+some_in : {X : Type 0} (xs : List X) (x : X) → Contains xs x → 1 ≤ length xs
+some_in [] x in_it = ?
+some_in (y ∷ ys) x in_it = omega arith
+
 pub shops_are_no_lists : ShopsAreNoLists
-shops_are_no_lists text name shop kind says is = ?
+shops_are_no_lists text name shop kind says is =
+    is.1 (inr (says.readable, some_in (names_of text) name (stream_listed name text says.stream.0 says.stream.1)))
 
 pub kinds_are_single : KindsAreSingle
-kinds_are_single text kind other a b = ?
+kinds_are_single text None None a b = refl
+kinds_are_single text (Some kind) (Some other) a b = sym a.0 ∙ b.0
+kinds_are_single text None (Some other) (inl none) b = sym none ∙ b.0
+kinds_are_single text None (Some other) (inr plan) b = absurd (b.1 plan)
+kinds_are_single text (Some kind) None a (inl none) = sym a.0 ∙ none
+kinds_are_single text (Some kind) None a (inr plan) = absurd (a.1 plan)
+
+-- ---- errors
+
+-- an error that isn't want of memory shows that a text is no project file
+pub no_project : (text : List ℕ) (fault : FileFault) → IsWantOfMemory fault ⊎ IsFirstFailing text fault
+    → (fault.code ≡ code.Memory → ⊥) → IsProjectFile text → ⊥
+no_project text fault (inl memory) no (p, says) = no memory.0
+no_project text fault (inr first) no (p, says) = said_fails_none text p fault says first

@@ -1,6 +1,8 @@
 //! Lists that are recognised by their headers, without the option of a command.
 
-ghost use Rattle.std.specs.Prelude.{◌≡◌, map, IfOk};
+ghost use Rattle.std.specs.Prelude.{◌≡◌, ◌⊎◌, ◌≤◌, length, map, take, IfOk};
+ghost use Rattle.plan_psplib.specs.Faults.{IsWantOfMemory};
+ghost use Rattle.plan_psplib.specs.Project.{IsFirstFailing};
 ghost use Rattle.plan_table.specs.Kinds as spec;
 
 use crate::cells::same;
@@ -8,7 +10,7 @@ use crate::entries::filled_from;
 use crate::header::key_of;
 use crate::records::read_header_rows;
 use plan_orlib::names;
-use plan_psplib::{FileCode, LONGEST_TEXT, read_sm};
+use plan_psplib::{FileCode, FileFault, LONGEST_TEXT, read_sm};
 use std::alloc::{AllocError, Global};
 
 /// The kind of a list.
@@ -63,25 +65,37 @@ fn kind_of_header(alloc: Global, cells: &[Vec<u8>]) -> Result<Option<ListKind>, 
     Ok(None)
 }
 
-// The part of a text that a reader takes.
-fn front(text: &[u8]) -> &[u8]
-    ensures { result.now ≡ spec.front text.now }
+// The first bytes of a text, at most so many.
+fn first_bytes(text: &[u8], most: usize) -> &[u8]
+    ensures bytes { result.now ≡ take most text.now }
+    ensures few { length result.now ≤ most }
 {
-    if text.len() > LONGEST_TEXT {
-        &text[..LONGEST_TEXT]
-    } else {
-        text
+    if text.len() <= most {
+        return text;
     }
+    &text[..most]
 }
 
 // The kind of list by the header of a text.
 fn header_kind(alloc: Global, text: &[u8]) -> Result<Option<ListKind>, AllocError>
     ensures { IfOk result (λ kind. kind ≡ spec.header_kind text.now) }
 {
-    let rows = read_header_rows(alloc, front(text))?;
+    let rows = read_header_rows(alloc, first_bytes(text, LONGEST_TEXT))?;
     match filled_from(&rows) {
         [first, ..] => kind_of_header(alloc, &first.cells),
         [] => Ok(None),
+    }
+}
+
+// Whether a text with this error is a project file.
+fn is_refused_project(text: &[u8], fault: &FileFault) -> Result<bool, AllocError>
+    requires { IsWantOfMemory fault.now ⊎ IsFirstFailing text.now fault.now }
+    ensures { IfOk result (λ is. spec.Decides is (spec.IsProjectFile text.now)) }
+{
+    let _text = text;
+    match fault.code {
+        FileCode::Memory => Err(AllocError),
+        _ => Ok(false),
     }
 }
 
@@ -91,10 +105,7 @@ fn is_project_file(alloc: Global, text: &[u8]) -> Result<bool, AllocError>
 {
     match read_sm(alloc, text) {
         Ok(_) => Ok(true),
-        Err(fault) => match fault.code {
-            FileCode::Memory => Err(AllocError),
-            _ => Ok(false),
-        },
+        Err(fault) => is_refused_project(text, &fault),
     }
 }
 
