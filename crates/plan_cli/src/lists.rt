@@ -17,7 +17,7 @@ use std::alloc::Global;
 /// What a command reads: the project or the job shop in its file, or that of the file which
 /// `plan import` makes of a list.
 #[derive(Drop)]
-pub struct Readable<'a> {
+pub struct Reading<'a> {
     /// The kind of the list, if the file is one.
     pub kind: Option<ListKind>,
     /// The project or the job shop.
@@ -26,7 +26,7 @@ pub struct Readable<'a> {
     pub made: Option<String>,
 }
 
-impl Readable<'_> {
+impl Reading<'_> {
     /// Returns the text of the project file or the job shop file.
     pub fn text<'b>(&'b self, file: &'b [u8]) -> &'b [u8]
         ensures { result.now ≡ spec.text_of self.now.made file.now }
@@ -112,7 +112,7 @@ fn readable_list<'a>(
     kind: ListKind,
     subject: Subject<'a>,
     file: &[u8],
-) -> Result<Readable<'a>, CliFault>
+) -> Result<Reading<'a>, CliFault>
     requires { IsKind file.now (Some kind) }
     ensures read { IfOk result (λ read. spec.IsReadAs subject.entry file.now read.kind
         read.subject (spec.text_of read.made file.now)) }
@@ -120,7 +120,7 @@ fn readable_list<'a>(
 {
     let made = made_text(alloc, kind, file)?;
     let subject = subject_on(alloc, kind, subject)?;
-    Ok(Readable {
+    Ok(Reading {
         kind: Some(kind),
         subject,
         made: Some(made),
@@ -134,7 +134,7 @@ pub fn readable<'a>(
     alloc: Global,
     subject: Subject<'a>,
     file: &[u8],
-) -> Result<Readable<'a>, CliFault>
+) -> Result<Reading<'a>, CliFault>
     ensures read { IfOk result (λ read. spec.IsReadAs subject.entry file.now read.kind
         read.subject (spec.text_of read.made file.now)) }
     ensures refused { IfErr result (Refuses (spec.RefusesReading subject.entry file.now)) }
@@ -142,7 +142,7 @@ pub fn readable<'a>(
     let kind = list_kind(alloc, file)?;
     match kind {
         Some(kind) => readable_list(alloc, kind, subject, file),
-        None => Ok(Readable {
+        None => Ok(Reading {
             kind: None,
             subject,
             made: None,

@@ -189,8 +189,7 @@ projects_are_no_lists text p kind says is = is.1 (inl (p, says))
 
 -- a list that contains something has an item
 some_in : {X : Type 0} (xs : List X) (x : X) → Contains xs x → 1 ≤ length xs
-some_in [] x in_it = ?
-some_in (y ∷ ys) x in_it = omega arith
+some_in xs x (k, below, is) = omega (arith, below)
 
 pub shops_are_no_lists : ShopsAreNoLists
 shops_are_no_lists text name shop kind says is =
