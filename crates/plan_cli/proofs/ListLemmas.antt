@@ -150,13 +150,13 @@ reading_front of file line (kind, is, inr (text, made, tells)) =
     (kind, kind_front file (Some kind) is, inr (text, made_front kind file text made, tells))
 
 shows_front : (of : Option Subject) (t : Task) (r : Rows) → HoldsByFront (ShowsOn of r t)
-shows_front None t r = shown_front t r
+shows_front None t r file text is = shown_front t r file text is
 shows_front (Some of) t r file text is =
     as_front of (λ kind s read. ShowsTask (rows_on kind r) (with_subject t s) read text) file
     (λ s shown. shown_front (with_subject t s) r file text shown) is
 
 refuses_front : (of : Option Subject) (t : Task) → HoldsByFront (RefusesOn of t)
-refuses_front None t = task_line_front t
+refuses_front None t file line told = task_line_front t file line told
 refuses_front (Some of) t file line (inl tells) = inl (reading_front of file line tells)
 refuses_front (Some of) t file line (inr is) =
     inr (as_front of (λ kind s read. IsLineOf (with_subject t s) read line) file

@@ -131,21 +131,28 @@ abbrev pub rows_on : Option ListKind → Rows → Rows
 rows_on None r = r
 rows_on (Some kind) r = list_rows r
 
--- the texts that a task writes for a file, or for the list that the file is
+-- the texts that a task writes for what it reads in a file
+abbrev pub ShowsListed : Subject → Rows → Task → List ℕ → List ℕ → Type 0
+ShowsListed of r t file text = ReadsAs of file (λ kind s read.
+    ShowsTask (rows_on kind r) (with_subject t s) read text)
+
+-- the same, if the task reads lists too; else the texts for the file
 abbrev pub ShowsOn : Option Subject → Rows → Task → List ℕ → List ℕ → Type 0
 ShowsOn None r t = ShowsTask r t
-ShowsOn (Some of) r t file text = ReadsAs of file (λ kind s read.
-    ShowsTask (rows_on kind r) (with_subject t s) read text)
+ShowsOn (Some of) r t = ShowsListed of r t
 
 -- the texts that a task writes for the bytes of a file
 abbrev pub ShowsRead : Rows → Task → List ℕ → List ℕ → Type 0
 ShowsRead r t = ShowsOn (list_subject t) r t
 
--- the lines with which a task refuses a file, or the list that the file is
+-- the lines with which a task refuses what it reads in a file
+abbrev pub RefusesListed : Subject → Task → List ℕ → List ℕ → Type 0
+RefusesListed of t file = RefusesAs of file (λ s read. IsLineOf (with_subject t s) read)
+
+-- the same, if the task reads lists too; else the lines for the file
 abbrev pub RefusesOn : Option Subject → Task → List ℕ → List ℕ → Type 0
 RefusesOn None t = IsLineOf t
-RefusesOn (Some of) t file line =
-    RefusesAs of file (λ s read. IsLineOf (with_subject t s) read) line
+RefusesOn (Some of) t = RefusesListed of t
 
 -- the lines with which a task refuses the bytes of a file
 abbrev pub RefusesRead : Task → List ℕ → List ℕ → Type 0
