@@ -1,10 +1,9 @@
 -- The header of a text is in the first record with content.
-use Rattle.std.proofs.Common.{◌≡◌, ◌⊎◌, inl, inr, ℕ, ◌+◌, ◌≤◌, ◌<◌, Bool, true, false, List, [], ◌∷◌, ◌++◌, Option, Some, None, Ok, Err, length, map, fold, take, drop, get_or, refl, sym, ap, ◌∙◌, subst, append-nil, append_assoc, take-drop, length-append, arith}
-use Rattle.std.specs.Prelude.{not, if◌then◌else◌, Contains}
-use Rattle.std.proofs.Math.ListN.{get_or-map as mapped}
-use Rattle.std.proofs.Math.Seq.{get_or-append_seam}
-use Rattle.std.proofs.lemmas.List.{length-map}
-use Rattle.std.proofs.lemmas.List.Sums.{fold-append}
+use Rattle.std.proofs.Common.{◌≡◌, ◌⊎◌, inl, inr, ℕ, zero, suc, ◌+◌, ◌≤◌, ◌<◌, Bool, true, false, List, [], ◌∷◌, ◌++◌, Option, Some, None, Ok, Err, length, map, fold, take, drop, get_or, refl, sym, ap, ◌∙◌, subst, append-nil, append_assoc, take-drop, arith}
+use Rattle.std.specs.Prelude.{not, if◌then◌else◌, slice_get, Contains}
+use Rattle.std.specs.Option.{option_map}
+use Rattle.std.proofs.lemmas.Option.{slice_get-map}
+use Rattle.std.proofs.lemmas.List.Sums.{fold-append, fold_more}
 use Rattle.csv.specs.Machine.{step, ends_at_end}
 use Rattle.csv.specs.declared.parser.State as machine
 use Rattle.csv.specs.declared.parser.Action as actions
@@ -22,7 +21,7 @@ use Rattle.plan_table.specs.declared.kinds.ListKind.{ListKind}
 use Rattle.plan_table.specs.declared.records.Row as declared
 use Rattle.plan_table.specs.Csv.{Row, Machine, row_of, config, acted, moved, fed, scanned, fresh, rows_at_end}
 use Rattle.plan_table.specs.Entries.{filled_from, is_blank_row}
-use Rattle.plan_table.specs.Kinds.{has_content, first_cells, cells_of_first, IsKind, IsProjectFile, ProjectsAreNoLists, ShopsAreNoLists, KindsAreSingle}
+use Rattle.plan_table.specs.Kinds.{has_content, has_content_at, is_filled, first_cells, cells_of_first, IsKind, IsProjectFile, ProjectsAreNoLists, ShopsAreNoLists, KindsAreSingle}
 
 -- ---- the first record with content
 
@@ -144,31 +143,42 @@ single_if : (b : Bool) (row : Row) → is_blank_row row.cells ≡ b → has_cont
 single_if true row is = subst (λ (c : Bool). content_from (if c then [] else row ∷ []) ≡ false) (sym is) refl
 single_if false row is = subst (λ (c : Bool). content_from (if c then [] else row ∷ []) ≡ true) (sym is) (ap not is)
 
--- a new record has content if records do of which the others have none
-pub content_found : (before : List Row) (after : List declared.Row) (row : declared.Row) → Grows before (map row_of after)
-    → filled_from before ≡ [] → length before < length after → row ≡ get_or after (length before) row
-    → not (is_blank_row (row_of row).cells) ≡ has_content (map row_of after)
-content_found before after row (inl same) none more is =
-    let n = length-map after row_of in
-    let e = ap length same in
-    absurd (omega (arith, n, e, more))
-content_found before after row (inr (new, grown)) none more is =
-    let at : get_or (map row_of after) (length before) (row_of row) ≡ row_of row =
-    mapped row_of after (length before) row ∙ ap row_of (sym is) in
-    let seam : get_or (before ++ new ∷ []) (length before) (row_of row) ≡ new = get_or-append_seam before new [] (row_of row) in
-    let same : row_of row ≡ new = sym at ∙ ap (λ (rows : List Row). get_or rows (length before) (row_of row)) grown ∙ seam in
-    ap (λ (r : Row). not (is_blank_row r.cells)) same ∙ sym (single_if (is_blank_row new.cells) new refl)
-    ∙ sym (ap content_from (filled_behind before (new ∷ []) none)) ∙ sym (ap has_content grown)
+slice_seam : (xs : List Row) (row : Row) → slice_get (xs ++ row ∷ []) (length xs) ≡ Some row
+slice_seam [] row = refl
+slice_seam (x ∷ xs) row = slice_seam xs row
 
--- without a new record there is no content
-pub content_none : (before : List Row) (after : List declared.Row) → Grows before (map row_of after) → filled_from before ≡ []
-    → length after ≤ length before → false ≡ has_content (map row_of after)
-content_none before after (inl same) none few = sym (ap has_content same ∙ none_has before none)
-content_none before after (inr (new, grown)) none few =
-    let n = length-map after row_of in
-    let m = length-append before (new ∷ []) in
-    let e = ap length grown in
-    absurd (omega (arith, n, m, e, few))
+slice_end : (xs : List Row) → slice_get xs (length xs) ≡ None
+slice_end [] = refl
+slice_end (x ∷ xs) = slice_end xs
+
+-- a new record has content if records do of which the others have none
+pub content_new : (before after : List Row) (n : ℕ) → Grows before after → filled_from before ≡ [] → n ≡ length before
+    → has_content_at n after ≡ has_content after
+content_new before after n (inl same) none count =
+    ap (λ (k : ℕ). has_content_at k after) count ∙ ap (has_content_at (length before)) same ∙ ap is_filled (slice_end before)
+    ∙ sym (none_has before none) ∙ sym (ap has_content same)
+content_new before after n (inr (new, grown)) none count =
+    ap (λ (k : ℕ). has_content_at k after) count ∙ ap (has_content_at (length before)) grown ∙ ap is_filled (slice_seam before new)
+    ∙ sym (single_if (is_blank_row new.cells) new refl) ∙ sym (ap content_from (filled_behind before (new ∷ []) none)) ∙ sym (ap has_content grown)
+
+-- the record at a place
+pub record_there : (rows : List declared.Row) (k : ℕ) (row : declared.Row) → k < length rows → row ≡ get_or rows k row
+    → not (is_blank_row (row_of row).cells) ≡ has_content_at k (map row_of rows)
+record_there rows k row within is = sym (ap is_filled (slice_get-map row_of rows k ∙ ap (option_map row_of) (there rows k row within is)))
+  where
+    there : (rows : List declared.Row) (k : ℕ) (row : declared.Row) → k < length rows → row ≡ get_or rows k row → slice_get rows k ≡ Some row
+    there [] k row within is = absurd (omega (arith, within))
+    there (x ∷ xs) zero row within is = ap Some (sym is)
+    there (x ∷ xs) (suc k) row within is = there xs k row (omega (arith, within)) is
+
+-- no record behind the last one
+pub record_beyond : (rows : List declared.Row) (k : ℕ) → length rows ≤ k → false ≡ has_content_at k (map row_of rows)
+record_beyond rows k few = sym (ap is_filled (slice_get-map row_of rows k ∙ ap (option_map row_of) (beyond rows k few)))
+  where
+    beyond : (rows : List declared.Row) (k : ℕ) → length rows ≤ k → slice_get rows k ≡ None
+    beyond [] k few = refl
+    beyond (x ∷ xs) zero few = absurd (omega (arith, few))
+    beyond (x ∷ xs) (suc k) few = beyond xs k (omega (arith, few))
 
 -- the first record with content in a text is found in the part that has been read
 pub found_early : (d : ℕ) (text : List ℕ) (k : ℕ) (m : Machine) → m ≡ scanned d (take k text) → has_content m.rows ≡ true
@@ -181,6 +191,18 @@ found_early d text k m is has =
     let cells : first_cells n.rows ≡ first_cells m.rows = ap first_cells rows.1 ∙ cells_before m.rows rows.0 has in
     let later : has_content n.rows ≡ true = ap (λ (cells : List (List ℕ)). not (is_blank_row cells)) cells ∙ has in
     at_end m has ∙ sym cells ∙ sym (at_end n later) ∙ ap (λ (n : Machine). first_cells (rows_at_end n)) (sym whole)
+
+-- the machine after one more byte
+pub scanned_more : (d : ℕ) (text : List ℕ) (k : ℕ) (old m : Machine) (byte : ℕ) → k < length text → byte ≡ get_or text k byte
+    → old ≡ scanned d (take k text) → m ≡ fed d old byte → m ≡ scanned d (take (k + 1) text)
+scanned_more d text k old m byte within is before fed_by =
+    fed_by ∙ ap (λ (n : Machine). fed d n byte) before ∙ ap (fed d (scanned d (take k text))) is ∙ sym (fold_more (fed d) fresh text k byte within)
+
+-- the first record with content is found by one more byte
+pub found_now : (d : ℕ) (text : List ℕ) (k : ℕ) (old m : Machine) (byte : ℕ) → k < length text → byte ≡ get_or text k byte
+    → old ≡ scanned d (take k text) → m ≡ fed d old byte → has_content m.rows ≡ true
+    → first_cells (rows_at_end m) ≡ first_cells (rows_at_end (scanned d text))
+found_now d text k old m byte within is before fed_by has = found_early d text (k + 1) m (scanned_more d text k old m byte within is before fed_by) has
 
 -- ---- laws
 

@@ -1,5 +1,5 @@
 -- The kind of list that a text is, by its header.
-use Rattle.std.specs.Prelude.{◌≡◌, ◌⊎◌, ◌≤◌, ℕ, Bool, true, false, if◌then◌else◌, List, [], ◌∷◌, Option, Some, None, Ok, codes, length, not, take}
+use Rattle.std.specs.Prelude.{◌≡◌, ◌⊎◌, ◌≤◌, ℕ, Bool, true, false, if◌then◌else◌, List, [], ◌∷◌, Option, Some, None, Ok, codes, length, not, slice_get, take}
 use Rattle.std.specs.List.{list_any}
 use Rattle.plan_psplib.specs.Plain.{longest_text, plain}
 use Rattle.plan_psplib.specs.Project.{Project, SaysProject}
@@ -25,6 +25,15 @@ first_cells rows = cells_of_first (filled_from rows)
 -- a record in which something stands is among some
 abbrev pub has_content : List Row → Bool
 has_content rows = not (is_blank_row (first_cells rows))
+
+-- a record in which something stands, if there is one
+abbrev pub is_filled : Option Row → Bool
+is_filled None = false
+is_filled (Some row) = not (is_blank_row row.cells)
+
+-- a record in which something stands is behind so many others
+abbrev pub has_content_at : ℕ → List Row → Bool
+has_content_at place rows = is_filled (slice_get rows place)
 
 -- the header of a text: the first record in which something stands
 abbrev pub header_cells : List ℕ → List (List ℕ)

@@ -139,6 +139,13 @@ fn scanned(alloc: Global, delimiter: u8, text: &[u8]) -> Result<Machine, AllocEr
     Ok(machine)
 }
 
+// Whether there is a record behind so many others, and something stands in it.
+fn has_content_at(rows: &[Row], place: usize) -> bool
+    ensures { result ≡ kinds.has_content_at place (map spec.row_of rows.now) }
+{
+    rows.len() > place && !is_blank_row(&rows[place].cells)
+}
+
 impl Machine {
     // Takes a byte. Returns whether a record with content ends with it. There is none before.
     fn feed_to_content(
@@ -157,7 +164,7 @@ impl Machine {
     {
         let before = self.rows.len();
         self.feed(alloc, delimiter, byte)?;
-        Ok(self.rows.len() > before && !is_blank_row(&self.rows[before].cells))
+        Ok(has_content_at(&self.rows, before))
     }
 }
 
