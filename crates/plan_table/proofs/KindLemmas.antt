@@ -1,5 +1,5 @@
 -- The header of a text is in the first record with content.
-use Rattle.std.proofs.Common.{◌≡◌, ◌⊎◌, inl, inr, ℕ, zero, suc, ◌+◌, ◌≤◌, ◌<◌, Bool, true, false, List, [], ◌∷◌, ◌++◌, Option, Some, None, Ok, Err, length, map, fold, take, drop, get_or, refl, sym, ap, ◌∙◌, subst, append-nil, append_assoc, take-drop, arith}
+use Rattle.std.proofs.Common.{◌≡◌, ◌⊎◌, inl, inr, ℕ, zero, suc, ◌+◌, ◌≤◌, ◌<◌, Bool, true, false, List, [], ◌∷◌, ◌++◌, Option, Some, None, Ok, Err, length, map, fold, take, drop, get_or, refl, sym, ap, ◌∙◌, subst, append-nil, append_assoc, take-append-drop, arith}
 use Rattle.std.specs.Prelude.{not, if◌then◌else◌, slice_get, Contains}
 use Rattle.std.specs.Option.{option_map}
 use Rattle.std.proofs.lemmas.Option.{slice_get-map}
@@ -19,9 +19,9 @@ use Rattle.plan_orlib.specs.Shop.{Shop}
 use Rattle.plan_orlib.proofs.FoundLemmas.{stream_listed}
 use Rattle.plan_table.specs.declared.kinds.ListKind.{ListKind}
 use Rattle.plan_table.specs.declared.records.Row as declared
-use Rattle.plan_table.specs.Csv.{Row, Machine, row_of, config, acted, moved, fed, scanned, fresh, rows_at_end}
+use Rattle.plan_table.specs.Csv.{Row, Machine, row_of, config, acted, moved, fed, scanned, fresh, rows_at_end, read_of, without_mark, header_line, delimiter_of}
 use Rattle.plan_table.specs.Entries.{filled_from, is_blank_row}
-use Rattle.plan_table.specs.Kinds.{has_content, has_content_at, is_filled, first_cells, cells_of_first, IsKind, IsProjectFile, ProjectsAreNoLists, ShopsAreNoLists, KindsAreSingle}
+use Rattle.plan_table.specs.Kinds.{has_content, has_content_at, is_filled, first_cells, header_cells, cells_of_first, IsKind, IsProjectFile, ProjectsAreNoLists, ShopsAreNoLists, KindsAreSingle}
 
 -- ---- the first record with content
 
@@ -185,7 +185,7 @@ pub found_early : (d : ℕ) (text : List ℕ) (k : ℕ) (m : Machine) → m ≡ 
     → first_cells (rows_at_end m) ≡ first_cells (rows_at_end (scanned d text))
 found_early d text k m is has =
     let whole : scanned d text ≡ fold (fed d) m (drop k text) =
-    ap (scanned d) (sym (take-drop k text)) ∙ fold-append (fed d) fresh (take k text) (drop k text) ∙ ap (λ (n : Machine). fold (fed d) n (drop k text)) (sym is) in
+    ap (scanned d) (sym (take-append-drop k text)) ∙ fold-append (fed d) fresh (take k text) (drop k text) ∙ ap (λ (n : Machine). fold (fed d) n (drop k text)) (sym is) in
     let rows = scan_grows d (drop k text) m in
     let n = fold (fed d) m (drop k text) in
     let cells : first_cells n.rows ≡ first_cells m.rows = ap first_cells rows.1 ∙ cells_before m.rows rows.0 has in
@@ -193,16 +193,23 @@ found_early d text k m is has =
     at_end m has ∙ sym cells ∙ sym (at_end n later) ∙ ap (λ (n : Machine). first_cells (rows_at_end n)) (sym whole)
 
 -- the machine after one more byte
-pub scanned_more : (d : ℕ) (text : List ℕ) (k : ℕ) (old m : Machine) (byte : ℕ) → k < length text → byte ≡ get_or text k byte
-    → old ≡ scanned d (take k text) → m ≡ fed d old byte → m ≡ scanned d (take (k + 1) text)
-scanned_more d text k old m byte within is before fed_by =
-    fed_by ∙ ap (λ (n : Machine). fed d n byte) before ∙ ap (fed d (scanned d (take k text))) is ∙ sym (fold_more (fed d) fresh text k byte within)
+pub scanned_more : (d : ℕ) (text : List ℕ) (k : ℕ) (old m : Machine) → k < length text
+    → old ≡ scanned d (take k text) → m ≡ fed d old (get_or text k 0) → m ≡ scanned d (take (k + 1) text)
+scanned_more d text k old m within before more =
+    more ∙ ap (λ (n : Machine). fed d n (get_or text k 0)) before ∙ sym (fold_more (fed d) fresh text k 0 within)
 
 -- the first record with content is found by one more byte
-pub found_now : (d : ℕ) (text : List ℕ) (k : ℕ) (old m : Machine) (byte : ℕ) → k < length text → byte ≡ get_or text k byte
-    → old ≡ scanned d (take k text) → m ≡ fed d old byte → has_content m.rows ≡ true
+pub found_now : (d : ℕ) (text : List ℕ) (k : ℕ) (old m : Machine) → k < length text
+    → old ≡ scanned d (take k text) → m ≡ fed d old (get_or text k 0) → has_content m.rows ≡ true
     → first_cells (rows_at_end m) ≡ first_cells (rows_at_end (scanned d text))
-found_now d text k old m byte within is before fed_by has = found_early d text (k + 1) m (scanned_more d text k old m byte within is before fed_by) has
+found_now d text k old m within before more has = found_early d text (k + 1) m (scanned_more d text k old m within before more) has
+
+-- the header is that of the text without a mark, in the delimiter of its header line
+pub header_is : (text cut line : List ℕ) (d : ℕ) (m : Machine) → cut ≡ without_mark text → line ≡ header_line cut → d ≡ delimiter_of line
+    → first_cells (rows_at_end m) ≡ first_cells (rows_at_end (scanned d cut)) → first_cells (rows_at_end m) ≡ header_cells text
+header_is text cut line d m cut_is line_is d_is cells =
+    cells ∙ ap (λ (k : ℕ). first_cells (rows_at_end (scanned k cut))) (d_is ∙ ap delimiter_of line_is)
+    ∙ ap (λ (t : List ℕ). first_cells (rows_at_end (read_of t))) cut_is
 
 -- ---- laws
 
@@ -230,5 +237,5 @@ kinds_are_single text (Some kind) None a (inr plan) = absurd (a.1 plan)
 -- an error that isn't want of memory shows that a text is no project file
 pub no_project : (text : List ℕ) (fault : FileFault) → IsWantOfMemory fault ⊎ IsFirstFailing text fault
     → (fault.code ≡ code.Memory → ⊥) → IsProjectFile text → ⊥
-no_project text fault (inl memory) no (p, says) = no memory.0
-no_project text fault (inr first) no (p, says) = said_fails_none text p fault says first
+no_project text fault (inl memory) other (p, says) = other memory.0
+no_project text fault (inr first) other (p, says) = said_fails_none text p fault says first
