@@ -10,7 +10,7 @@ use Rattle.plan_errors.specs.declared.fault.CliFault.TheVariants as cli
 use Rattle.plan_cli.specs.declared.tasks.Task.{Task}
 use Rattle.plan_cli.specs.declared.tasks.Rows.{Rows}
 use Rattle.plan_cli.specs.Run.{ReadsFront}
-use Rattle.plan_cli.specs.Tasks.{IsLineOf, ShowsTask, DoesTask, AreRead, bytes_named}
+use Rattle.plan_cli.specs.Tasks.{RefusesRead, ShowsRead, DoesTask, AreRead, bytes_named}
 use Rattle.plan_cli.specs.NamedTexts.{DoesTexts, DoesWith, with_text}
 use Rattle.plan_cli.specs.declared.named_texts.NamedText.{NamedText}
 use Rattle.plan_cli.proofs.RunLemmas.{judged_bytes}
@@ -38,17 +38,17 @@ read_known (Some bytes) remaining (Ok v) had read = subst (λ (r : Option (List 
 pub task_known : (task : Task) (rows : Rows) (known remaining rest taken after : Option (List ℕ))
     (r : Result (Unit {0}) CliFault)
     → IfSome known (λ bytes. remaining ≡ Some bytes)
-    → ReadsFront (ShowsTask rows task) (IsLineOf task) remaining rest taken after r
+    → ReadsFront (ShowsRead rows task) (RefusesRead task) remaining rest taken after r
     → DoesTask task rows known taken after r
-task_known task rows None remaining rest taken after r had judged = (None, judged_bytes (ShowsTask rows task) (IsLineOf task) remaining rest taken after r judged)
+task_known task rows None remaining rest taken after r had judged = (None, judged_bytes (ShowsRead rows task) (RefusesRead task) remaining rest taken after r judged)
 task_known task rows (Some bytes) remaining rest taken after r had judged =
-    (rest, subst (λ (k : Option (List ℕ)). ReadsFront (ShowsTask rows task) (IsLineOf task) k rest taken after r) had judged)
+    (rest, subst (λ (k : Option (List ℕ)). ReadsFront (ShowsRead rows task) (RefusesRead task) k rest taken after r) had judged)
 
 -- the same for the name of these bytes
 pub task_named : (task : Task) (rows : Rows) (known named remaining rest taken after : Option (List ℕ))
     (r : Result (Unit {0}) CliFault)
     → named ≡ known → IfSome known (λ bytes. remaining ≡ Some bytes)
-    → ReadsFront (ShowsTask rows task) (IsLineOf task) remaining rest taken after r
+    → ReadsFront (ShowsRead rows task) (RefusesRead task) remaining rest taken after r
     → DoesTask task rows named taken after r
 task_named task rows known named remaining rest taken after r is had judged =
     subst (λ (k : Option (List ℕ)). DoesTask task rows k taken after r) (sym is) (task_known task rows known remaining rest taken after r had judged)
@@ -62,7 +62,7 @@ task_unopened task rows about known taken e (inr is) = subst (λ (f : CliFault).
 -- a task that wrote for the bytes of a file wrote for bytes that aren't known
 unknown_task : (task : Task) (rows : Rows) (file taken after : Option (List ℕ)) (r : Result (Unit {0}) CliFault)
     → DoesTask task rows file taken after r → DoesTask task rows None taken after r
-unknown_task task rows file taken after r (rest, judged) = (None, judged_bytes (ShowsTask rows task) (IsLineOf task) file rest taken after r judged)
+unknown_task task rows file taken after r (rest, judged) = (None, judged_bytes (ShowsRead rows task) (RefusesRead task) file rest taken after r judged)
 
 -- the same for a text
 unknown_with : (bytes : Option (List ℕ)) (r : Result (Unit {0}) CliFault) (D E : Bor (List ℕ) → Type 0)

@@ -22,3 +22,4 @@ pub mod CheckLemmas
 pub mod ViewLemmas
 pub mod SearchLemmas
 pub mod InfeasibleLemmas
+pub mod ListLemmas

@@ -21,7 +21,8 @@ use Rattle.plan_cli.specs.declared.capacities.Capacity.{Capacity}
 use Rattle.plan_cli.specs.declared.documents.Plan.{Plan}
 use Rattle.plan_cli.specs.declared.documents.Plan.TheVariants as plan
 use Rattle.plan_cli.specs.declared.documents.Subject.TheVariants as subject
-use Rattle.plan_cli.specs.Tasks.{IsTextOf, IsLineOf}
+use Rattle.plan_cli.specs.Tasks.{ShowsRead, RefusesRead}
+use Rattle.plan_cli.specs.declared.tasks.Rows.TheVariants as rows
 use Rattle.plan_cli.specs.declared.tasks.Task.{Task}
 use Rattle.plan_cli.specs.declared.tasks.Task.TheVariants as task
 use denote.Ref.{Bor}
@@ -78,10 +79,10 @@ refusal_by name i line (inr (fit, (first, word, told))) = (first, inr (fit, word
 
 -- the same for the task of a schedule
 pub schedule_texts : (t : Task) (rule : Bor (List ℕ)) (given : Bor (List Capacity)) → t ≡ task.Schedule rule (subject.Project given) → given.now ≡ []
-    → (file text : List ℕ) → IsTextOf t file text → IsScheduleTableOf rule.now file text
+    → (file text : List ℕ) → ShowsRead rows.Plain t file text → IsScheduleTableOf rule.now file text
 schedule_texts t rule given same none file text is =
     table_of_file rule.now file text
-    (subst (λ (c : List Capacity). IsOfProject c (Fitting (IsTableBy rule.now)) file text) none (subst (λ (u : Task). IsTextOf u file text) same is))
+    (subst (λ (c : List Capacity). IsOfProject c (Fitting (IsTableBy rule.now)) file text) none (subst (λ (u : Task). ShowsRead rows.Plain u file text) same is))
 
 pub no_table_of_file : (name file line : List ℕ) → RefusesFile [] (Needing (TellsNoRuleOf name)) file line
     → TellsWhyNoSchedule name file line
@@ -94,10 +95,10 @@ no_table_of_file name file line refused = by_rule (refused_file (Needing (TellsN
 
 -- the same for the task of a schedule
 pub schedule_lines : (t : Task) (rule : Bor (List ℕ)) (given : Bor (List Capacity)) → t ≡ task.Schedule rule (subject.Project given) → given.now ≡ []
-    → (file line : List ℕ) → IsLineOf t file line → TellsWhyNoSchedule rule.now file line
+    → (file line : List ℕ) → RefusesRead t file line → TellsWhyNoSchedule rule.now file line
 schedule_lines t rule given same none file line is =
     no_table_of_file rule.now file line
-    (subst (λ (c : List Capacity). RefusesFile c (Needing (TellsNoRuleOf rule.now)) file line) none (subst (λ (u : Task). IsLineOf u file line) same is))
+    (subst (λ (c : List Capacity). RefusesFile c (Needing (TellsNoRuleOf rule.now)) file line) none (subst (λ (u : Task). RefusesRead u file line) same is))
 
 -- the best schedule is that of a file
 pub best_of_file : (budget file text : List ℕ) → IsOfProject [] (Fitting (IsBestOf budget)) file text
@@ -114,16 +115,16 @@ no_best_of_file budget file line refused = refused_file (Needing (TellsNoBestOf 
 
 -- the same for the task of a best schedule
 pub best_texts : (t : Task) (budget : Bor (List ℕ)) (given : Bor (List Capacity)) → t ≡ task.Best budget (subject.Project given) → given.now ≡ []
-    → (file text : List ℕ) → IsTextOf t file text → IsBestProjectTableOf budget.now file text
+    → (file text : List ℕ) → ShowsRead rows.Plain t file text → IsBestProjectTableOf budget.now file text
 best_texts t budget given same none file text is =
     best_of_file budget.now file text
-    (subst (λ (c : List Capacity). IsOfProject c (Fitting (IsBestOf budget.now)) file text) none (subst (λ (u : Task). IsTextOf u file text) same is))
+    (subst (λ (c : List Capacity). IsOfProject c (Fitting (IsBestOf budget.now)) file text) none (subst (λ (u : Task). ShowsRead rows.Plain u file text) same is))
 
 pub best_lines : (t : Task) (budget : Bor (List ℕ)) (given : Bor (List Capacity)) → t ≡ task.Best budget (subject.Project given) → given.now ≡ []
-    → (file line : List ℕ) → IsLineOf t file line → TellsWhyNoBestProject budget.now file line
+    → (file line : List ℕ) → RefusesRead t file line → TellsWhyNoBestProject budget.now file line
 best_lines t budget given same none file line is =
     no_best_of_file budget.now file line
-    (subst (λ (c : List Capacity). RefusesFile c (Needing (TellsNoBestOf budget.now)) file line) none (subst (λ (u : Task). IsLineOf u file line) same is))
+    (subst (λ (c : List Capacity). RefusesFile c (Needing (TellsNoBestOf budget.now)) file line) none (subst (λ (u : Task). RefusesRead u file line) same is))
 
 -- the table by a rule is that of an instance in a file
 pub table_of_shop : (name instance file text : List ℕ) → IsOfShop instance (λ s. IsTableBy name (plan.Shop s)) file text

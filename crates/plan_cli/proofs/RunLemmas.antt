@@ -242,11 +242,11 @@ front_as IsText IsOther IsLine IsOtherLine known rest taken after (Err cli.Outpu
     (front, short, e, used, writes_as (IsText front) (IsOther front) (IsLine front) (IsOtherLine front) taken after (Err cli.Output) (texts front) (lines front) does)
 
 -- a file that says a project isn't too long
-project_short : (file : List ℕ) (p : Project) → SaysProject file p → length file ≤ longest_text
+pub project_short : (file : List ℕ) (p : Project) → SaysProject file p → length file ≤ longest_text
 project_short file p (d, says, same, project) = says.short
 
 -- a front that isn't too long is the whole file
-whole_front : (file : List ℕ) → length (take (longest_text + 1) file) ≤ longest_text → take (longest_text + 1) file ≡ file
+pub whole_front : (file : List ℕ) → length (take (longest_text + 1) file) ≤ longest_text → take (longest_text + 1) file ≡ file
 whole_front file few = by_length (cases_lt longest_text (length file))
   where
     by_length : (longest_text < length file) ⊎ (length file ≤ longest_text) → take (longest_text + 1) file ≡ file
@@ -295,7 +295,7 @@ IsGood (Ok u) = Unit {0}
 IsGood (Err e) = ⊥
 
 -- a plain text isn't too long
-plain_short : (text : List ℕ) → plain text ≡ Ok tt → length text ≤ longest_text
+pub plain_short : (text : List ℕ) → plain text ≡ Ok tt → length text ≤ longest_text
 plain_short text readable = by_length (cases_lt longest_text (length text))
   where
     by_length : (longest_text < length text) ⊎ (length text ≤ longest_text) → length text ≤ longest_text
@@ -429,7 +429,7 @@ was_read : {A B : Type 0} (r : Result A reads.Fault) (next : A → Result B read
 was_read (Ok x) next t e = tt
 was_read (Err f) next t e = subst IsRead (sym e) tt
 
-import_front : (given : List Override) → HoldsByFront (IsImportOf given)
+pub import_front : (given : List Override) → HoldsByFront (IsImportOf given)
 import_front given file text (t, read, shown) = (t, sym (front_table given file) ∙ read, shown)
 
 -- a table of which the front is refused is refused
@@ -438,14 +438,14 @@ refused_front given file errors.Memory r = tt
 refused_front given file (errors.Fault f) (inl read) = inl (sym (front_table given file) ∙ read)
 refused_front given file (errors.Fault f) (inr (t, read, cycle)) = inr (t, sym (front_table given file) ∙ read, cycle)
 
-no_import_front : (given : List Override) → HoldsByFront (TellsNoImport given)
+pub no_import_front : (given : List Override) → HoldsByFront (TellsNoImport given)
 no_import_front given file line (inl (first, refused, tells)) = inl (first, refused_front given file (errors.Fault first) refused, tells)
 no_import_front given file line (inr (t, read, tells)) = inr (t, sym (front_table given file) ∙ read, tells)
 
-shop_import_front : HoldsByFront IsShopImportOf
+pub shop_import_front : HoldsByFront IsShopImportOf
 shop_import_front file text (t, read, shown) = (t, sym (front_orders file) ∙ read, shown)
 
-no_shop_import_front : HoldsByFront TellsNoShopImport
+pub no_shop_import_front : HoldsByFront TellsNoShopImport
 no_shop_import_front file line (inl (first, refused, tells)) = inl (first, sym (front_orders file) ∙ refused, tells)
 no_shop_import_front file line (inr (t, read, tells)) = inr (t, sym (front_orders file) ∙ read, tells)
 

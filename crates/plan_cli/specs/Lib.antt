@@ -3,6 +3,7 @@ pub mod Run
 pub mod Plans
 pub mod Documents
 pub mod PlanRefs
+pub mod Lists
 pub mod ScheduleRun
 pub mod ShopRun
 pub mod Tasks

@@ -1,6 +1,6 @@
 -- The texts and lines of each task, and files that are given by their names (docs/definitions.md,
 -- "Runs").
-use Rattle.std.specs.Prelude.{◌≡◌, ℕ, ◌+◌, List, [], Option, Result, IfSome}
+use Rattle.std.specs.Prelude.{◌≡◌, ℕ, ◌+◌, List, [], Option, Some, None, Result, IfSome}
 use Rattle.std.specs.Prelude.{take, map}
 use Rattle.std.specs.Prelude.{codes, bytes_eq, if◌then◌else◌}
 use Rattle.plan_gantt.specs.FirstFaults.{TellsFirstFailing}
@@ -20,11 +20,15 @@ use Rattle.plan_cli.specs.BestRun.{IsBestOf, TellsNoBestOf}
 use Rattle.plan_cli.specs.ProveRun.{IsProofTableOf, TellsWhyNoProof}
 use Rattle.plan_cli.specs.SolveRun.{IsSolvedBy, TellsNoSolution}
 use Rattle.plan_cli.specs.ImportRun.{IsImportOf, TellsNoImport, IsShopImportOf, TellsNoShopImport}
+use Rattle.plan_cli.specs.Lists.{ReadsAs, RefusesAs}
 use Rattle.plan_cli.specs.TaskViews.{IsViewOf}
 use Rattle.plan_cli.specs.Views.{View, named_text, text_in}
 use Rattle.plan_table.specs.Names.{Name, names_behind, activity_key}
 use Rattle.plan_table.specs.Overrides.{override_of}
 use Rattle.plan_table.specs.ShopNames.{instance_names, order_key}
+use Rattle.plan_table.specs.declared.kinds.ListKind.{ListKind}
+use Rattle.plan_cli.specs.declared.documents.Subject.{Subject}
+use Rattle.plan_cli.specs.declared.documents.Subject.TheVariants as subjects
 use Rattle.plan_cli.specs.declared.inputs.Inputs as inputs
 use Rattle.plan_cli.specs.declared.tasks.Rows.{Rows}
 use Rattle.plan_cli.specs.declared.tasks.Rows.TheVariants as rows
@@ -97,13 +101,70 @@ ShowsTask rows.Plain t = IsTextOf t
 ShowsTask rows.Named t = IsNamedText t
 ShowsTask (rows.In format) t = IsFormattedText format t
 
+-- the project or the job shop of a task that reads lists too, if it is such a task
+abbrev pub list_subject : Task → Option Subject
+list_subject (task.Chart from subject) = Some subject
+list_subject (task.Days from dates subject) = Some subject
+list_subject (task.Check starts subject) = Some subject
+list_subject (task.Slack starts given) = Some (subjects.Project given)
+list_subject (task.Compare starts subject) = Some subject
+list_subject (task.Solve conflicts subject) = Some subject
+list_subject _ = None
+
+-- the task on another project or job shop; slacks are those of a project
+abbrev pub with_subject : Task → Subject → Task
+with_subject (task.Chart from _) s = task.Chart from s
+with_subject (task.Days from dates _) s = task.Days from dates s
+with_subject (task.Check starts _) s = task.Check starts s
+with_subject (task.Compare starts _) s = task.Compare starts s
+with_subject (task.Solve conflicts _) s = task.Solve conflicts s
+with_subject t s = t
+
+-- the rows for a list have its names
+abbrev pub list_rows : Rows → Rows
+list_rows rows.Plain = rows.Named
+list_rows rows.Named = rows.Named
+list_rows (rows.In format) = rows.In format
+
+-- the rows for a file, which may be a list
+abbrev pub rows_on : Option ListKind → Rows → Rows
+rows_on None r = r
+rows_on (Some kind) r = list_rows r
+
+-- the texts that a task writes for what it reads in a file
+abbrev pub ShowsListed : Subject → Rows → Task → List ℕ → List ℕ → Type 0
+ShowsListed of r t file text = ReadsAs of file (λ kind s read.
+    ShowsTask (rows_on kind r) (with_subject t s) read text)
+
+-- the same, if the task reads lists too; else the texts for the file
+abbrev pub ShowsOn : Option Subject → Rows → Task → List ℕ → List ℕ → Type 0
+ShowsOn None r t = ShowsTask r t
+ShowsOn (Some of) r t = ShowsListed of r t
+
+-- the texts that a task writes for the bytes of a file
+abbrev pub ShowsRead : Rows → Task → List ℕ → List ℕ → Type 0
+ShowsRead r t = ShowsOn (list_subject t) r t
+
+-- the lines with which a task refuses what it reads in a file
+abbrev pub RefusesListed : Subject → Task → List ℕ → List ℕ → Type 0
+RefusesListed of t file = RefusesAs of file (λ s read. IsLineOf (with_subject t s) read)
+
+-- the same, if the task reads lists too; else the lines for the file
+abbrev pub RefusesOn : Option Subject → Task → List ℕ → List ℕ → Type 0
+RefusesOn None t = IsLineOf t
+RefusesOn (Some of) t = RefusesListed of t
+
+-- the lines with which a task refuses the bytes of a file
+abbrev pub RefusesRead : Task → List ℕ → List ℕ → Type 0
+RefusesRead t = RefusesOn (list_subject t) t
+
 -- Unless the input fails or memory runs out, a task writes its text or line for the bytes that were
 -- read. If the bytes of the file are known, these are the first of them.
 abbrev pub DoesTask : Task → Rows → Option (List ℕ) → Option (List ℕ) → Option (List ℕ)
     → Result (Unit {0}) CliFault → Type 0
 DoesTask task rows file taken after result =
     (rest : Option (List ℕ))
-    × ReadsFront (ShowsTask rows task) (IsLineOf task) file rest taken after result
+    × ReadsFront (ShowsRead rows task) (RefusesRead task) file rest taken after result
 
 -- these bytes are the first of a file, if its bytes are known: at most one more than the longest
 -- text has

@@ -4,11 +4,13 @@ ghost use Rattle.std.specs.Prelude.{◌≡◌, IfOk, IfErr};
 ghost use Rattle.plan_errors.specs.Output.{Refuses};
 ghost use Rattle.plan_cli.specs.CheckRun as spec;
 ghost use Rattle.plan_cli.specs.Documents.{IsOfSubject};
-ghost use Rattle.plan_cli.specs.Tasks.{IsLineOf, ShowsTask};
+ghost use Rattle.plan_cli.specs.Lists.{ReadsAs};
+ghost use Rattle.plan_cli.specs.Tasks.{IsLineOf, RefusesRead, ShowsRead, ShowsTask};
 ghost use Rattle.plan_cli.specs.Views.{view_of};
 
 use crate::documents::{Subject, plan_of, read_document};
-use crate::tasks::{Rows, Task};
+use crate::lists::readable;
+use crate::tasks::{Rows, Task, rows_on};
 use crate::verdicts::{shown_verdict, verdict_of};
 use crate::views::{View, named_text, plain_text, text_in};
 use plan_errors::CliFault;
@@ -33,9 +35,9 @@ fn rows_text(alloc: Global, rows: Rows, view: View) -> Result<Vec<u8>, AllocErro
     }
 }
 
-/// Returns the text of [`Task::Check`] for a file, with these rows, and the verdict that the text
-/// gives.
-pub fn check_text(
+// Returns the text of [`Task::Check`] for a file, which is no list, with these rows, and the verdict
+// that the text gives.
+fn checked_text(
     alloc: Global,
     rows: Rows,
     starts: &[u8],
@@ -55,4 +57,25 @@ pub fn check_text(
     let view = shown_verdict(alloc, &plan, verdict)?;
     let text = rows_text(alloc, rows, view)?;
     Ok(Checked { text, verdict })
+}
+
+/// Returns the text of [`Task::Check`] for a file, with these rows, and the verdict that the text
+/// gives. A list is read as the file that `plan import` makes of it.
+pub fn check_text(
+    alloc: Global,
+    rows: Rows,
+    starts: &[u8],
+    subject: Subject<'_>,
+    file: &[u8],
+) -> Result<Checked, CliFault>
+    ensures text { IfOk result (λ checked. ShowsRead rows
+        (Task.Check starts.entry subject.entry) file.now checked.text.items) }
+    ensures verdict { IfOk result (λ checked. ReadsAs subject.entry file.now
+        (λ kind s read. IsOfSubject s (spec.IsVerdictOn starts.now) read checked.verdict)) }
+    ensures refused { IfErr result (Refuses
+        (RefusesRead (Task.Check starts.entry subject.entry) file.now)) }
+{
+    let read = readable(alloc, subject, file)?;
+    let rows = rows_on(read.kind, rows);
+    checked_text(alloc, rows, starts, read.subject, read.text(file))
 }

@@ -16,6 +16,7 @@ mod files;
 mod imports;
 mod infeasible;
 mod inputs;
+mod lists;
 mod named_texts;
 mod names;
 mod origins;
@@ -49,6 +50,7 @@ pub use documents::{
 pub use explanations::explain_run_in;
 pub use files::{read_named, run_on_file, run_on_files, run_on_named, run_on_texts};
 pub use inputs::{Inputs, SystemInputs};
+pub use lists::{Reading, readable};
 pub use named_texts::{NamedText, Role};
 pub use origins::Origin;
 pub use plan_errors::{CliFault, Code, Context, code_hint, error_json, explain_run, hint, masked};

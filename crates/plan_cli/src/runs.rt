@@ -10,11 +10,11 @@ ghost use Rattle.plan_cli.specs.ScheduleRun.{IsScheduleTableOf, TellsWhyNoSchedu
 ghost use Rattle.plan_cli.specs.ShopRun.{IsShopTableOf, TellsWhyNoShop};
 ghost use Rattle.plan_cli.specs.BestRun.{IsBestTableOf, TellsWhyNoBest};
 ghost use Rattle.plan_cli.specs.BestProjectRun.{IsBestProjectTableOf, TellsWhyNoBestProject};
-ghost use Rattle.plan_cli.specs.Tasks.{IsLineOf, ShowsTask};
+ghost use Rattle.plan_cli.specs.Tasks.{RefusesRead, ShowsRead};
 
 use crate::capacities::Capacity;
 use crate::documents::Subject;
-use crate::tasks::{Rows, Task, shown_text};
+use crate::tasks::{Rows, Task, read_text};
 use crate::watchers::{Log, ProofWatcher, SolveWatcher, Unlogged, Unwatched};
 use plan_errors::{About, CliFault, read_file, write_text};
 use plan_io::{Sink, Source};
@@ -34,9 +34,9 @@ fn answer<R: Source, W: Sink, V: ProofWatcher + SolveWatcher, L: Log>(
     ensures reads { R.calls reader.new ≤ R.calls reader.old + most_calls }
     ensures writes { W.calls writer.new ≤ W.calls writer.old + most_calls }
     ensures text { IfSome (R.remaining reader.old) (λ file.
-        Writes (ShowsTask rows task.entry file) (IsLineOf task.entry file)
+        Writes (ShowsRead rows task.entry file) (RefusesRead task.entry file)
         (W.taken writer.old) (W.taken writer.new) result) }
-    ensures front { ReadsFront (ShowsTask rows task.entry) (IsLineOf task.entry)
+    ensures front { ReadsFront (ShowsRead rows task.entry) (RefusesRead task.entry)
         (R.remaining reader.old) (R.remaining reader.new)
         (W.taken writer.old) (W.taken writer.new) result }
     ensures quiet { IfErr result (λ e. (e ≡ CliFault.Output) ⊎ (writer.new ≡ writer.old)) }
@@ -50,7 +50,7 @@ fn answer<R: Source, W: Sink, V: ProofWatcher + SolveWatcher, L: Log>(
     ensures output { IsErrOf result CliFault.Output → HasSinkFailed W.Sink writer.old writer.new }
 {
     let file = read_file(alloc, reader, About::Plan)?;
-    let text = shown_text(alloc, task, rows, &file, watcher, log)?;
+    let text = read_text(alloc, task, rows, &file, watcher, log)?;
     write_text(writer, &text)
 }
 
@@ -59,7 +59,8 @@ fn answer<R: Source, W: Sink, V: ProofWatcher + SolveWatcher, L: Log>(
 ///
 /// Nothing is written unless the whole text was made. A call of the reader or of the writer that
 /// fails isn't repeated. If several errors apply, the file's comes first, then the others in the
-/// order of the task's documentation.
+/// order of the task's documentation. `chart`, `days`, `check`, `slack`, `compare` and `solve` read a
+/// list as the file that `plan import` makes of it, and show its names.
 pub fn run_task<R: Source, W: Sink, V: ProofWatcher + SolveWatcher, L: Log>(
     alloc: Global,
     task: Task<'_>,
@@ -69,7 +70,7 @@ pub fn run_task<R: Source, W: Sink, V: ProofWatcher + SolveWatcher, L: Log>(
     reader: &mut R,
     writer: &mut W,
 ) -> Result<(), CliFault>
-    ensures { Runs R.Source W.Sink (ShowsTask rows task.entry) (IsLineOf task.entry)
+    ensures { Runs R.Source W.Sink (ShowsRead rows task.entry) (RefusesRead task.entry)
         reader.old reader.new writer.old writer.new result }
 {
     answer(alloc, task, rows, watcher, log, reader, writer)

@@ -1,10 +1,11 @@
 //! The tasks on a file, and the texts that they write.
 
-ghost use Rattle.std.specs.Prelude.{◌≡◌, map, IfOk, IfErr};
+ghost use Rattle.std.specs.Prelude.{◌≡◌, Some, map, IfOk, IfErr};
 ghost use Rattle.plan_table.specs.Names.{name_of};
 ghost use Rattle.plan_errors.specs.Output.{Refuses};
 ghost use Rattle.plan_cli.specs.Tasks.{IsFormattedText, IsLineOf, IsNamedText, IsTextOf};
 ghost use Rattle.plan_cli.specs.Tasks.{ShowsTask, names_for};
+ghost use Rattle.plan_cli.specs.Tasks as spec;
 ghost use Rattle.plan_cli.specs.TaskViews.{IsViewOf};
 ghost use Rattle.plan_cli.specs.Views.{IfView};
 
@@ -14,6 +15,7 @@ use crate::commands::{Command, subject_view};
 use crate::comparisons::Pair;
 use crate::documents::{Subject, names_of_lines, names_of_rows};
 use crate::imports::{import_text, shop_import_text};
+use crate::lists::readable;
 use crate::names::names_in;
 use crate::origins::Origin;
 use crate::proof::proof_view;
@@ -23,7 +25,7 @@ use crate::views::{View, named_text, plain_text, text_in};
 use crate::watchers::{Log, ProofWatcher, SolveWatcher};
 use plan_errors::CliFault;
 use plan_formats::Format;
-use plan_table::{NameLine, Override, activity_names, order_names};
+use plan_table::{ListKind, NameLine, Override, activity_names, order_names};
 use std::alloc::{AllocError, Global};
 
 /// A text to print for a project file or for an instance in a job shop file.
@@ -256,9 +258,9 @@ fn formatted_text<V: ProofWatcher + SolveWatcher, L: Log>(
     Ok(text_in(alloc, format, view, &names)?)
 }
 
-/// Returns the text of a task for a file, with these rows. The watcher is called during a search of
-/// `prove` or `solve`.
-pub(crate) fn shown_text<V: ProofWatcher + SolveWatcher, L: Log>(
+// Returns the text of a task for a file, which is no list, with these rows. The watcher is called
+// during a search of `prove` or `solve`.
+fn shown_text<V: ProofWatcher + SolveWatcher, L: Log>(
     alloc: Global,
     task: Task<'_>,
     rows: Rows,
@@ -274,4 +276,116 @@ pub(crate) fn shown_text<V: ProofWatcher + SolveWatcher, L: Log>(
         Rows::Named => named_text_of(alloc, task, file, watcher, log),
         Rows::In(format) => formatted_text(alloc, task, format, file, watcher, log),
     }
+}
+
+// Returns the project or the job shop of a task that reads lists too, if it is such a task.
+fn list_subject(task: Task<'_>) -> Option<Subject<'_>>
+    ensures { result ≡ spec.list_subject task.entry }
+{
+    match task {
+        Task::Chart { subject, .. }
+        | Task::Days { subject, .. }
+        | Task::Check { subject, .. }
+        | Task::Compare { subject, .. }
+        | Task::Solve { subject, .. } => Some(subject),
+        Task::Slack { capacities, .. } => Some(Subject::Project(capacities)),
+        _ => None,
+    }
+}
+
+// Returns the task on another project or job shop. The slacks stay those of a project.
+fn with_subject<'a>(task: Task<'a>, subject: Subject<'a>) -> Task<'a>
+    ensures { result ≡ spec.with_subject task.entry subject.entry }
+{
+    match task {
+        Task::Chart { origin, .. } => Task::Chart { origin, subject },
+        Task::Days { origin, dates, .. } => Task::Days {
+            origin,
+            dates,
+            subject,
+        },
+        Task::Check { starts, .. } => Task::Check { starts, subject },
+        Task::Compare { starts, .. } => Task::Compare { starts, subject },
+        Task::Solve { conflicts, .. } => Task::Solve { conflicts, subject },
+        _ => task,
+    }
+}
+
+// Returns the rows for a list, which have its names.
+fn list_rows(rows: Rows) -> Rows
+    ensures { result ≡ spec.list_rows rows }
+{
+    match rows {
+        Rows::Plain | Rows::Named => Rows::Named,
+        Rows::In(format) => Rows::In(format),
+    }
+}
+
+/// Returns the rows for a file of this kind: those for a list have its names.
+pub(crate) fn rows_on(kind: Option<ListKind>, rows: Rows) -> Rows
+    ensures { result ≡ spec.rows_on kind rows }
+{
+    match kind {
+        Some(_) => list_rows(rows),
+        None => rows,
+    }
+}
+
+// Returns the text of a task that reads lists too, for a file with this project or job shop.
+fn listed_text<V: ProofWatcher + SolveWatcher, L: Log>(
+    alloc: Global,
+    task: Task<'_>,
+    of: Subject<'_>,
+    rows: Rows,
+    file: &[u8],
+    watcher: &mut V,
+    log: &mut L,
+) -> Result<Vec<u8>, CliFault>
+    ensures made { IfOk result (λ text.
+        spec.ShowsOn (Some of.entry) rows task.entry file.now text.items) }
+    ensures refused { IfErr result (Refuses
+        (spec.RefusesOn (Some of.entry) task.entry file.now)) }
+{
+    let read = readable(alloc, of, file)?;
+    let task = with_subject(task, read.subject);
+    let rows = rows_on(read.kind, rows);
+    shown_text(alloc, task, rows, read.text(file), watcher, log)
+}
+
+// Returns the text of a task for the bytes of a file, with this project or job shop if the task
+// reads lists too.
+fn text_on<V: ProofWatcher + SolveWatcher, L: Log>(
+    alloc: Global,
+    task: Task<'_>,
+    of: Option<Subject<'_>>,
+    rows: Rows,
+    file: &[u8],
+    watcher: &mut V,
+    log: &mut L,
+) -> Result<Vec<u8>, CliFault>
+    ensures made { IfOk result (λ text.
+        spec.ShowsOn of.entry rows task.entry file.now text.items) }
+    ensures refused { IfErr result (Refuses (spec.RefusesOn of.entry task.entry file.now)) }
+{
+    match of {
+        Some(of) => listed_text(alloc, task, of, rows, file, watcher, log),
+        None => shown_text(alloc, task, rows, file, watcher, log),
+    }
+}
+
+/// Returns the text of a task for the bytes of a file, with these rows. The watcher is called during
+/// a search of `prove` or `solve`.
+pub(crate) fn read_text<V: ProofWatcher + SolveWatcher, L: Log>(
+    alloc: Global,
+    task: Task<'_>,
+    rows: Rows,
+    file: &[u8],
+    watcher: &mut V,
+    log: &mut L,
+) -> Result<Vec<u8>, CliFault>
+    ensures made { IfOk result (λ text. spec.ShowsRead rows task.entry file.now text.items) }
+    ensures refused { IfErr result (Refuses (spec.RefusesRead task.entry file.now)) }
+{
+    let of = list_subject(task);
+    text_on(alloc, task, of, rows, file, watcher, log)
 }

@@ -168,6 +168,15 @@ const FILE: Argument = Argument {
     help: "the input file, or - for standard input",
 };
 
+// The file of a command that also reads lists.
+const FILE_OR_LIST: Argument = Argument {
+    name: "FILE",
+    form: Form::Name,
+    help: FILE_OR_LIST_HELP,
+};
+
+const FILE_OR_LIST_HELP: &str = "the input file, or a list (CSV), or - for standard input";
+
 const PROJECT_RULE: Argument = Argument {
     name: "RULE",
     form: Form::Text,
@@ -207,7 +216,7 @@ const CAPACITY_IF_PROJECT: Argument = Argument {
 const FILE_UNLESS_STARTS: Argument = Argument {
     name: "FILE",
     form: Form::NameUnlessStarts,
-    help: "the input file, or - for standard input",
+    help: FILE_OR_LIST_HELP,
 };
 
 // The file of starts of a command that always has one.
@@ -381,7 +390,7 @@ const PROJECT_COMMANDS: [Entry; 6] = [
             plan check examples/six.sm examples/starts.txt\n  \
             plan shop mwkr examples/shops.txt ft06 | plan check examples/shops.txt - ft06",
         arguments: &[
-            FILE,
+            FILE_OR_LIST,
             GIVEN_STARTS,
             INSTANCE_IF_SHOP,
             FORMAT,
@@ -398,7 +407,7 @@ const PROJECT_COMMANDS: [Entry; 6] = [
         examples: "Examples:\n  \
             plan slack examples/six.sm examples/starts.txt\n  \
             plan schedule lft examples/house.sm | plan slack --names examples/house.sm -",
-        arguments: &[FILE, GIVEN_STARTS, CAPACITY, NAMES, FORMAT],
+        arguments: &[FILE_OR_LIST, GIVEN_STARTS, CAPACITY, NAMES, FORMAT],
     },
     Entry {
         name: "compare",
@@ -408,7 +417,7 @@ const PROJECT_COMMANDS: [Entry; 6] = [
             plan schedule mts examples/six.sm | \
             plan compare examples/six.sm examples/starts.txt -",
         arguments: &[
-            FILE,
+            FILE_OR_LIST,
             STARTS_A,
             STARTS_B,
             INSTANCE_IF_SHOP,
@@ -466,11 +475,12 @@ const SCHEDULE_COMMANDS: [Entry; 5] = [
             between 40 45   no schedule is shorter than 40, and this one takes 45\n\n\
             Examples:\n  \
             plan solve examples/house.sm\n  \
+            plan solve examples/house.csv\n  \
             plan solve --seconds 60 examples/house.sm\n  \
             plan solve --capacity R1=6 examples/house.sm\n  \
             plan solve --conflicts 1000 examples/shops.txt ft06",
         arguments: &[
-            FILE,
+            FILE_OR_LIST,
             INSTANCE_IF_SHOP,
             Argument {
                 name: "seconds",
@@ -576,7 +586,7 @@ const SCHEDULE_COMMANDS: [Entry; 5] = [
             plan report --starts examples/starts.txt examples/six.sm\n  \
             plan report --by job --title Printing examples/shops.txt printing",
         arguments: &[
-            FILE,
+            FILE_OR_LIST,
             INSTANCE_IF_SHOP,
             Argument {
                 name: "rule",

@@ -93,7 +93,7 @@ fn print_context<'a>(print: Print<'a>) -> Context<'a> {
     match print.origin {
         NamedOrigin::Rule(rule) => context.rule = Some(rule),
         NamedOrigin::Starts(name) => context.starts = Some(name),
-        NamedOrigin::Solved { .. } => {}
+        NamedOrigin::Default | NamedOrigin::Solved { .. } => {}
     }
     context.holidays = print.holidays;
     match print.sheet {
@@ -131,7 +131,7 @@ impl<'a> FileOrder<'a> {
             FileOrder::Texts { task, .. } => replaceable_rule(task),
             FileOrder::Print(print, _) => match print.origin {
                 NamedOrigin::Rule(rule) => Some(rule),
-                NamedOrigin::Starts(_) | NamedOrigin::Solved { .. } => None,
+                NamedOrigin::Default | NamedOrigin::Starts(_) | NamedOrigin::Solved { .. } => None,
             },
             _ => None,
         }

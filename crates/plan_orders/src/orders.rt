@@ -97,7 +97,7 @@ fn texts_input(file: &str, texts: &[NamedText<'_>]) -> Option<(&'static str, &'s
 fn print_input(print: &Print<'_>) -> Option<(&'static str, &'static str)> {
     let starts = match print.origin {
         NamedOrigin::Starts(name) => name,
-        NamedOrigin::Rule(_) | NamedOrigin::Solved { .. } => "",
+        NamedOrigin::Rule(_) | NamedOrigin::Default | NamedOrigin::Solved { .. } => "",
     };
     match (print.file, starts, print.holidays) {
         ("-", "-", _) => Some(("FILE", "STARTS")),
@@ -548,11 +548,12 @@ fn schedule_words<'a>(arguments: &'a ArgMatches<'_>, before: &str) -> Option<Sch
     })
 }
 
-// Returns the origin of a schedule. The starts in a file replace those here.
+// Returns the origin of a schedule of `chart` or `days`, which have no default rule. The starts in a
+// file replace those here.
 fn origin_of(named: NamedOrigin<'_>) -> Origin<'_> {
     match named {
         NamedOrigin::Rule(rule) => Origin::Rule(rule),
-        NamedOrigin::Starts(_) => Origin::Starts(&[]),
+        NamedOrigin::Default | NamedOrigin::Starts(_) => Origin::Starts(&[]),
         NamedOrigin::Solved { conflicts } => Origin::Solved { conflicts },
     }
 }
@@ -713,15 +714,14 @@ fn image_order<'a>(
     })
 }
 
-// Returns the origin of the schedule of `report`. The default rule is `lft`, for a job shop `mwkr`.
-fn report_origin<'a>(arguments: &'a ArgMatches<'_>, is_shop: bool) -> NamedOrigin<'a> {
+// Returns the origin of the schedule of `report`.
+fn report_origin<'a>(arguments: &'a ArgMatches<'_>) -> NamedOrigin<'a> {
     if let Some(origin) = named_by_option(arguments) {
         return origin;
     }
     match arguments.get_str("rule") {
         Some(rule) => NamedOrigin::Rule(rule),
-        None if is_shop => NamedOrigin::Rule("mwkr"),
-        None => NamedOrigin::Rule("lft"),
+        None => NamedOrigin::Default,
     }
 }
 
@@ -745,7 +745,7 @@ fn report_order<'a>(
             by_job: arguments.get_str("by") == Some("job"),
         },
         subject: subject_of(instance, capacities),
-        origin: report_origin(arguments, instance.is_some()),
+        origin: report_origin(arguments),
         holidays: arguments.get_str("holidays"),
         file,
     })

@@ -30,7 +30,7 @@ does_as known other (Err cli.Output) Does Other same implies (text, short, read,
 abbrev pub AreSame : (List ℕ → Option (List ℕ)) → (List ℕ → Option (List ℕ)) → Type 0
 AreSame f g = (name : List ℕ) → f name ≡ g name
 
-from_same : (known other : Option (List ℕ)) (s : Sheet) (of : Subject) (from : Origin) (taken after : Option (List ℕ))
+from_same : (known other : Option (List ℕ)) (s : Sheet) (of : Subject) (from : Option Origin) (taken after : Option (List ℕ))
     (r : Result (Unit {0}) CliFault) → known ≡ other
     → PrintsFrom known s of from taken after r → PrintsFrom other s of from taken after r
 from_same known other s of from taken after r same p = subst (λ (k : Option (List ℕ)). PrintsFrom k s of from taken after r) same p
@@ -38,12 +38,13 @@ from_same known other s of from taken after r same p = subst (λ (k : Option (Li
 named_same : (f g : List ℕ → Option (List ℕ)) → AreSame f g
     → (s : Sheet) (of : Subject) (from : NamedOrigin) (file : List ℕ) (taken after : Option (List ℕ)) (r : Result (Unit {0}) CliFault)
     → PrintsNamed f s of from file taken after r → PrintsNamed g s of from file taken after r
-named_same f g same s of (named.Rule name) file taken after r p = from_same (f file) (g file) s of (origin.Rule name) taken after r (same file) p
+named_same f g same s of (named.Rule name) file taken after r p = from_same (f file) (g file) s of (Some (origin.Rule name)) taken after r (same file) p
+named_same f g same s of named.Default file taken after r p = from_same (f file) (g file) s of None taken after r (same file) p
 named_same f g same s of (named.Starts name) file taken after r p =
-    does_as (f name.now) (g name.now) r (λ starts. PrintsFrom (f file) s of (origin.Starts starts) taken after r)
-    (λ starts. PrintsFrom (g file) s of (origin.Starts starts) taken after r) (same name.now)
-    (λ starts q. from_same (f file) (g file) s of (origin.Starts starts) taken after r (same file) q) p
-named_same f g same s of (named.Solved conflicts) file taken after r p = from_same (f file) (g file) s of (origin.Solved conflicts) taken after r (same file) p
+    does_as (f name.now) (g name.now) r (λ starts. PrintsFrom (f file) s of (Some (origin.Starts starts)) taken after r)
+    (λ starts. PrintsFrom (g file) s of (Some (origin.Starts starts)) taken after r) (same name.now)
+    (λ starts q. from_same (f file) (g file) s of (Some (origin.Starts starts)) taken after r (same file) q) p
+named_same f g same s of (named.Solved conflicts) file taken after r p = from_same (f file) (g file) s of (Some (origin.Solved conflicts)) taken after r (same file) p
 
 with_same : (f g : List ℕ → Option (List ℕ)) → AreSame f g
     → (print : Print) (holidays : Option (Bor (List ℕ))) (taken after : Option (List ℕ)) (r : Result (Unit {0}) CliFault)

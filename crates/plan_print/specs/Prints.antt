@@ -1,15 +1,17 @@
 -- The output of a command that prints a sheet, for the bytes that it reads (docs/definitions.md,
 -- "Runs").
-use Rattle.std.specs.Prelude.{◌⊎◌, ℕ, List, Option, Some, None, Result}
+use Rattle.std.specs.Prelude.{◌≡◌, ◌⊎◌, ℕ, List, Option, Some, None, Result, codes}
 use denote.Ref.{Bor}
 use Rattle.plan_errors.specs.Faults.{IsUnread}
 use Rattle.plan_errors.specs.Output.{Writes}
 use Rattle.plan_errors.specs.declared.context.About.TheVariants as about
 use Rattle.plan_errors.specs.declared.fault.CliFault.{CliFault}
 use Rattle.plan_cli.specs.Documents.{IsOfSubject, RefusesSubject}
+use Rattle.plan_cli.specs.Lists.{ReadsAs, RefusesAs}
 use Rattle.plan_cli.specs.NamedTexts.{DoesWith, dates_with}
 use Rattle.plan_cli.specs.declared.calendars.Dates.{Dates}
 use Rattle.plan_cli.specs.declared.documents.Subject.{Subject}
+use Rattle.plan_cli.specs.declared.documents.Subject.TheVariants as subject
 use Rattle.plan_cli.specs.declared.origins.Origin.{Origin}
 use Rattle.plan_cli.specs.declared.origins.Origin.TheVariants as origin
 use Rattle.plan_print.specs.Sheets.{IsSheetFrom, TellsNoSheetFrom}
@@ -27,6 +29,39 @@ IsSheet s of from file = IsOfSubject of (IsSheetFrom from s of file) file
 abbrev pub RefusesSheet : Sheet → Subject → Origin → List ℕ → List ℕ → Type 0
 RefusesSheet s of from = RefusesSubject of (TellsNoSheetFrom from s)
 
+-- the default rule of a project, or of a job shop
+abbrev pub default_rule : Subject → List ℕ
+default_rule (subject.Project given) = codes "lft"
+default_rule (subject.Shop instance) = codes "mwkr"
+
+-- a schedule is that by the default rule
+abbrev pub IsDefaultOrigin : Subject → Origin → Type 0
+IsDefaultOrigin of from = (name : Bor (List ℕ)) × (name.now ≡ default_rule of)
+    × (from ≡ origin.Rule name)
+
+-- a schedule has this origin for a project or a job shop: the given one, or else the default rule
+abbrev pub IsOriginFor : Option Origin → Subject → Origin → Type 0
+IsOriginFor (Some given) of from = from ≡ given
+IsOriginFor None of from = IsDefaultOrigin of from
+
+-- a text is the sheet for what a command reads
+abbrev pub IsSheetBy : Sheet → Option Origin → Subject → List ℕ → List ℕ → Type 0
+IsSheetBy s given of file text = (from : Origin) × IsOriginFor given of from
+    × IsSheet s of from file text
+
+-- a line refuses the sheet for what a command reads
+abbrev pub RefusesSheetBy : Sheet → Option Origin → Subject → List ℕ → List ℕ → Type 0
+RefusesSheetBy s given of file line = (from : Origin) × IsOriginFor given of from
+    × RefusesSheet s of from file line
+
+-- a text is a sheet of the project or the job shop in a file, which may be a list
+abbrev pub IsSheetRead : Sheet → Subject → Option Origin → List ℕ → List ℕ → Type 0
+IsSheetRead s of given file text = ReadsAs of file (λ kind a read. IsSheetBy s given a read text)
+
+-- a line gives the first check that a file fails, which may be a list, or else refuses its sheet
+abbrev pub RefusesSheetRead : Sheet → Subject → Option Origin → List ℕ → List ℕ → Type 0
+RefusesSheetRead s of given file = RefusesAs of file (λ a read. RefusesSheetBy s given a read)
+
 -- dates with the holidays in a text, if there are dates
 abbrev pub some_with : Option Dates → Bor (List ℕ) → Option Dates
 some_with None text = None
@@ -40,21 +75,24 @@ sheet_with (sheet.Report title dates by_job) text = sheet.Report title (some_wit
 
 -- Unless the input fails or memory runs out, the sheet is written for the bytes that were read, or
 -- the line that refuses it is the error.
-abbrev pub PrintsFrom : Option (List ℕ) → Sheet → Subject → Origin → Option (List ℕ)
+abbrev pub PrintsFrom : Option (List ℕ) → Sheet → Subject → Option Origin → Option (List ℕ)
     → Option (List ℕ) → Result (Unit {0}) CliFault → Type 0
-PrintsFrom bytes s of from taken after result = DoesWith bytes result (λ file.
-    Writes (IsSheet s of from file.now) (RefusesSheet s of from file.now) taken after result)
+PrintsFrom bytes s of given taken after result = DoesWith bytes result (λ file. Writes
+    (IsSheetRead s of given file.now) (RefusesSheetRead s of given file.now) taken after result)
 
--- the same by the rule with a name, for the starts in the file with a name, or by a search
+-- the same by the rule with a name, by the default rule, for the starts in the file with a name,
+-- or by a search
 abbrev pub PrintsNamed : (List ℕ → Option (List ℕ)) → Sheet → Subject → NamedOrigin → List ℕ
     → Option (List ℕ) → Option (List ℕ) → Result (Unit {0}) CliFault → Type 0
 PrintsNamed bytes_of s of (named.Rule name) file taken after result =
-    PrintsFrom (bytes_of file) s of (origin.Rule name) taken after result
+    PrintsFrom (bytes_of file) s of (Some (origin.Rule name)) taken after result
+PrintsNamed bytes_of s of named.Default file taken after result =
+    PrintsFrom (bytes_of file) s of None taken after result
 PrintsNamed bytes_of s of (named.Starts name) file taken after result =
     DoesWith (bytes_of name.now) result (λ starts.
-    PrintsFrom (bytes_of file) s of (origin.Starts starts) taken after result)
+    PrintsFrom (bytes_of file) s of (Some (origin.Starts starts)) taken after result)
 PrintsNamed bytes_of s of (named.Solved conflicts) file taken after result =
-    PrintsFrom (bytes_of file) s of (origin.Solved conflicts) taken after result
+    PrintsFrom (bytes_of file) s of (Some (origin.Solved conflicts)) taken after result
 
 -- the same with the holidays in the file with a name, if there is one
 abbrev pub PrintsWith : (List ℕ → Option (List ℕ)) → Print → Option (Bor (List ℕ))

@@ -8,7 +8,7 @@ ghost use Rattle.plan_cli.specs.NamedTexts.{dates_with};
 ghost use Rattle.plan_cli.specs.Tasks.{bytes_behind};
 ghost use Rattle.plan_print.specs.Prints as spec;
 
-use crate::sheets::{Sheet, sheet_text};
+use crate::sheets::{Sheet, read_sheet};
 use plan_cli::{
     CliFault, Dates, Inputs, Origin, ProofWatcher, SolveWatcher, Subject, SystemInputs, read_named,
 };
@@ -22,6 +22,8 @@ use std::rt::Files;
 pub enum NamedOrigin<'a> {
     /// The schedule by the priority rule with this name.
     Rule(&'a str),
+    /// The schedule by the default rule: `lft` for a project, `mwkr` for a job shop.
+    Default,
     /// The feasible schedule whose starts the file with this name lists.
     Starts(&'a str),
     /// The schedule that a search of at most this many conflicts finds.
@@ -88,7 +90,7 @@ fn print_from<I: Inputs, W: Sink, V: ProofWatcher + SolveWatcher>(
     inputs: &I,
     sheet: Sheet<'_>,
     subject: Subject<'_>,
-    origin: Origin<'_>,
+    origin: Option<Origin<'_>>,
     file: &str,
     watcher: &mut V,
     writer: &mut W,
@@ -102,7 +104,7 @@ fn print_from<I: Inputs, W: Sink, V: ProofWatcher + SolveWatcher>(
     ensures output { IsErrOf result CliFault.Output → HasSinkFailed W.Sink writer.old writer.new }
 {
     let bytes = read_named(alloc, inputs, About::Plan, file)?;
-    let text = sheet_text(alloc, sheet, subject, origin, &bytes, watcher)?;
+    let text = read_sheet(alloc, sheet, subject, origin, &bytes, watcher)?;
     write_text(writer, text.as_bytes())
 }
 
@@ -134,11 +136,14 @@ fn print_by<I: Inputs, W: Sink, V: ProofWatcher + SolveWatcher>(
                 inputs,
                 sheet,
                 subject,
-                Origin::Rule(name),
+                Some(Origin::Rule(name)),
                 file,
                 watcher,
                 writer,
             )
+        }
+        NamedOrigin::Default => {
+            print_from(alloc, inputs, sheet, subject, None, file, watcher, writer)
         }
         NamedOrigin::Solved { conflicts } => {
             print_from(
@@ -146,7 +151,7 @@ fn print_by<I: Inputs, W: Sink, V: ProofWatcher + SolveWatcher>(
                 inputs,
                 sheet,
                 subject,
-                Origin::Solved { conflicts },
+                Some(Origin::Solved { conflicts }),
                 file,
                 watcher,
                 writer,
@@ -154,13 +159,13 @@ fn print_by<I: Inputs, W: Sink, V: ProofWatcher + SolveWatcher>(
         }
         NamedOrigin::Starts(name) => {
             let starts = read_named(alloc, inputs, About::Starts, name)?;
-            let origin = Origin::Starts(&starts);
+            let origin = Some(Origin::Starts(&starts));
             print_from(alloc, inputs, sheet, subject, origin, file, watcher, writer)
         }
     }
 }
 
-/// Prints a sheet. The file of the holidays is read first, then that of the starts, then that of
+/// Prints a sheet. A list is read as the file that `plan import` makes of it. The file of the holidays is read first, then that of the starts, then that of
 /// the project or the job shop. The watcher is called during a search, and can stop it. A file that
 /// can't be opened or read is [`CliFault::Input`] of its argument.
 ///

@@ -1,11 +1,12 @@
 //! The sheets of schedules.
 
-ghost use Rattle.std.specs.Prelude.{IfErr, IfOk};
+ghost use Rattle.std.specs.Prelude.{◌≡◌, IfErr, IfOk};
 ghost use Rattle.plan_errors.specs.Output.{Refuses};
 ghost use Rattle.plan_cli.specs.Details.{NamesVerdict};
 ghost use Rattle.plan_cli.specs.Documents.{count_of};
 ghost use Rattle.plan_cli.specs.Run.{IfText};
 ghost use Rattle.plan_cli.specs.Scheduled.{CanBeShown, IsMadeFrom, TellsNotMade};
+ghost use Rattle.plan_print.specs.Prints as prints;
 ghost use Rattle.plan_print.specs.Prints.{IsSheet, RefusesSheet};
 ghost use Rattle.plan_print.specs.Sheets as spec;
 
@@ -14,7 +15,7 @@ use crate::events::events_text;
 use crate::reports::report_text;
 use plan_cli::{
     CliFault, Dates, Origin, Plan, ProofWatcher, Scheduled, SolveWatcher, Subject, Unlogged,
-    plan_of, read_document, schedule_from, with_names,
+    plan_of, read_document, readable, schedule_from, with_names,
 };
 use plan_sheet::Heading;
 use std::alloc::Global;
@@ -111,9 +112,9 @@ fn plan_sheet<V: ProofWatcher + SolveWatcher>(
     schedule_sheet(alloc, sheet, subject, file, plan, &made)
 }
 
-/// Returns a sheet of the project or the job shop in a file. The watcher is called during a search,
-/// and can stop it.
-pub(crate) fn sheet_text<V: ProofWatcher + SolveWatcher>(
+// Returns a sheet of the project or the job shop in a file, which is no list. The watcher is called
+// during a search, and can stop it.
+fn sheet_text<V: ProofWatcher + SolveWatcher>(
     alloc: Global,
     sheet: Sheet<'_>,
     subject: Subject<'_>,
@@ -129,4 +130,69 @@ pub(crate) fn sheet_text<V: ProofWatcher + SolveWatcher>(
     let document = read_document(alloc, subject, file)?;
     let plan = plan_of(alloc, &document, file)?;
     plan_sheet(alloc, sheet, subject, origin, file, &plan, watcher)
+}
+
+// Returns the default rule for a project or a job shop.
+fn default_rule(subject: Subject<'_>) -> &'static str
+    ensures { result.now ≡ prints.default_rule subject.entry }
+{
+    match subject {
+        Subject::Project(_) => "lft",
+        Subject::Shop(_) => "mwkr",
+    }
+}
+
+// Returns the origin of the schedule by the default rule.
+fn default_origin<'a>(subject: Subject<'_>) -> Origin<'a>
+    ensures { prints.IsDefaultOrigin subject.entry result }
+{
+    Origin::Rule(default_rule(subject))
+}
+
+// Returns the origin of a schedule: the given one, or else the default rule.
+fn origin_for<'a>(given: Option<Origin<'a>>, subject: Subject<'_>) -> Origin<'a>
+    ensures { prints.IsOriginFor given.entry subject.entry result }
+{
+    match given {
+        Some(origin) => origin,
+        None => default_origin(subject),
+    }
+}
+
+// Returns a sheet for what a command reads.
+fn sheet_by<V: ProofWatcher + SolveWatcher>(
+    alloc: Global,
+    sheet: Sheet<'_>,
+    subject: Subject<'_>,
+    given: Option<Origin<'_>>,
+    file: &[u8],
+    watcher: &mut V,
+) -> Result<String, CliFault>
+    ensures made { IfText result
+        (prints.IsSheetBy sheet.entry given.entry subject.entry file.now) }
+    ensures refused { IfErr result (Refuses
+        (prints.RefusesSheetBy sheet.entry given.entry subject.entry file.now)) }
+{
+    let origin = origin_for(given, subject);
+    sheet_text(alloc, sheet, subject, origin, file, watcher)
+}
+
+/// Returns a sheet of the project or the job shop in a file, or in the file that `plan import` makes
+/// of a list. Without an origin the schedule is that by the default rule. The watcher is called
+/// during a search, and can stop it.
+pub(crate) fn read_sheet<V: ProofWatcher + SolveWatcher>(
+    alloc: Global,
+    sheet: Sheet<'_>,
+    subject: Subject<'_>,
+    given: Option<Origin<'_>>,
+    file: &[u8],
+    watcher: &mut V,
+) -> Result<String, CliFault>
+    ensures made { IfText result
+        (prints.IsSheetRead sheet.entry subject.entry given.entry file.now) }
+    ensures refused { IfErr result (Refuses
+        (prints.RefusesSheetRead sheet.entry subject.entry given.entry file.now)) }
+{
+    let read = readable(alloc, subject, file)?;
+    sheet_by(alloc, sheet, read.subject, given, read.text(file), watcher)
 }

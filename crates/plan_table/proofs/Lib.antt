@@ -28,3 +28,4 @@ pub mod NameLineLemmas
 pub mod ShopWriteLemmas
 pub mod ShopReadLemmas
 pub mod ShopNameLemmas
+pub mod KindLemmas

@@ -24,5 +24,6 @@ pub mod ShopTable
 pub mod ShopReading
 pub mod ShopText
 pub mod ShopNames
+pub mod Kinds
 pub use Rattle.plan_psplib.specs.Project
 pub use Rattle.plan_net.specs.Network

@@ -1,6 +1,7 @@
-//! Laws of project files with names, and of the columns of a list.
+//! Laws of project files with names, and of lists.
 
 ghost use Rattle.plan_table.specs.Acceptance.{KeepsLists};
+ghost use Rattle.plan_table.specs.Kinds.{KindsAreSingle, ProjectsAreNoLists, ShopsAreNoLists};
 ghost use Rattle.plan_table.specs.NameLines.{NameLinesChangeNothing};
 ghost use Rattle.plan_table.specs.Settlement.{LimitedColumnsStay};
 
@@ -18,4 +19,11 @@ pub fn limited_columns_stay()
 /// this table.
 pub fn accepted_lists_stay()
     ensures { KeepsLists }
+{}
+
+/// A text that is read as a project or as a job shop is no list. A list is of one kind.
+pub fn plan_files_are_no_lists()
+    ensures projects { ProjectsAreNoLists }
+    ensures shops { ShopsAreNoLists }
+    ensures single { KindsAreSingle }
 {}

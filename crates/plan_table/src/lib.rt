@@ -11,6 +11,7 @@ mod fault;
 mod header;
 mod jobs;
 mod jobshop;
+mod kinds;
 mod laws;
 mod listing;
 mod names;
@@ -31,7 +32,10 @@ mod templates;
 
 pub use fault::{ReadError, TableCode, TableFault, TextFault};
 pub use jobshop::shop_text;
-pub use laws::{accepted_lists_stay, limited_columns_stay, names_change_nothing};
+pub use kinds::{ListKind, list_kind};
+pub use laws::{
+    accepted_lists_stay, limited_columns_stay, names_change_nothing, plan_files_are_no_lists,
+};
 pub use names::{NameLine, activity_names, first_name, resource_names};
 pub use overrides::Override;
 pub use reading::{read_table, read_table_with};

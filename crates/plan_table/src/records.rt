@@ -1,13 +1,16 @@
 //! A table's text as records of cells.
 
-ghost use Rattle.std.specs.Prelude.{◌≡◌, ◌≤◌, ◌<◌, ◌+◌, ◌∷◌, length, map, fold, IfOk, OnOk};
+ghost use Rattle.std.specs.Prelude.{◌≡◌, ◌≤◌, ◌<◌, ◌+◌, [], ◌∷◌, length, map, fold, IfOk, OnOk};
 ghost use Rattle.csv.specs.Machine.{ends_at_end as ends};
 ghost use Rattle.std.specs.List.{position};
 ghost use Rattle.plan_psplib.specs.Lines.{is_line_feed, raw_lines};
 ghost use Rattle.plan_psplib.specs.Plain.{longest_text};
 ghost use Rattle.plan_table.specs.Csv as spec;
+ghost use Rattle.plan_table.specs.Entries.{filled_from};
+ghost use Rattle.plan_table.specs.Kinds as kinds;
 
 use crate::csv_step::{Action, State, step};
+use crate::entries::is_blank_row;
 use plan_psplib::trim;
 use std::alloc::{AllocError, Global};
 use std::mem::replace;
@@ -136,6 +139,50 @@ fn scanned(alloc: Global, delimiter: u8, text: &[u8]) -> Result<Machine, AllocEr
     Ok(machine)
 }
 
+// Whether there is a record behind so many others, and something stands in it.
+fn has_content_at(rows: &[Row], place: usize) -> bool
+    ensures { result ≡ kinds.has_content_at place (map spec.row_of rows.now) }
+{
+    rows.len() > place && !is_blank_row(&rows[place].cells)
+}
+
+impl Machine {
+    // Takes a byte. Returns whether a record with content ends with it. There is none before.
+    fn feed_to_content(
+        &mut self,
+        alloc: Global,
+        delimiter: u8,
+        byte: u8,
+    ) -> Result<bool, AllocError>
+        requires line { self.old.line < 4294967296 }
+        requires blank { filled_from (spec.machine_of self.old).rows ≡ [] }
+        ensures fed { OnOk result (spec.machine_of self.new ≡ spec.fed delimiter
+            (spec.machine_of self.old) byte) }
+        ensures limit { OnOk result (self.new.line ≤ self.old.line + 1) }
+        ensures content { IfOk result (λ found. found
+            ≡ kinds.has_content (spec.machine_of self.new).rows) }
+    {
+        let before = self.rows.len();
+        self.feed(alloc, delimiter, byte)?;
+        Ok(has_content_at(&self.rows, before))
+    }
+}
+
+// The machine after a text, or after the first record with content in it.
+fn scanned_to_content(alloc: Global, delimiter: u8, text: &[u8]) -> Result<Machine, AllocError>
+    requires { length text.now ≤ longest_text }
+    ensures { IfOk result (λ m. kinds.first_cells (spec.rows_at_end (spec.machine_of m))
+        ≡ kinds.first_cells (spec.rows_at_end (spec.scanned delimiter text.now))) }
+{
+    let mut machine = Machine::new(alloc);
+    for &byte in text {
+        if machine.feed_to_content(alloc, delimiter, byte)? {
+            return Ok(machine);
+        }
+    }
+    Ok(machine)
+}
+
 // Whether the end of a text ends a record.
 fn ends_at_end(state: State) -> bool
     ensures { result ≡ ends (spec.state_of state) }
@@ -248,4 +295,15 @@ pub fn read_records(alloc: Global, text: &[u8]) -> Result<Result<Vec<Row>, u64>,
         return Ok(Err(line));
     }
     Ok(Ok(machine.into_rows(alloc)?))
+}
+
+/// The records of a table's text up to the first one with content, which has the header.
+pub fn read_header_rows(alloc: Global, text: &[u8]) -> Result<Vec<Row>, AllocError>
+    requires { length text.now ≤ longest_text }
+    ensures { IfOk result (λ rows. kinds.first_cells (map spec.row_of rows.items)
+        ≡ kinds.header_cells text.now) }
+{
+    let text = without_mark(text);
+    let machine = scanned_to_content(alloc, delimiter_of(header_line(text)), text)?;
+    machine.into_rows(alloc)
 }

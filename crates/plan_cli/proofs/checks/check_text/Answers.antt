@@ -1,46 +1,43 @@
-use Rattle.std.proofs.Common.{List, ℕ, sym, subst}
+use Rattle.std.proofs.Common.{List, ℕ}
 use Rattle.std.proofs.lemmas.Result.{err_from_is_err_and}
-use Rattle.plan_cli.specs.CheckRun.{IsVerdictOn, TellsBadStarts}
+use Rattle.plan_sgs.specs.declared.verdict.Verdict.{Verdict}
+use Rattle.plan_table.specs.declared.kinds.ListKind.{ListKind}
+use Rattle.plan_cli.specs.CheckRun.{IsVerdictOn}
 use Rattle.plan_cli.specs.Documents.{IsOfSubject}
-use Rattle.plan_cli.specs.Tasks.{ShowsTask}
-use Rattle.plan_cli.specs.TaskViews.{IsVerdictView}
-use Rattle.plan_cli.specs.Views.{view_of}
+use Rattle.plan_cli.specs.Lists.{text_of}
+use Rattle.plan_cli.specs.Tasks.{IsLineOf}
+use Rattle.plan_cli.specs.declared.checks.Checked.{Checked}
 use Rattle.plan_cli.specs.declared.tasks.Task.TheVariants as task
-use Rattle.plan_cli.proofs.CheckLemmas.{check_shown, verdict_shown}
-use Rattle.plan_cli.proofs.DocumentLemmas.{of_subject, no_document, no_plan, no_text}
+use Rattle.plan_cli.proofs.ListLemmas.{shown_as, read_as, refused_as, reading_refused}
 use Rattle.plan_cli.proofs.checks.check_text.Goals as goal
+use Rattle.std.proofs.Common.{refl}
 
 pub returns-clause-text : goal.returns-clause-text
 returns-clause-text c =
     let a = c.args in
-    let p = c.in_ok-plan.plan in
-    let view = view_of c.in_ok-view.view in
-    let of = task.Check a.starts a.subject in
-    let shown = verdict_shown a.starts.now p c.in_ok-verdict.verdict view c.in_ok-verdict.ensures.made c.in_ok-view.ensures in
-    let is = of_subject a.subject a.file.now c.in_ok-document.document p (IsVerdictView a.starts.now)
-    view c.in_ok-document.ensures.read c.in_ok-plan.ensures.plan c.in_ok-plan.ensures.fit shown in
-    subst (λ (bytes : List ℕ). ShowsTask a.rows of a.file.now bytes) (sym c.in_ok-text.ensures)
-    (check_shown a.rows a.starts a.subject a.file.now view is)
+    let read = c.in_ok-read.read in
+    shown_as (λ (checked : Checked). checked.text.items) a.subject a.file.now (task.Check a.starts a.subject) (task.Check a.starts read.subject) a.rows c.rows_on-rows.result
+    read.kind read.subject (text_of read.made a.file.now) c.text.result.now c.checked_text.result c.in_ok-read.ensures.read refl c.rows_on-rows.ensures
+    c.text.ensures c.checked_text.ensures.text
 
 pub returns-clause-verdict : goal.returns-clause-verdict
 returns-clause-verdict c =
-    of_subject c.args.subject c.args.file.now c.in_ok-document.document c.in_ok-plan.plan (IsVerdictOn c.args.starts.now)
-    c.in_ok-verdict.verdict c.in_ok-document.ensures.read c.in_ok-plan.ensures.plan c.in_ok-plan.ensures.fit c.in_ok-verdict.ensures.made
+    let a = c.args in
+    let read = c.in_ok-read.read in
+    read_as (λ kind s bytes (checked : Checked). IsOfSubject s (IsVerdictOn a.starts.now) bytes checked.verdict) a.subject a.file.now
+    read.kind read.subject (text_of read.made a.file.now) c.text.result.now c.checked_text.result c.in_ok-read.ensures.read c.text.ensures
+    c.checked_text.ensures.verdict
 
-pub returns-in_err-document-clause-refused : goal.returns-in_err-document-clause-refused
-returns-in_err-document-clause-refused c =
+pub returns-clause-refused : goal.returns-clause-refused
+returns-clause-refused c =
+    let a = c.args in
+    let read = c.in_ok-read.read in
+    refused_as a.subject a.file.now (task.Check a.starts a.subject) (task.Check a.starts read.subject) read.kind read.subject (text_of read.made a.file.now)
+    c.text.result.now c.checked_text.result c.in_ok-read.ensures.read refl c.text.ensures c.checked_text.ensures.refused
+
+pub returns-in_err-read-clause-refused : goal.returns-in_err-read-clause-refused
+returns-in_err-read-clause-refused c =
+    let a = c.args in
     let error = err_from_is_err_and c.from_residual.result c.from_residual.ensures.1 in
-    rw (error.1, error.2) (no_document c.args.subject c.args.file.now (TellsBadStarts c.args.starts.now) c.in_err-document.field-0.0
-    c.in_err-document.ensures.refused)
-
-pub returns-in_err-plan-clause-refused : goal.returns-in_err-plan-clause-refused
-returns-in_err-plan-clause-refused c =
-    let error = err_from_is_err_and c.from_residual-in_err-plan.result c.from_residual-in_err-plan.ensures.1 in
-    rw (error.1, error.2) (no_plan c.args.subject c.args.file.now c.in_ok-document.document (TellsBadStarts c.args.starts.now)
-    c.in_err-plan.field-0.0 c.in_ok-document.ensures.read c.in_err-plan.ensures.refused)
-
-pub returns-in_err-verdict-clause-refused : goal.returns-in_err-verdict-clause-refused
-returns-in_err-verdict-clause-refused c =
-    let error = err_from_is_err_and c.from_residual-in_err-verdict.result c.from_residual-in_err-verdict.ensures.1 in
-    rw (error.1, error.2) (no_text c.args.subject c.args.file.now c.in_ok-document.document c.in_ok-plan.plan (TellsBadStarts c.args.starts.now)
-    c.in_err-verdict.field-0.0 c.in_ok-document.ensures.read c.in_ok-plan.ensures.plan c.in_ok-plan.ensures.fit c.in_err-verdict.ensures.refused)
+    rw (error.1, error.2) (reading_refused a.subject a.file.now (λ s read. IsLineOf (task.Check a.starts s) read)
+    c.in_err-read.field-0.0 c.in_err-read.ensures.refused)

@@ -1,6 +1,7 @@
 use Rattle.std.proofs.Common.{refl}
 use Rattle.plan_cli.specs.BestProjectRun.{IsBestProjectTableOf, TellsWhyNoBestProject}
-use Rattle.plan_cli.specs.Tasks.{IsTextOf, IsLineOf}
+use Rattle.plan_cli.specs.Tasks.{ShowsRead, RefusesRead}
+use Rattle.plan_cli.specs.declared.tasks.Rows.TheVariants as rows
 use Rattle.plan_cli.proofs.PlanLemmas.{best_texts, best_lines}
 use Rattle.plan_cli.proofs.RunLemmas.{front_as, text_as}
 use Rattle.plan_cli.proofs.runs.best_project_run.Goals as goal
@@ -14,8 +15,8 @@ returns g c =
     record {
       reads = e.reads;
       writes = e.writes;
-      text = text_as (IsTextOf t) (IsBestProjectTableOf name) (IsLineOf t) (TellsWhyNoBestProject name) _ _ _ _ (best_texts t _ _ is refl) (best_lines t _ _ is refl) e.text;
-      front = front_as (IsTextOf t) (IsBestProjectTableOf name) (IsLineOf t) (TellsWhyNoBestProject name) _ _ _ _ _ (best_texts t _ _ is refl) (best_lines t _ _ is refl) e.front;
+      text = text_as (ShowsRead rows.Plain t) (IsBestProjectTableOf name) (RefusesRead t) (TellsWhyNoBestProject name) _ _ _ _ (best_texts t _ _ is refl) (best_lines t _ _ is refl) e.text;
+      front = front_as (ShowsRead rows.Plain t) (IsBestProjectTableOf name) (RefusesRead t) (TellsWhyNoBestProject name) _ _ _ _ _ (best_texts t _ _ is refl) (best_lines t _ _ is refl) e.front;
       quiet = e.quiet;
       fine = e.fine;
       heard = e.heard;

@@ -1,6 +1,7 @@
 use Rattle.std.proofs.Common.{refl}
 use Rattle.plan_cli.specs.ScheduleRun.{IsScheduleTableOf, TellsWhyNoSchedule}
-use Rattle.plan_cli.specs.Tasks.{IsTextOf, IsLineOf}
+use Rattle.plan_cli.specs.Tasks.{ShowsRead, RefusesRead}
+use Rattle.plan_cli.specs.declared.tasks.Rows.TheVariants as rows
 use Rattle.plan_cli.proofs.PlanLemmas.{schedule_texts, schedule_lines}
 use Rattle.plan_cli.proofs.RunLemmas.{front_as, text_as}
 use Rattle.plan_cli.proofs.runs.schedule_run.Goals as goal
@@ -14,8 +15,8 @@ returns g c =
     record {
       reads = e.reads;
       writes = e.writes;
-      text = text_as (IsTextOf t) (IsScheduleTableOf name) (IsLineOf t) (TellsWhyNoSchedule name) _ _ _ _ (schedule_texts t _ _ is refl) (schedule_lines t _ _ is refl) e.text;
-      front = front_as (IsTextOf t) (IsScheduleTableOf name) (IsLineOf t) (TellsWhyNoSchedule name) _ _ _ _ _ (schedule_texts t _ _ is refl) (schedule_lines t _ _ is refl) e.front;
+      text = text_as (ShowsRead rows.Plain t) (IsScheduleTableOf name) (RefusesRead t) (TellsWhyNoSchedule name) _ _ _ _ (schedule_texts t _ _ is refl) (schedule_lines t _ _ is refl) e.text;
+      front = front_as (ShowsRead rows.Plain t) (IsScheduleTableOf name) (RefusesRead t) (TellsWhyNoSchedule name) _ _ _ _ _ (schedule_texts t _ _ is refl) (schedule_lines t _ _ is refl) e.front;
       quiet = e.quiet;
       fine = e.fine;
       heard = e.heard;

@@ -1,0 +1,171 @@
+-- What a command reads of a list, and of the first bytes of a file.
+use Rattle.std.proofs.Common.{◌≡◌, ◌⊎◌, inl, inr, ℕ, ◌+◌, ◌≤◌, ◌<◌, List, [], ◌∷◌, Option, Some, None, Result, Ok, Err, Vec, length, take, refl, sym, ap, ◌∙◌, subst, arith}
+use Rattle.std.specs.Prelude.{IfOk, IfErr}
+use Rattle.std.specs.Global.{Global}
+use Rattle.std.proofs.lemmas.List.{take_all, take-take}
+use Rattle.plan_psplib.specs.Plain.{longest_text, plain}
+use Rattle.plan_psplib.specs.Project.{Project, SaysProject}
+use Rattle.plan_orlib.specs.Instances.{names_of}
+use Rattle.plan_table.specs.Kinds.{IsKind, IsPlanFile, NamesInstance, kind_of_header, header_cells, header_kind}
+use Rattle.plan_table.specs.Names.{Name}
+use Rattle.plan_table.specs.declared.kinds.ListKind.{ListKind}
+use Rattle.plan_table.specs.declared.kinds.ListKind.TheVariants as kinds
+use Rattle.plan_errors.specs.declared.fault.CliFault.{CliFault}
+use Rattle.plan_errors.specs.Output.{Refuses}
+use Rattle.plan_cli.specs.Capacities.{Replaces}
+use Rattle.plan_cli.specs.declared.capacities.Capacity.{Capacity}
+use Rattle.plan_cli.specs.Lists.{IsMadeOf, RefusesList, IsSubjectOn, RefusesSubjectOn, Reads, IsReadAs, RefusesReading, ReadsAs, RefusesAs}
+use Rattle.plan_cli.specs.Tasks.{IsLineOf, ShowsTask, list_subject, with_subject, rows_on, ShowsOn, ShowsRead, RefusesOn, RefusesRead}
+use Rattle.plan_cli.specs.declared.documents.Subject.{Subject}
+use Rattle.plan_cli.specs.declared.tasks.Rows.{Rows}
+use Rattle.plan_cli.specs.declared.tasks.Task.{Task}
+use Rattle.plan_cli.proofs.RunLemmas.{HoldsByFront, refuses_as, shown_front, task_line_front, import_front, no_import_front, shop_import_front, no_shop_import_front, plain_short, project_short, whole_front}
+
+-- ---- capacities of a list of orders
+
+-- no capacity of no resource can be given
+pub none_given : (names : List Name) (given : List Capacity) (after : List ℕ) → Replaces names given [] after → given ≡ []
+none_given names [] after is = refl
+none_given names (first ∷ more) after (k, few, rest) = absurd (omega (arith, few))
+
+-- ---- refusals
+
+-- the error of a list is that of what a command reads
+pub list_refused : (of : Subject) (file : List ℕ) (kind : ListKind) (e : CliFault) → IsKind file (Some kind)
+    → Refuses (RefusesList kind file) e → Refuses (RefusesReading of file) e
+list_refused of file kind e is told = refuses_as (RefusesList kind file) (RefusesReading of file) e (λ line tells. (kind, is, inl tells)) told
+
+-- the same for a given capacity
+pub subject_refused : (of : Subject) (file text : List ℕ) (kind : ListKind) (e : CliFault) → IsKind file (Some kind) → IsMadeOf kind file text
+    → Refuses (RefusesSubjectOn kind of) e → Refuses (RefusesReading of file) e
+subject_refused of file text kind e is made told =
+    refuses_as (RefusesSubjectOn kind of) (RefusesReading of file) e (λ line tells. (kind, is, inr (text, made, tells))) told
+
+-- the error of a list comes before those of the command
+pub reading_refused : (of : Subject) (file : List ℕ) (IsLine : Subject → List ℕ → List ℕ → Type 0) (e : CliFault)
+    → Refuses (RefusesReading of file) e → Refuses (RefusesAs of file IsLine) e
+reading_refused of file IsLine e told = refuses_as (RefusesReading of file) (RefusesAs of file IsLine) e (λ line tells. inl tells) told
+
+-- the error for what is read is that of the file
+pub read_refused : (of : Subject) (file : List ℕ) (IsLine : Subject → List ℕ → List ℕ → Type 0) (kind : Option ListKind) (s : Subject)
+    (text bytes : List ℕ) (e : CliFault) → IsReadAs of file kind s text → bytes ≡ text
+    → Refuses (IsLine s bytes) e → Refuses (RefusesAs of file IsLine) e
+read_refused of file IsLine kind s text bytes e is same told =
+    refuses_as (IsLine s bytes) (RefusesAs of file IsLine) e
+    (λ line tells. inr (kind, s, text, is, subst (λ (b : List ℕ). IsLine s b line) same tells)) told
+
+-- ---- the text of a task
+
+-- what holds of what is read holds for the file
+pub read_as : {X E : Type 0} (Holds : Option ListKind → Subject → List ℕ → X → Type 0) (of : Subject) (file : List ℕ)
+    (kind : Option ListKind) (s : Subject) (text bytes : List ℕ) (result : Result X E)
+    → IsReadAs of file kind s text → bytes ≡ text → IfOk result (λ x. Holds kind s bytes x)
+    → IfOk result (λ x. ReadsAs of file (λ k u read. Holds k u read x))
+read_as Holds of file kind s text bytes (Err e) is same holds = tt
+read_as Holds of file kind s text bytes (Ok x) is same holds = (kind, s, text, is, subst (λ (b : List ℕ). Holds kind s b x) same holds)
+
+-- a text of the same task, with the same rows
+same_task : {X E : Type 0} (view : X → List ℕ) (t u : Task) (r q : Rows) (bytes : List ℕ) (result : Result X E)
+    → u ≡ t → q ≡ r → IfOk result (λ x. ShowsTask q u bytes (view x)) → IfOk result (λ x. ShowsTask r t bytes (view x))
+same_task view t u r q bytes result task rows shown =
+    subst (λ (p : Rows). IfOk result (λ x. ShowsTask p t bytes (view x))) rows
+    (subst (λ (w : Task). IfOk result (λ x. ShowsTask q w bytes (view x))) task shown)
+
+-- the text of a task for what is read is that for the file
+pub shown_as : {X E : Type 0} (view : X → List ℕ) (of : Subject) (file : List ℕ) (t u : Task) (r q : Rows) (kind : Option ListKind) (s : Subject)
+    (text bytes : List ℕ) (result : Result X E)
+    → IsReadAs of file kind s text → u ≡ with_subject t s → q ≡ rows_on kind r → bytes ≡ text
+    → IfOk result (λ x. ShowsTask q u bytes (view x))
+    → IfOk result (λ x. ShowsOn (Some of) r t file (view x))
+shown_as view of file t u r q kind s text bytes result is task rows same shown =
+    read_as (λ k w read x. ShowsTask (rows_on k r) (with_subject t w) read (view x)) of file kind s text bytes result is same
+    (same_task view (with_subject t s) u (rows_on kind r) q bytes result task rows shown)
+
+-- the error of a task for what is read is that for the file
+pub refused_as : {X : Type 0} (of : Subject) (file : List ℕ) (t u : Task) (kind : Option ListKind) (s : Subject) (text bytes : List ℕ)
+    (result : Result X CliFault)
+    → IsReadAs of file kind s text → u ≡ with_subject t s → bytes ≡ text
+    → IfErr result (Refuses (IsLineOf u bytes)) → IfErr result (Refuses (RefusesOn (Some of) t file))
+refused_as of file t u kind s text bytes (Ok v) is task same told = tt
+refused_as of file t u kind s text bytes (Err e) is task same told =
+    read_refused of file (λ w read. IsLineOf (with_subject t w) read) kind s text bytes e is same
+    (subst (λ (w : Task). Refuses (IsLineOf w bytes) e) task told)
+
+-- ---- the first bytes of a file
+
+-- a plan file isn't too long
+plan_short : (text : List ℕ) → IsPlanFile text → length text ≤ longest_text
+plan_short text (inl (p, says)) = project_short text p says
+plan_short text (inr (readable, some)) = plain_short text readable
+
+-- the front of a plan file is the file
+plan_front : (file : List ℕ) → IsPlanFile file → IsPlanFile (take (longest_text + 1) file)
+plan_front file is =
+    let short = plan_short file is in
+    subst IsPlanFile (sym (take_all (longest_text + 1) file (omega (arith, short)))) is
+
+front_plan : (file : List ℕ) → IsPlanFile (take (longest_text + 1) file) → IsPlanFile file
+front_plan file is = subst IsPlanFile (whole_front file (plan_short (take (longest_text + 1) file) is)) is
+
+-- the header in the front of a file is that of the file
+header_front : (file : List ℕ) → header_kind (take (longest_text + 1) file) ≡ header_kind file
+header_front file = ap (λ (text : List ℕ). kind_of_header (header_cells text)) (take-take longest_text (longest_text + 1) file (omega arith))
+
+-- the front of a file is a list of the kind that the file is
+kind_front : (file : List ℕ) (kind : Option ListKind) → IsKind (take (longest_text + 1) file) kind → IsKind file kind
+kind_front file None (inl none) = inl (sym (header_front file) ∙ none)
+kind_front file None (inr is) = inr (front_plan file is)
+kind_front file (Some kind) (header, no_plan) = (sym (header_front file) ∙ header, λ is. no_plan (plan_front file is))
+
+made_front : (kind : ListKind) → HoldsByFront (IsMadeOf kind)
+made_front kinds.Activities = import_front []
+made_front kinds.Orders = shop_import_front
+
+list_front : (kind : ListKind) → HoldsByFront (RefusesList kind)
+list_front kinds.Activities = no_import_front []
+list_front kinds.Orders = no_shop_import_front
+
+-- what holds of what is read of the front of a file holds of what is read of the file
+as_front : (of : Subject) (Holds : Option ListKind → Subject → List ℕ → Type 0) (file : List ℕ)
+    → ((s : Subject) → Holds None s (take (longest_text + 1) file) → Holds None s file)
+    → ReadsAs of (take (longest_text + 1) file) Holds → ReadsAs of file Holds
+as_front of Holds file whole (None, s, text, is, holds) = (
+  None,
+  s,
+  file,
+  record { kind_is = kind_front file None is.kind_is; read = (is.read.0, refl) },
+  whole s (subst (Holds None s) is.read.1 holds),
+)
+as_front of Holds file whole (Some kind, s, text, is, holds) = (
+  Some kind,
+  s,
+  text,
+  record { kind_is = kind_front file (Some kind) is.kind_is; read = (made_front kind file text is.read.0, is.read.1) },
+  holds,
+)
+
+reading_front : (of : Subject) → HoldsByFront (RefusesReading of)
+reading_front of file line (kind, is, inl tells) = (kind, kind_front file (Some kind) is, inl (list_front kind file line tells))
+reading_front of file line (kind, is, inr (text, made, tells)) =
+    (kind, kind_front file (Some kind) is, inr (text, made_front kind file text made, tells))
+
+shows_front : (of : Option Subject) (t : Task) (r : Rows) → HoldsByFront (ShowsOn of r t)
+shows_front None t r file text is = shown_front t r file text is
+shows_front (Some of) t r file text is =
+    as_front of (λ kind s read. ShowsTask (rows_on kind r) (with_subject t s) read text) file
+    (λ s shown. shown_front (with_subject t s) r file text shown) is
+
+refuses_front : (of : Option Subject) (t : Task) → HoldsByFront (RefusesOn of t)
+refuses_front None t file line told = task_line_front t file line told
+refuses_front (Some of) t file line (inl tells) = inl (reading_front of file line tells)
+refuses_front (Some of) t file line (inr is) =
+    inr (as_front of (λ kind s read. IsLineOf (with_subject t s) read line) file
+    (λ s told. task_line_front (with_subject t s) file line told) is)
+
+-- the text of a task for what is read of the front of a file is that for the file
+pub read_front : (t : Task) (r : Rows) → HoldsByFront (ShowsRead r t)
+read_front t r = shows_front (list_subject t) t r
+
+-- the line that refuses what is read of the front of a file is that for the file
+pub refused_front : (t : Task) → HoldsByFront (RefusesRead t)
+refused_front t = refuses_front (list_subject t) t

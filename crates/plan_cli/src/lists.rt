@@ -1,0 +1,151 @@
+//! Lists that a command reads as the files that `plan import` makes of them.
+
+ghost use Rattle.std.specs.Prelude.{◌≡◌, Some, [], IfOk, IfErr};
+ghost use Rattle.plan_table.specs.Kinds.{IsKind};
+ghost use Rattle.plan_errors.specs.Output.{Refuses};
+ghost use Rattle.plan_cli.specs.Capacities.{TellsUnknown};
+ghost use Rattle.plan_cli.specs.Lists as spec;
+ghost use Rattle.plan_cli.specs.Run.{IfText};
+
+use crate::capacities::{Capacity, replaced};
+use crate::documents::Subject;
+use crate::imports::{import_text, shop_import_text};
+use plan_errors::CliFault;
+use plan_table::{ListKind, list_kind};
+use std::alloc::Global;
+
+/// What a command reads: the project or the job shop in its file, or that of the file which
+/// `plan import` makes of a list.
+#[derive(Drop)]
+pub struct Reading<'a> {
+    /// The kind of the list, if the file is one.
+    pub kind: Option<ListKind>,
+    /// The project or the job shop.
+    pub subject: Subject<'a>,
+    /// The project file or the job shop file of a list.
+    pub made: Option<String>,
+}
+
+impl Reading<'_> {
+    /// Returns the text of the project file or the job shop file.
+    pub fn text<'b>(&'b self, file: &'b [u8]) -> &'b [u8]
+        ensures { result.now ≡ spec.text_of self.now.made file.now }
+    {
+        match &self.made {
+            Some(made) => made.as_bytes(),
+            None => file,
+        }
+    }
+}
+
+// Returns the file that `plan import` makes of a list.
+fn made_text(alloc: Global, kind: ListKind, file: &[u8]) -> Result<String, CliFault>
+    ensures made { IfText result (spec.IsMadeOf kind file.now) }
+    ensures refused { IfErr result (Refuses (spec.RefusesList kind file.now)) }
+{
+    match kind {
+        ListKind::Activities => import_text(alloc, &[], file),
+        ListKind::Orders => shop_import_text(alloc, file),
+    }
+}
+
+// Returns the instance of a list of orders.
+fn list_instance<'a>() -> Subject<'a>
+    ensures { spec.IsListInstance result }
+{
+    Subject::Shop("shop")
+}
+
+// Returns the instance with a name in a list of orders, whose one instance is also named `-`.
+fn instance_named(name: &str) -> Subject<'_>
+    ensures { spec.IsNamedInstance name.entry result }
+{
+    if name == "-" {
+        list_instance()
+    } else {
+        Subject::Shop(name)
+    }
+}
+
+// Returns the instance of a list of orders, unless capacities are given: a job shop has no
+// resources.
+fn open_instance<'a>(alloc: Global, given: &'a [Capacity<'a>]) -> Result<Subject<'a>, CliFault>
+    ensures made { IfOk result (spec.IsOpenInstance given.now) }
+    ensures refused { IfErr result (Refuses (TellsUnknown [] given.now [])) }
+{
+    match replaced(alloc, &[], given, &[]) {
+        Ok(_) => Ok(list_instance()),
+        Err(fault) => Err(fault),
+    }
+}
+
+// Returns the subject of a command on a list of orders.
+fn subject_on_orders<'a>(alloc: Global, subject: Subject<'a>) -> Result<Subject<'a>, CliFault>
+    ensures made { IfOk result (spec.IsSubjectOn ListKind.Orders subject.entry) }
+    ensures refused { IfErr result (Refuses
+        (spec.RefusesSubjectOn ListKind.Orders subject.entry)) }
+{
+    match subject {
+        Subject::Project(given) => open_instance(alloc, given),
+        Subject::Shop(name) => Ok(instance_named(name)),
+    }
+}
+
+// Returns the subject of a command on a list.
+fn subject_on<'a>(
+    alloc: Global,
+    kind: ListKind,
+    subject: Subject<'a>,
+) -> Result<Subject<'a>, CliFault>
+    ensures made { IfOk result (spec.IsSubjectOn kind subject.entry) }
+    ensures refused { IfErr result (Refuses (spec.RefusesSubjectOn kind subject.entry)) }
+{
+    match kind {
+        ListKind::Activities => Ok(subject),
+        ListKind::Orders => subject_on_orders(alloc, subject),
+    }
+}
+
+// Returns what a command reads of a list.
+fn readable_list<'a>(
+    alloc: Global,
+    kind: ListKind,
+    subject: Subject<'a>,
+    file: &[u8],
+) -> Result<Reading<'a>, CliFault>
+    requires { IsKind file.now (Some kind) }
+    ensures read { IfOk result (λ read. spec.IsReadAs subject.entry file.now read.kind
+        read.subject (spec.text_of read.made file.now)) }
+    ensures refused { IfErr result (Refuses (spec.RefusesReading subject.entry file.now)) }
+{
+    let made = made_text(alloc, kind, file)?;
+    let subject = subject_on(alloc, kind, subject)?;
+    Ok(Reading {
+        kind: Some(kind),
+        subject,
+        made: Some(made),
+    })
+}
+
+/// Returns what a command reads in a file. A list is read as the file that `plan import` makes of
+/// it. A list of orders has one instance, which needs no name or has the name `-`. Errors of a list
+/// are those of `plan import`, then `S8` (a capacity for a list of orders).
+pub fn readable<'a>(
+    alloc: Global,
+    subject: Subject<'a>,
+    file: &[u8],
+) -> Result<Reading<'a>, CliFault>
+    ensures read { IfOk result (λ read. spec.IsReadAs subject.entry file.now read.kind
+        read.subject (spec.text_of read.made file.now)) }
+    ensures refused { IfErr result (Refuses (spec.RefusesReading subject.entry file.now)) }
+{
+    let kind = list_kind(alloc, file)?;
+    match kind {
+        Some(kind) => readable_list(alloc, kind, subject, file),
+        None => Ok(Reading {
+            kind: None,
+            subject,
+            made: None,
+        }),
+    }
+}

@@ -1,0 +1,224 @@
+#!/usr/bin/env python3
+"""Hands lists in where commands take a project or a job shop file. Each command answers for a list as
+for the file that `plan import` makes of it, with the names; a list that `plan import` refuses is
+refused with the same line. Commands that read no lists refuse them as before.
+
+    tests/trials/lists.py               200 lists; prints nothing on success
+    tests/trials/lists.py CASES SEED    so many, drawn from this seed
+
+A list is drawn with names, quotes, blanks and all three delimiters; one in four is damaged at some
+byte. The program is the one that ./plan runs, or the one that PLAN_PROGRAM names.
+"""
+
+import collections
+import os
+import sys
+import tempfile
+from random import Random
+
+sys.dont_write_bytecode = True
+sys.path.insert(0, os.path.dirname(os.path.abspath(__file__)))
+
+from answers import plan, same, written
+from drawing import Draw
+from drawing.words import PROJECT_RULES, SHOP_RULES
+from holidays import MARKS, STARTS
+from tables import BLANKS, COLUMNS, damaged, drawn_table, records
+
+# The commands that need the file of a project or of a job shop.
+PLAIN = (["cpm"], ["schedule", "lft"], ["best-project", "100"])
+SHOP_PLAIN = (["shop", "mwkr"], ["best", "100"], ["prove", "100"])
+
+
+# ---- what is drawn
+
+
+def orders_text(draw):
+    """A list of orders, mostly a good one."""
+    lines = [draw.pick(("order,machine,time", "Order, Machine ,TIME", "order,machine,time,machine,time"))]
+    for order in draw.pick((("A",), ("A", "B"), ("Büro", "Lager, süd", "C"), ("a b",))):
+        shown = f'"{order}"' if "," in order else order
+        for machine in draw.random.sample(("saw", "press", "Ofen"), draw.number(1, 3)):
+            lines.append(f"{shown},{machine},{draw.pick(('1', '2', '3', '5', '0', '4', '10001', 'x'))}")
+    for _ in range(draw.pick((0, 0, 1, 2))):
+        lines.insert(0, draw.pick(("", ",,", " , ,")))
+    return "\n".join(lines) + "\n"
+
+
+def drawn_list(draw, is_shop):
+    """A list, and whether it was damaged."""
+    data = (orders_text(draw) if is_shop else drawn_table(draw.random)[0]).encode()
+    return damaged(draw.random, data) if draw.chance(0.25) else data
+
+
+# ---- the kind of a list, by its header
+
+
+def delimiter_of(text):
+    """The delimiter of a text: the first of tab, semicolon and comma in its first line with content."""
+    for line in text.split("\n"):
+        if line.strip(BLANKS):
+            return next((mark for mark in "\t;" if mark in line), ",")
+    return ","
+
+
+def kind_of(data):
+    """The kind of list that a text is by its header: `activities`, `orders` or none. Of a header in
+    which a quote isn't closed it is unknown."""
+    text = data.removeprefix(b"\xef\xbb\xbf").decode("latin-1")
+    for _, cells in records(text, delimiter_of(text)):
+        if cells is None:
+            return "unknown"
+        keys = [cell.strip(BLANKS).lower() for cell in cells]
+        if any(keys):
+            if "duration" in [COLUMNS.get(key) for key in keys]:
+                return "activities"
+            return "orders" if {"order", "machine"} <= set(keys) else "none"
+    return "none"
+
+
+# ---- commands
+
+
+def rows_of(draw):
+    """Options of the rows for a list, and those with which its project file gives the same."""
+    return draw.pick((
+        ([], ["--names"]),
+        (["--names"], ["--names"]),
+        (["--format", "csv"], ["--format", "csv"]),
+        (["--format", "json"], ["--format", "json"]),
+    ))
+
+
+def named_commands(draw, is_shop, starts):
+    """The commands that print rows with names: their words up to FILE, and those behind INSTANCE."""
+    rule = draw.pick(SHOP_RULES if is_shop else PROJECT_RULES)
+    found = [
+        (["solve", "--conflicts", "50"], []),
+        (["chart", rule], []),
+        (["chart", "--solve", "--seconds", "10"], []),
+        (["days", rule, STARTS[0], MARKS[0]], []),
+        (["compare"], [starts, starts]),
+    ]
+    return found if is_shop else [*found, (["slack"], [starts])]
+
+
+def plain_commands(draw, is_shop, starts):
+    """The commands whose output has names without an option, or none."""
+    rule = draw.pick(SHOP_RULES if is_shop else PROJECT_RULES)
+    return [
+        (["check"], [starts]),
+        (["check", "--status"], [starts]),
+        (["days", "--format", "ics", rule, STARTS[0], MARKS[0]], []),
+        (["report", "--title", "list"], []),
+        (["report", "--title", "list", "--start", "2024-03-01"], []),
+        (["report", "--title", "list", "--solve"], []),
+        (["chart", "--svg", rule], []),
+    ]
+
+
+def words_on(command, file, instance, options=()):
+    """The words of a command on a file."""
+    front, behind = command
+    return [front[0], *options, *front[1:], file, *behind, *instance]
+
+
+def starts_table(folder, is_shop, made):
+    """A file of starts: those of a schedule by a rule, if there is one."""
+    words = ["shop", "mwkr", made, "shop"] if is_shop else ["schedule", "lft", made]
+    return written(folder, "starts", plan(folder, *words)[1] or b"0\n")
+
+
+def compare_command(what, folder, command, instances, options, made_folder):
+    """That a command answers for a list as for the file that is made of it."""
+    named, plainly = options
+    own, other = instances
+    found = plan(folder, *words_on(command, "list.csv", own, named))
+    same(f"{what}: {command}", found, plan(made_folder, *words_on(command, "list.csv", other, plainly)))
+
+
+def capacities_of(draw, is_shop):
+    """Options with capacities by name, at times of a resource that the list lacks."""
+    if is_shop or draw.chance(0.7):
+        return []
+    return [f"--capacity={draw.pick(('crew0', 'digger1', 'R1', 'none'))}={draw.number(0, 9)}"]
+
+
+def try_made(draw, what, folder, is_shop, made):
+    """Compares the commands on a list of which a file can be made."""
+    made_folder = os.path.join(folder, "made")
+    os.makedirs(made_folder, exist_ok=True)
+    written(made_folder, "list.csv", made)
+    starts = starts_table(made_folder, is_shop, "list.csv")
+    with open(os.path.join(made_folder, starts), "rb") as file:
+        written(folder, starts, file.read())
+    own = draw.pick(([], ["-"], ["shop"])) if is_shop else []
+    other = ["shop"] if is_shop else []
+    for command in named_commands(draw, is_shop, starts):
+        named, plainly = rows_of(draw)
+        given = [] if command[0][0] == "compare" else capacities_of(draw, is_shop)
+        compare_command(what, folder, command, (own, other), (named + given, plainly + given), made_folder)
+    for command in plain_commands(draw, is_shop, starts):
+        if command[0][:2] == ["chart", "--svg"] and is_shop:
+            own = ["shop"]
+        compare_command(what, folder, command, (own, other), ([], []), made_folder)
+
+
+def try_refused(what, folder, is_shop, answer):
+    """That the commands refuse a list with the line of `plan import`."""
+    starts = written(folder, "starts", b"0\n")
+    rule = "mwkr" if is_shop else "lft"
+    commands = [(["solve"], []), (["chart", rule], []), (["days", rule, STARTS[0], MARKS[0]], []), (["report"], [])]
+    for command in [*commands, (["check"], [starts]), (["check", "--status"], [starts]), (["slack"], [starts])]:
+        same(f"{what}: {command}", plan(folder, *words_on(command, "list.csv", [])), answer)
+
+
+def try_plain(what, folder, is_shop):
+    """That the commands that read no lists refuse a list with an error of its file."""
+    for words in SHOP_PLAIN if is_shop else PLAIN:
+        instance = ["shop"] if is_shop else []
+        status, output, errors = plan(folder, *words, "list.csv", *instance)
+        same(f"{what}: {words}", (status, output, errors[:1]), (1, b"", b"F"))
+
+
+def try_list(draw, folder):
+    is_shop = draw.chance(0.4)
+    data = drawn_list(draw, is_shop)
+    what, kind = f"{data!r}"[:3000], kind_of(data)
+    written(folder, "list.csv", data)
+    if kind == "unknown":
+        return kind
+    try_plain(what, folder, is_shop)
+    if kind == "none":
+        status, output, errors = plan(folder, "solve", "list.csv")
+        same(f"{what}: solve", (status, output, errors[:1]), (1, b"", b"F"))
+        return kind
+    is_shop = kind == "orders"
+    answer = plan(folder, "import", *(["--shop"] if is_shop else []), "list.csv")
+    if answer[0]:
+        try_refused(what, folder, is_shop, answer)
+        return f"refused {kind}"
+    try_made(draw, what, folder, is_shop, answer[1])
+    return kind
+
+
+def try_capacity_of_orders():
+    """That a capacity for a list of orders is refused, since a job shop has no resources."""
+    with tempfile.TemporaryDirectory() as folder:
+        written(folder, "list.csv", b"order,machine,time\nA,saw,2\n")
+        found = plan(folder, "solve", "--capacity", "saw=2", "list.csv")
+        same("a capacity for orders", found, (1, b"", b"S8 no resource saw\n"))
+
+
+def try_lists(cases=200, seed=1, is_verbose=False):
+    draw, tally = Draw(Random(seed)), collections.Counter()
+    try_capacity_of_orders()
+    with tempfile.TemporaryDirectory() as folder:
+        for _ in range(cases):
+            tally[try_list(draw, folder)] += 1
+    if is_verbose:
+        print(f"{cases} lists by seed {seed}: {dict(tally)}")
+
+
+if __name__ == "__main__":
+    try_lists(*map(int, sys.argv[1:]), is_verbose=True)
