@@ -26,7 +26,7 @@ use Rattle.plan_cli.proofs.RunLemmas.{HoldsByFront, refuses_as, shown_front, tas
 -- no capacity of no resource can be given
 pub none_given : (names : List Name) (given : List Capacity) (after : List ℕ) → Replaces names given [] after → given ≡ []
 none_given names [] after is = refl
-none_given names (first ∷ more) after (k, few, rest) = absurd (omega (arith, few))
+none_given names (first ∷ more) after (k, few, is, rest) = absurd (omega (arith, few))
 
 -- ---- refusals
 
