@@ -186,18 +186,30 @@ SUBJECTS = [
     ("check nowhere.sm good.txt", "I1", "nowhere.sm: a file can't be read"),
     ("compare nowhere.sm nowhere.txt .", "I1", "nowhere.txt: a file can't be read"),
     ("compare p.sm . nowhere.txt", "I1", ".: a file can't be read"),
-    ("report --starts good.txt --start 2024-03-01 --holidays . p.sm", "I1", ".: a file can't be read"),
+    (
+        "report --starts good.txt --start 2024-03-01 --holidays . p.sm",
+        "I1",
+        ".: a file can't be read",
+    ),
     ("verify p.sm nowhere.log", "I1", "nowhere.log: a file can't be read"),
     ("verify nowhere.sm good.txt", "I1", "nowhere.sm: a file can't be read"),
     ("chart --starts early.txt wired.sm", "S10", "early.txt: Wiring starts before Demolition ends"),
-    ("report --starts early.txt wired.sm", "S10", "early.txt: Wiring starts before Demolition ends"),
+    (
+        "report --starts early.txt wired.sm",
+        "S10",
+        "early.txt: Wiring starts before Demolition ends",
+    ),
     ("slack wired.sm early.txt", "S10", "early.txt: Wiring starts before Demolition ends"),
     (
         "days --format ics --starts early.txt 2024-03-01 1111100 wired.sm",
         "S10",
         "early.txt: Wiring starts before Demolition ends",
     ),
-    ("chart --starts before.txt wired.sm", "S10", "before.txt: Demolition starts before activity 1 ends"),
+    (
+        "chart --starts before.txt wired.sm",
+        "S10",
+        "before.txt: Demolition starts before activity 1 ends",
+    ),
     (
         "chart --starts both.txt --capacity crew=1 wired.sm",
         "S10",
@@ -217,7 +229,11 @@ SUBJECTS = [
     ),
     ("chart --starts clash.txt shops.txt -", "S10", "clash.txt: the start times aren't feasible"),
     ("import bad.csv", "T5", "bad.csv: \"4 weeks\" isn't a whole number of at most 10000"),
-    ("import --shop bad.orders.csv", "T5", "bad.orders.csv: \"x\" isn't a whole number of at most 10000"),
+    (
+        "import --shop bad.orders.csv",
+        "T5",
+        "bad.orders.csv: \"x\" isn't a whole number of at most 10000",
+    ),
     ("import empty.csv", "T5", "empty.csv: a duration isn't a number"),
     ("cpm list.csv", "F3", "list.csv: this is a list of activities; plan import converts it"),
     (
