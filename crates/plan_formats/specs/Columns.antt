@@ -27,7 +27,6 @@ is_label (layout.Right places) = false
 is_label layout.Mark = false
 is_label layout.Label = true
 is_label layout.Line = false
-is_label layout.Hidden = false
 
 -- the column is a whole line
 abbrev pub is_line : Layout → Bool
@@ -35,7 +34,6 @@ is_line (layout.Right places) = false
 is_line layout.Mark = false
 is_line layout.Label = false
 is_line layout.Line = true
-is_line layout.Hidden = false
 
 -- the mark of a row whose cell is the flag `true`
 abbrev pub mark_of : Cell → List ℕ
@@ -46,14 +44,12 @@ mark_of (text t) = []
 mark_of (flag b) = if b then codes " *" else []
 mark_of empty = []
 
--- a cell at the place of its column; a label stands behind the row, not in it, and a cell of a
--- hidden column has no place
+-- a cell at the place of its column; a label stands behind the row, not in it
 abbrev pub placed : Layout → Cell → List ℕ
 placed (layout.Right places) cell = column places (text_of cell)
 placed layout.Mark cell = mark_of cell
 placed layout.Label cell = []
 placed layout.Line cell = text_of cell
-placed layout.Hidden cell = []
 
 -- a heading at the place of its column: only columns that are aligned right have one in the row
 abbrev pub placed_heading : Layout → List ℕ → List ℕ
@@ -61,4 +57,3 @@ placed_heading (layout.Right places) heading = column places heading
 placed_heading layout.Mark heading = []
 placed_heading layout.Label heading = []
 placed_heading layout.Line heading = []
-placed_heading layout.Hidden heading = []

@@ -12,8 +12,6 @@ pub enum Layout {
     Label,
     /// The text of the cell. A table with such a column has no line of headings.
     Line,
-    /// No place in the text. CSV and JSON have the column.
-    Hidden,
 }
 
 /// A column: its heading in the text, in CSV and in JSON, and its word, a second name in JSON.
