@@ -1,5 +1,5 @@
 -- The kind of list that a text is, by its header.
-use Rattle.std.specs.Prelude.{◌≡◌, ◌⊎◌, ◌≤◌, ℕ, Bool, true, false, if◌then◌else◌, List, [], ◌∷◌, Option, Some, None, Ok, codes, length, not, slice_get, take}
+use Rattle.std.specs.Prelude.{◌≡◌, ◌⊎◌, ◌≤◌, ◌||◌, ℕ, Bool, true, false, if◌then◌else◌, List, [], ◌∷◌, Option, Some, None, Ok, codes, length, not, slice_get, take}
 use Rattle.std.specs.List.{list_any}
 use Rattle.plan_psplib.specs.Plain.{longest_text, plain}
 use Rattle.plan_psplib.specs.Project.{Project, SaysProject}
@@ -11,7 +11,10 @@ use Rattle.plan_table.specs.declared.kinds.ListKind.TheVariants as kinds
 use Rattle.plan_table.specs.Cells.{same}
 use Rattle.plan_table.specs.Csv.{Row, read_of, rows_at_end, without_mark}
 use Rattle.plan_table.specs.Entries.{filled_from, is_blank_row}
-use Rattle.plan_table.specs.Header.{key_of}
+use Rattle.plan_table.specs.declared.header.Column.{Column}
+use Rattle.plan_table.specs.declared.header.Column.TheVariants as columns
+use Rattle.plan_table.specs.Header.{key_of, same_kind}
+use Rattle.plan_table.specs.Synonyms.{synonym_kind}
 
 -- the cells of the first of some records
 abbrev pub cells_of_first : List Row → List (List ℕ)
@@ -43,6 +46,19 @@ header_cells text = first_cells (rows_at_end (read_of (without_mark text)))
 abbrev pub has_header : List ℕ → List (List ℕ) → Bool
 has_header key cells = list_any (λ cell. same (key_of cell) key) cells
 
+-- a kind of column is that of the durations
+abbrev pub is_duration : Option Column → Bool
+is_duration None = false
+is_duration (Some kind) = same_kind columns.Duration kind
+
+-- a header is `duration`, or another word for it
+abbrev pub is_duration_key : List ℕ → Bool
+is_duration_key key = same key (codes "duration") || is_duration (synonym_kind key)
+
+-- a cell is a header of durations
+abbrev pub has_duration : List (List ℕ) → Bool
+has_duration cells = list_any (λ cell. is_duration_key (key_of cell)) cells
+
 -- two cells are these headers
 abbrev pub has_headers : List ℕ → List ℕ → List (List ℕ) → Bool
 has_headers first second cells =
@@ -51,7 +67,7 @@ has_headers first second cells =
 -- the kind of list with a header: activities have durations, orders have machines
 abbrev pub kind_of_header : List (List ℕ) → Option ListKind
 kind_of_header cells =
-    if has_header (codes "duration") cells then Some kinds.Activities
+    if has_duration cells then Some kinds.Activities
     else if has_headers (codes "order") (codes "machine") cells then Some kinds.Orders
     else None
 

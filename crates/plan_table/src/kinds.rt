@@ -7,8 +7,9 @@ ghost use Rattle.plan_table.specs.Kinds as spec;
 
 use crate::cells::same;
 use crate::entries::filled_from;
-use crate::header::key_of;
+use crate::header::{Column, key_of, same_kind};
 use crate::records::read_header_rows;
+use crate::synonyms::synonym_kind;
 use plan_orlib::names;
 use plan_psplib::{FileCode, FileFault, LONGEST_TEXT, read_sm};
 use std::alloc::{AllocError, Global};
@@ -29,6 +30,36 @@ fn has_header(alloc: Global, cells: &[Vec<u8>], key: &[u8]) -> Result<bool, Allo
 {
     for cell in cells {
         if same(&key_of(alloc, cell)?, key) {
+            return Ok(true);
+        }
+    }
+    Ok(false)
+}
+
+// Whether a kind of column is that of the durations.
+fn is_duration(kind: Option<Column>) -> bool
+    ensures { result ≡ spec.is_duration kind }
+{
+    match kind {
+        Some(kind) => same_kind(Column::Duration, kind),
+        None => false,
+    }
+}
+
+// Whether a header is `duration`, or another word for it.
+fn is_duration_key(key: &[u8]) -> bool
+    ensures { result ≡ spec.is_duration_key key.now }
+{
+    same(key, b"duration") || is_duration(synonym_kind(key))
+}
+
+// Whether a cell is a header of durations.
+fn has_duration(alloc: Global, cells: &[Vec<u8>]) -> Result<bool, AllocError>
+    ensures { IfOk result (λ has. has
+        ≡ spec.has_duration (map (λ cell. cell.items) cells.now)) }
+{
+    for cell in cells {
+        if is_duration_key(&key_of(alloc, cell)?) {
             return Ok(true);
         }
     }
@@ -56,7 +87,7 @@ fn kind_of_header(alloc: Global, cells: &[Vec<u8>]) -> Result<Option<ListKind>, 
     ensures { IfOk result (λ kind. kind
         ≡ spec.kind_of_header (map (λ cell. cell.items) cells.now)) }
 {
-    if has_header(alloc, cells, b"duration")? {
+    if has_duration(alloc, cells)? {
         return Ok(Some(ListKind::Activities));
     }
     if has_headers(alloc, cells, b"order", b"machine")? {
@@ -132,8 +163,8 @@ fn is_plan_file(alloc: Global, text: &[u8]) -> Result<bool, AllocError>
     names_instance(alloc, text)
 }
 
-/// Returns the kind of list that a text is: its header has `duration`, or `order` and `machine`, in
-/// whatever case. A project file and a job shop file are no lists. A list can have errors. The
+/// Returns the kind of list that a text is: its header has `duration` or another word for it, or
+/// `order` and `machine`, in whatever case. A project file and a job shop file are no lists. A list can have errors. The
 /// header is the first record with content; no more is read of a text without such a header.
 pub fn list_kind(alloc: Global, text: &[u8]) -> Result<Option<ListKind>, AllocError>
     ensures kind { IfOk result (spec.IsKind text.now) }

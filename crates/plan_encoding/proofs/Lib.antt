@@ -1,4 +1,0 @@
-pub mod EncodingLemmas
-pub mod Windows1252Lemmas
-pub mod Utf16Lemmas
-pub mod RoundTripLemmas
