@@ -6,7 +6,7 @@ use Rattle.plan_table.specs.Csv.{Row}
 use Rattle.plan_table.specs.Header.{Head}
 use Rattle.plan_table.specs.Overrides.{Override}
 use Rattle.plan_table.specs.Synonyms.{synonym_kind}
-use Rattle.plan_table.specs.Settlement.{Body, AreLimited, LimitedColumnsStay, has_capacity, has_text, ids_place, open_column, other_column, settled_at, settled_by, settled_head}
+use Rattle.plan_table.specs.Settlement.{Body, AreLimited, LimitedColumnsStay, has_capacity, ids_place, open_column, other_column, settled_at, settled_by, settled_head}
 
 -- a known header says what its column is
 stays_by : (column other : Column) → (column ≡ columns.Resource → other ≡ columns.Resource) → settled_by column other ≡ column
@@ -23,7 +23,7 @@ limited_other : (body : Body) (before : List Head) (k : ℕ) (head : Head) (behi
     other_column body before k head behind ≡ columns.Resource
 unfolding other_column
 limited_other body before k head behind limited =
-    ap (λ b. cond b columns.Resource (open_column (synonym_kind head.key) before behind (has_text body.rows k))) limited
+    ap (λ b. cond b columns.Resource (open_column (synonym_kind head.key) before behind head.key)) limited
 
 head_stays : (body : Body) (before : List Head) (k : ℕ) (head : Head) (behind : List Head) → (head.column ≡ columns.Resource → has_capacity body k head ≡ true) →
     settled_head body before k head behind ≡ head

@@ -3,7 +3,6 @@
 use Rattle.std.specs.Prelude.{◌≡◌, ℕ, ◌+◌, ◌==◌, ◌&&◌, ◌||◌, Bool, true, false, if◌then◌else◌, List, [], ◌∷◌, ◌++◌, Option, Some, None, Result, Ok, length, map, drop, not, is_some}
 use Rattle.std.specs.List.{list_any}
 use Rattle.plan_psplib.specs.Lines.{trim}
-use Rattle.plan_psplib.specs.Numbers.{number}
 use Rattle.plan_table.specs.declared.header.Column.{Column}
 use Rattle.plan_table.specs.declared.header.Column.TheVariants as columns
 use Rattle.plan_table.specs.declared.settlement.Body as declared
@@ -13,7 +12,7 @@ use Rattle.plan_table.specs.Header.{Head, same_kind, has_kind, heads_at, heads_c
 use Rattle.plan_table.specs.Rows.{first_cell}
 use Rattle.plan_table.specs.Entries.{id_of, id_place, is_capacity}
 use Rattle.plan_table.specs.Overrides.{Override, given, or_row, override_of}
-use Rattle.plan_table.specs.Synonyms.{synonym_kind}
+use Rattle.plan_table.specs.Synonyms.{is_note_word, synonym_kind}
 
 -- what settles columns: the given capacities, the rows behind the header, and where the ids are
 pub record Body : Type 0 where
@@ -53,14 +52,6 @@ abbrev pub has_capacity : Body → ℕ → Head → Bool
 has_capacity body k head =
     is_given body.overrides head || (not (is_place body.place k) && list_any (gives_capacity body.place k) body.rows)
 
--- a cell has content that isn't a number
-abbrev pub is_text : List ℕ → Bool
-is_text cell = not (length cell == 0) && not (is_some (number cell))
-
--- some cell of column k has content that isn't a number
-abbrev pub has_text : List Row → ℕ → Bool
-has_text rows k = list_any (λ row. is_text (cell_of k row)) rows
-
 -- ---- the column of the ids
 
 abbrev pub is_id_kind : Option Column → Bool
@@ -82,24 +73,24 @@ ids_place overrides heads = or_row (id_place heads) (ids_from overrides 0 heads)
 
 -- ---- what a column is
 
--- a column without a capacity is ignored if it isn't a column of numbers
-abbrev pub note_or_resource : Bool → Column
-note_or_resource text = if text then columns.Note else columns.Resource
+-- a column without a capacity is ignored if its header is a word for a note
+abbrev pub note_or_resource : List ℕ → Column
+note_or_resource key = if is_note_word key then columns.Note else columns.Resource
 
 -- no other column is of a kind: none before it, as it is settled, and none behind it by its header
 abbrev pub is_new : Column → List Head → List Head → Bool
 is_new kind before behind = not (has_kind kind before || has_kind kind behind)
 
 -- a column without a capacity is what its header is a synonym for, if no other column is that
-abbrev pub open_column : Option Column → List Head → List Head → Bool → Column
-open_column None before behind text = note_or_resource text
-open_column (Some kind) before behind text = if is_new kind before behind then kind else note_or_resource text
+abbrev pub open_column : Option Column → List Head → List Head → List ℕ → Column
+open_column None before behind key = note_or_resource key
+open_column (Some kind) before behind key = if is_new kind before behind then kind else note_or_resource key
 
 -- what column k is if its header isn't a known one: with a capacity it is a resource
 unfoldable pub other_column : Body → List Head → ℕ → Head → List Head → Column
 other_column body before k head behind =
     if has_capacity body k head then columns.Resource
-    else open_column (synonym_kind head.key) before behind (has_text body.rows k)
+    else open_column (synonym_kind head.key) before behind head.key
 
 -- a known header alone says what its column is
 abbrev pub settled_by : Column → Column → Column

@@ -1,10 +1,11 @@
 -- Words for kinds of columns, in lower case. A letter that isn't ASCII is written as its UTF-8
 -- bytes.
-use Rattle.std.specs.Prelude.{ℕ, if◌then◌else◌, List, [], ◌∷◌, ◌++◌, Option, Some, None, codes}
+use Rattle.std.specs.Prelude.{ℕ, Bool, if◌then◌else◌, List, [], ◌∷◌, ◌++◌, Option, Some, None, codes}
 use Rattle.plan_table.specs.declared.header.Column.{Column}
 use Rattle.plan_table.specs.declared.header.Column.TheVariants as columns
 use Rattle.plan_table.specs.declared.synonyms.Synonym as declared
-use Rattle.plan_table.specs.Cells.{same}
+use Rattle.std.specs.List.{list_any}
+use Rattle.plan_table.specs.Cells.{same, same_name}
 
 -- a word for a kind of column
 pub record Synonym : Type 0 where
@@ -27,7 +28,7 @@ name word = record { kind = columns.Name; word = word }
 abbrev pub predecessors : List ℕ → Synonym
 predecessors word = record { kind = columns.Predecessors; word = word }
 
--- é, ó, â and ä
+-- é, ó, â, ä and û
 abbrev pub e_acute : List ℕ
 e_acute = 0xC3 ∷ 0xA9 ∷ []
 
@@ -39,6 +40,9 @@ a_circumflex = 0xC3 ∷ 0xA2 ∷ []
 
 abbrev pub a_umlaut : List ℕ
 a_umlaut = 0xC3 ∷ 0xA4 ∷ []
+
+abbrev pub u_circumflex : List ℕ
+u_circumflex = 0xC3 ∷ 0xBB ∷ []
 
 -- the words in English, German, French and Spanish
 abbrev pub synonyms : List Synonym
@@ -78,6 +82,66 @@ synonyms =
     ∷ predecessors (codes "predecesseurs")
     ∷ predecessors (codes "predecesoras")
     ∷ []
+
+-- words for columns that a plan doesn't use
+abbrev pub note_words : List (List ℕ)
+note_words =
+    codes "note"
+    ∷ codes "notes"
+    ∷ codes "remark"
+    ∷ codes "remarks"
+    ∷ codes "comment"
+    ∷ codes "comments"
+    ∷ codes "description"
+    ∷ codes "details"
+    ∷ codes "status"
+    ∷ codes "priority"
+    ∷ codes "start"
+    ∷ codes "finish"
+    ∷ codes "start date"
+    ∷ codes "finish date"
+    ∷ codes "begin date"
+    ∷ codes "end date"
+    ∷ codes "due date"
+    ∷ codes "completion"
+    ∷ codes "% complete"
+    ∷ codes "cost"
+    ∷ codes "coordinator"
+    ∷ codes "responsible"
+    ∷ codes "owner"
+    ∷ codes "assignee"
+    ∷ codes "web link"
+    ∷ codes "bemerkung"
+    ∷ codes "bemerkungen"
+    ∷ codes "notiz"
+    ∷ codes "notizen"
+    ∷ codes "kommentar"
+    ∷ codes "kommentare"
+    ∷ codes "beschreibung"
+    ∷ codes "anfang"
+    ∷ codes "ende"
+    ∷ codes "kosten"
+    ∷ codes "verantwortlich"
+    ∷ codes "remarque"
+    ∷ codes "remarques"
+    ∷ codes "commentaire"
+    ∷ codes "commentaires"
+    ∷ (codes "d" ++ e_acute ++ codes "but")
+    ∷ codes "fin"
+    ∷ (codes "co" ++ u_circumflex ++ codes "t")
+    ∷ codes "responsable"
+    ∷ codes "nota"
+    ∷ codes "notas"
+    ∷ codes "comentario"
+    ∷ codes "comentarios"
+    ∷ (codes "descripci" ++ o_acute ++ codes "n")
+    ∷ codes "inicio"
+    ∷ codes "coste"
+    ∷ []
+
+-- a header is a word for a column that a plan doesn't use
+abbrev pub is_note_word : List ℕ → Bool
+is_note_word key = list_any (λ word. same_name word key) note_words
 
 -- the kind of the first of some synonyms with this word
 abbrev pub kind_in : List ℕ → List Synonym → Option Column

@@ -25,8 +25,8 @@ const DAY_WORDS: [&[u8]; 9] = [
     b"d\xc3\xadas",
 ];
 
-// Whether a text is among words, without regard to ASCII case.
-fn is_among(words: &[&[u8]], text: &[u8]) -> bool
+/// Whether a text is among words, without regard to ASCII case.
+pub fn is_among(words: &[&[u8]], text: &[u8]) -> bool
     ensures { result ≡ list_any (λ word. cells.same_name word text.now)
         (map (λ word. word.now) words.now) }
 {

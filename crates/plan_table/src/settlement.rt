@@ -14,8 +14,8 @@ use crate::fault::ReadError;
 use crate::header::{Column, Head, check_heads, has_kind, read_heads, same_kind};
 use crate::overrides::{Override, given};
 use crate::records::Row;
-use crate::synonyms::synonym_kind;
-use plan_psplib::{number, trim};
+use crate::synonyms::{is_note_word, synonym_kind};
+use plan_psplib::trim;
 use std::alloc::{AllocError, Global};
 
 /// What settles columns: the given capacities, the rows behind the header, and where the ids are.
@@ -87,25 +87,6 @@ fn has_capacity(body: &Body<'_>, k: usize, head: &Head) -> bool
         || !is_place(body.place, k) && any_capacity(body.rows, body.place, k)
 }
 
-// Whether a cell has content that isn't a number.
-fn is_text(cell: &[u8]) -> bool
-    ensures { result ≡ spec.is_text cell.now }
-{
-    !cell.is_empty() && number(cell).is_none()
-}
-
-// Whether some cell of column `k` has content that isn't a number.
-fn has_text(rows: &[Row], k: usize) -> bool
-    ensures { result ≡ spec.has_text (map row_of rows.now) k }
-{
-    for row in rows {
-        if is_text(cell_of(row, k)) {
-            return true;
-        }
-    }
-    false
-}
-
 // Whether a column's header is a synonym for `id`, and no capacity is given for it.
 fn can_have_ids(overrides: &[Override<'_>], head: &Head) -> bool
     ensures { result ≡ spec.can_have_ids (map override_of overrides.now) (head_of head.now) }
@@ -138,11 +119,15 @@ fn ids_place(overrides: &[Override<'_>], heads: &[Head]) -> Option<usize>
     }
 }
 
-// What a column without a capacity and without a kind is.
-fn note_or_resource(text: bool) -> Column
-    ensures { result ≡ spec.note_or_resource text }
+// What a column without a capacity and without another kind is.
+fn note_or_resource(key: &[u8]) -> Column
+    ensures { result ≡ spec.note_or_resource key.now }
 {
-    if text { Column::Note } else { Column::Resource }
+    if is_note_word(key) {
+        Column::Note
+    } else {
+        Column::Resource
+    }
 }
 
 // Whether no other column is of a kind: none before it, and none behind it.
@@ -163,7 +148,7 @@ fn other_column(body: &Body<'_>, before: &[Head], k: usize, head: &Head, behind:
     }
     match synonym_kind(&head.key) {
         Some(kind) if is_new(kind, before, behind) => kind,
-        _ => note_or_resource(has_text(body.rows, k)),
+        _ => note_or_resource(&head.key),
     }
 }
 
@@ -226,7 +211,7 @@ fn settle(
 ///
 /// The headers of durations, ids, names and predecessors are known. Another column with a capacity,
 /// in its row or given, is a resource. One without a capacity is what its header is a synonym for if
-/// no other column is that; otherwise it is a note if one of its cells isn't a number. All others are
+/// no other column is that; otherwise it is a note if its header is a word for one. All others are
 /// resources.
 #[tactic(auto, unfolding(crate::specs::Settlement::header))]
 pub fn read_header(

@@ -4,6 +4,7 @@ ghost use Rattle.std.specs.Prelude.{◌≡◌, map};
 ghost use Rattle.plan_table.specs.Synonyms as spec;
 
 use crate::cells::same;
+use crate::durations::is_among;
 use crate::header::Column;
 
 /// A word for a kind of column, in lower case.
@@ -170,4 +171,66 @@ pub fn synonym_kind(key: &[u8]) -> Option<Column>
     ensures { result ≡ spec.synonym_kind key.now }
 {
     kind_in(&SYNONYMS, key)
+}
+
+/// Words for columns that a plan doesn't use, in English, German, French and Spanish.
+const NOTE_WORDS: [&[u8]; 51] = [
+    b"note",
+    b"notes",
+    b"remark",
+    b"remarks",
+    b"comment",
+    b"comments",
+    b"description",
+    b"details",
+    b"status",
+    b"priority",
+    b"start",
+    b"finish",
+    b"start date",
+    b"finish date",
+    b"begin date",
+    b"end date",
+    b"due date",
+    b"completion",
+    b"% complete",
+    b"cost",
+    b"coordinator",
+    b"responsible",
+    b"owner",
+    b"assignee",
+    b"web link",
+    b"bemerkung",
+    b"bemerkungen",
+    b"notiz",
+    b"notizen",
+    b"kommentar",
+    b"kommentare",
+    b"beschreibung",
+    b"anfang",
+    b"ende",
+    b"kosten",
+    b"verantwortlich",
+    b"remarque",
+    b"remarques",
+    b"commentaire",
+    b"commentaires",
+    b"d\xc3\xa9but",
+    b"fin",
+    b"co\xc3\xbbt",
+    b"responsable",
+    b"nota",
+    b"notas",
+    b"comentario",
+    b"comentarios",
+    b"descripci\xc3\xb3n",
+    b"inicio",
+    b"coste",
+];
+
+/// Whether a header in lower case is a word for a column that a plan doesn't use.
+pub fn is_note_word(key: &[u8]) -> bool
+    ensures { result ≡ spec.is_note_word key.now }
+{
+    is_among(&NOTE_WORDS, key)
 }

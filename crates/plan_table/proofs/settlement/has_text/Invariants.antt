@@ -1,8 +1,0 @@
-use Rattle.std.proofs.Common.{◌≡◌, map, drop}
-use Rattle.plan_table.specs.Csv.{row_of}
-use Rattle.plan_table.specs.Settlement.{has_text}
-use Rattle.plan_table.proofs.settlement.has_text.Given as goal
-
--- a cell isn't a number if one of the rows that are left has such a cell
-abbrev pub invariant-loop-row : goal.invariant-loop-row
-invariant-loop-row l = has_text (map row_of (drop l.row-index l.rows)) l.k ≡ has_text (map row_of l.rows) l.k
