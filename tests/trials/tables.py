@@ -48,7 +48,7 @@ COLUMNS = {
     "after": "predecessors",
     "depends on": "predecessors",
 }
-# other words for kinds of columns, and words for days
+# other words for kinds of columns
 SYNONYMS = {
     "duration": "days, work days, dauer, durée, duree, duración, duracion",
     "id": "nr, nr., no, no., number, activity id, task id",
@@ -58,6 +58,16 @@ SYNONYMS = {
     "predecesoras",
 }
 KINDS = {word: kind for kind, words in SYNONYMS.items() for word in words.split(", ")}
+# words for columns that a plan doesn't use
+NOTE_WORDS = (
+    "note, notes, remark, remarks, comment, comments, description, details, status, priority, start, "
+    "finish, start date, finish date, begin date, end date, due date, completion, % complete, cost, "
+    "coordinator, responsible, owner, assignee, web link, bemerkung, bemerkungen, notiz, notizen, "
+    "kommentar, kommentare, beschreibung, anfang, ende, kosten, verantwortlich, remarque, remarques, "
+    "commentaire, commentaires, début, fin, coût, responsable, nota, notas, comentario, comentarios, "
+    "descripción, inicio, coste"
+).split(", ")
+# words for days
 DAYS = ["", "d", "day", "days", "tag", "tage", "jour", "jours", "día", "días"]
 
 
@@ -188,7 +198,7 @@ def settled(kinds, keys, names, rows, given):
         kind = KINDS.get(keys[k])
         if kind and kind not in found:
             found[k] = kind
-        elif any(cell and number_of(cell) is None for cell in columns[k]):
+        elif keys[k] in NOTE_WORDS:
             found[k] = "note"
     return found
 
@@ -419,7 +429,7 @@ HEADS = {
     "name": ["name", "task", "Task"],
     "predecessors": ["predecessors", "after", "depends on", "Depends On"],
 }
-NOTES = ["Notes", "Start", "Cost", "Nr", "Task ID", "Tâche", "Vorgang", "Days", "Dauer", "Depends", "Vorgänger"]
+NOTES = ["Notes", "Start", "Cost", "Bemerkung", "coût", "% Complete", "FIN", "descripción", "Nr", "Tâche", "Days", "Depends", "Weight"]
 CAPACITY = ["capacity", "capacity", "Capacity", "CAPACITY"]
 
 
