@@ -19,7 +19,6 @@ pub mod InputLemmas
 pub mod ImportLemmas
 pub mod ViewTextLemmas
 pub mod CheckLemmas
-pub mod ViewLemmas
 pub mod SearchLemmas
 pub mod InfeasibleLemmas
 pub mod ListLemmas
