@@ -2,4 +2,4 @@
 
 /// The digest of all sources of the program but this file, in hexadecimal digits, as
 /// `./release --digest` prints it.
-pub(crate) const SOURCES: &str = "00a6808cf4874ed93fb6654f4305f1074d3f565a502f1301f3a21b279366486c";
+pub(crate) const SOURCES: &str = "6e5b9fbd1b604c9db9fa67477e4ad23910ff17214408331b63ef0be6445fc616";
