@@ -114,6 +114,7 @@ Prints bytes_of print taken after result =
 -- schedule has one
 abbrev pub IsUnreadBy : NamedOrigin → CliFault → Type 0
 IsUnreadBy (named.Rule name) e = IsUnread about.Plan e
+IsUnreadBy named.Default e = IsUnread about.Plan e
 IsUnreadBy (named.Starts name) e = IsUnread about.Starts e ⊎ IsUnread about.Plan e
 IsUnreadBy (named.Solved conflicts) e = IsUnread about.Plan e
 
