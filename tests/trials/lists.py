@@ -23,7 +23,7 @@ from answers import plan, same, written
 from drawing import Draw
 from drawing.words import PROJECT_RULES, SHOP_RULES
 from holidays import MARKS, STARTS
-from tables import BLANKS, COLUMNS, damaged, drawn_table, records
+from tables import BLANKS, COLUMNS, KINDS, damaged, drawn_table, lower, records
 
 # The commands that need the file of a project or of a job shop.
 PLAIN = (["cpm"], ["schedule", "lft"], ["best-project", "100"])
@@ -69,9 +69,9 @@ def kind_of(data):
     for _, cells in records(text, delimiter_of(text)):
         if cells is None:
             return "unknown"
-        keys = [cell.strip(BLANKS).lower() for cell in cells]
+        keys = [lower(cell.strip(BLANKS).encode("latin-1").decode("utf-8", "replace")) for cell in cells]
         if any(keys):
-            if "duration" in [COLUMNS.get(key) for key in keys]:
+            if "duration" in [COLUMNS.get(key, KINDS.get(key)) for key in keys]:
                 return "activities"
             return "orders" if {"order", "machine"} <= set(keys) else "none"
     return "none"
@@ -111,7 +111,7 @@ def plain_commands(draw, is_shop, starts):
         (["check", "--status"], [starts]),
         (["days", "--format", "ics", rule, STARTS[0], MARKS[0]], []),
         (["report", "--title", "list"], []),
-        (["report", "--title", "list", "--start", "2024-03-01"], []),
+        (["report", "--title", "list", "--start", "2024-03-01", "--days", MARKS[0]], []),
         (["report", "--title", "list", "--solve"], []),
         (["chart", "--svg", rule], []),
     ]

@@ -3,7 +3,7 @@
 ghost use Rattle.std.specs.Prelude.{◌≡◌, ◌⊎◌, ◌+◌, ◌≤◌, None, IfErr, IsErrOf, OnOk};
 ghost use Rattle.plan_io.specs.Devices.{most_calls};
 ghost use Rattle.plan_errors.specs.Faults.{IsUnread};
-ghost use Rattle.plan_errors.specs.Output.{HasSinkFailed};
+ghost use Rattle.plan_errors.specs.Output.{HasSinkFailed, Writes};
 ghost use Rattle.plan_cli.specs.NamedTexts.{dates_with};
 ghost use Rattle.plan_cli.specs.Tasks.{bytes_behind};
 ghost use Rattle.plan_print.specs.Prints as spec;
@@ -83,8 +83,33 @@ fn sheet_with<'a>(sheet: Sheet<'a>, holidays: &'a [u8]) -> Sheet<'a>
     }
 }
 
+// Prints a sheet of a file that was read.
+#[tactic(auto, using(plan_errors::proofs::RefusalLemmas::refuses_unread, plan_errors::proofs::RefusalLemmas::output_unread,))]
+fn print_read<W: Sink, V: ProofWatcher + SolveWatcher>(
+    alloc: Global,
+    sheet: Sheet<'_>,
+    subject: Subject<'_>,
+    origin: Option<Origin<'_>>,
+    file: &[u8],
+    watcher: &mut V,
+    writer: &mut W,
+) -> Result<(), CliFault>
+    ensures does { Writes
+        (spec.IsSheetRead sheet.entry subject.entry origin.entry file.now)
+        (spec.RefusesSheetRead sheet.entry subject.entry origin.entry file.now)
+        (W.taken writer.old) (W.taken writer.new) result }
+    ensures writes { W.calls writer.new ≤ W.calls writer.old + most_calls }
+    ensures unread { IfErr result (IsUnread About.Plan) }
+    ensures quiet { IfErr result (λ e. (e ≡ CliFault.Output) ⊎ (writer.new ≡ writer.old)) }
+    ensures fine { OnOk result (W.faults writer.new ≡ W.faults writer.old) }
+    ensures output { IsErrOf result CliFault.Output → HasSinkFailed W.Sink writer.old writer.new }
+{
+    let text = read_sheet(alloc, sheet, subject, origin, file, watcher)?;
+    write_text(writer, text.as_bytes())
+}
+
 // Prints a sheet of the file with this name.
-#[tactic(auto, using(plan_errors::proofs::RefusalLemmas::input_unread, plan_errors::proofs::RefusalLemmas::refuses_unread, plan_errors::proofs::RefusalLemmas::output_unread,))]
+#[tactic(auto, using(plan_errors::proofs::RefusalLemmas::input_unread))]
 fn print_from<I: Inputs, W: Sink, V: ProofWatcher + SolveWatcher>(
     alloc: Global,
     inputs: &I,
@@ -104,8 +129,7 @@ fn print_from<I: Inputs, W: Sink, V: ProofWatcher + SolveWatcher>(
     ensures output { IsErrOf result CliFault.Output → HasSinkFailed W.Sink writer.old writer.new }
 {
     let bytes = read_named(alloc, inputs, About::Plan, file)?;
-    let text = read_sheet(alloc, sheet, subject, origin, &bytes, watcher)?;
-    write_text(writer, text.as_bytes())
+    print_read(alloc, sheet, subject, origin, &bytes, watcher, writer)
 }
 
 // Prints a sheet of the file with this name. If the schedule has its starts in a file, that one is
