@@ -20,16 +20,10 @@ FOLDER = os.path.join(os.path.dirname(os.path.abspath(__file__)), "spreadsheets"
 LATER = {
     "libreoffice_quotes.csv",
     "libreoffice_party.csv",
-    "libreoffice_mauer_utf8.csv",
     "libreoffice_mauer_windows1252.csv",
     "libreoffice_mauer_utf16.csv",
-    "libreoffice_maison_utf8.csv",
     "libreoffice_maison_windows1252.csv",
     "libreoffice_casa.csv",
-    "libreoffice_half_days.csv",
-    "wall.xlsx",
-    "wall.xls",
-    "wall.ods",
     "excel_mauer.csv",
     "excel_unicode_text.txt",
     "notepad_big_endian.txt",
@@ -39,7 +33,6 @@ LATER = {
     "ganttproject_tasks.csv",
     "ganttproject.csv",
     "taskjuggler.csv",
-    "google_sheets.csv",
 }
 
 KINDS = {
