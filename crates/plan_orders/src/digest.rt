@@ -2,4 +2,4 @@
 
 /// The digest of all sources of the program but this file, in hexadecimal digits, as
 /// `./release --digest` prints it.
-pub(crate) const SOURCES: &str = "6e5b9fbd1b604c9db9fa67477e4ad23910ff17214408331b63ef0be6445fc616";
+pub(crate) const SOURCES: &str = "677dc75c135b694638d9c046e1cd634bcf4278de3290c5d9e55bdb8cfb9f74e8";
