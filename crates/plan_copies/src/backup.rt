@@ -1,12 +1,13 @@
 //! `plan backup`: a copy of an office, also while a server runs.
 
-use crate::check::{CheckFault, check_copy, copy_checked};
+use crate::check::CheckFault;
 use crate::expiry::remove_old;
 use crate::fault::PairFault;
 use crate::lines::{CopyFault, copy_fault, store_fault};
-use crate::named::{NamedCopy, NamedPair, target_fault};
+use crate::named::{NamedPair, target_fault};
 use crate::owner::check_folder;
 use crate::room::{Room, folder_of, name_of, stamp, stem_of, sync_file, sync_folder};
+use crate::scratch::{check_copy_at, copy_checked_at};
 use plan_io::{MemSink, Sink, write_whole};
 use plan_serve::ServeFault;
 use sha2::{Digest, Sha256};
@@ -96,14 +97,7 @@ fn copy_to(
 ) -> Result<String, CopyFault> {
     let (alloc, folder) = (rt.alloc(), place.folder.as_str());
     let file = room.path_of("office.db")?;
-    let mut pair = NamedPair::find(rt, database).map_err(|fault| copy_fault(
-        alloc,
-        CheckFault::Copy(fault),
-        database,
-        folder,
-    ))?;
-    let mut copy = NamedCopy::at(rt, file.as_str())?;
-    let text = copy_checked(alloc, &mut pair, &mut copy).map_err(|fault| copy_fault(
+    let text = copy_checked_at(rt, database, file.as_str()).map_err(|fault| copy_fault(
         alloc, fault, database, folder,
     ))?;
     let (path, digest) = (place.path.as_str(), digest_in(&text));
@@ -134,13 +128,8 @@ pub(crate) fn print<W: Sink>(writer: &mut W, line: &str) -> Result<(), CopyFault
 
 // Copies the file of a copy, and returns the summary of its rows.
 fn read_again(rt: &HostRuntime, path: &str, scratch: &str) -> Result<Vec<u8>, CheckFault> {
-    let mut pair = NamedPair::find(rt, path).map_err(CheckFault::Copy)?;
-    let Ok(copy) = NamedCopy::at(rt, scratch) else {
-        return Err(CheckFault::Copy(PairFault::Memory));
-    };
-    let mut copy = copy;
     let mut writer = MemSink::new(Vec::new(rt.alloc()));
-    check_copy(rt.alloc(), &mut pair, &mut copy, &mut writer)?;
+    check_copy_at(rt, path, scratch, &mut writer)?;
     Ok(writer.into_bytes())
 }
 

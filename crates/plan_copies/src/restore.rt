@@ -1,17 +1,18 @@
 //! `plan restore`: a copy of an office in the place of its database.
 
 use crate::backup::{digest_in, is_folder, print};
-use crate::check::{CheckFault, copy_checked};
+use crate::check::CheckFault;
 use crate::fault::PairFault;
 use crate::lines::{CopyFault, copy_fault, office_fault, store_fault};
-use crate::named::{NamedCopy, NamedPair, target_fault};
+use crate::named::target_fault;
 use crate::orphans::check_orphans;
 use crate::owner::check_owner;
 use crate::plain::{copy_access, open_plain};
 use crate::replacement::{Replacement, SUFFIXES};
 use crate::room::{Room, folder_of, stamp, stem_of};
-use crate::settle::settle_from;
-use crate::strays::{has_log, remove_stray_log};
+use crate::scratch::copy_checked_at;
+use crate::settle::settle_named;
+use crate::strays::{has_log, open_files, remove_stray_log};
 use plan_io::{MemSink, Sink};
 use plan_serve::ServeFault;
 use sqlite::{FileFrom, Files, Unknown};
@@ -71,7 +72,7 @@ fn lock(rt: &HostRuntime, database: &str) -> Result<Locks, CopyFault> {
     }
     let log = format!(in rt.alloc(); "{database}-wal")?;
     let had_log = fs::symlink_metadata(rt, log.as_str()).is_ok();
-    let files = match sqlite_std_file::open(rt, database, Unknown) {
+    let files = match open_files(rt, database) {
         Ok(files) => files,
         Err(error) => return Err(lock_fault(rt, &error, database)),
     };
@@ -143,14 +144,7 @@ fn prepare(
 ) -> Result<(String, Vec<u8>), CopyFault> {
     let (alloc, folder) = (rt.alloc(), folder_of(database));
     let file = room.path_of("office.db")?;
-    let mut pair = NamedPair::find(rt, copy).map_err(|fault| copy_fault(
-        alloc,
-        CheckFault::Copy(fault),
-        copy,
-        folder,
-    ))?;
-    let mut made = NamedCopy::at(rt, file.as_str())?;
-    let summary = copy_checked(alloc, &mut pair, &mut made).map_err(|fault| copy_fault(
+    let summary = copy_checked_at(rt, copy, file.as_str()).map_err(|fault| copy_fault(
         alloc, fault, copy, folder,
     ))?;
     if give_access(rt, file.as_str(), database).is_err() {
@@ -189,8 +183,7 @@ fn code_of(fault: CheckFault) -> &'static str {
 // a sound office.
 fn close_old(rt: &HostRuntime, database: &str) -> Result<Option<Settled>, CopyFault> {
     let mut text = MemSink::new(Vec::new(rt.alloc()));
-    let looked = fs::metadata(rt, database);
-    let (done, closed) = settle_from(rt, database, looked, Unknown, &mut text);
+    let (done, closed) = settle_named(rt, database, &mut text);
     let files = match closed {
         Some(closed) => closed.ok(),
         None => None,
@@ -220,11 +213,10 @@ fn settle_old(rt: &HostRuntime, database: &str) -> Result<Option<Settled>, CopyF
 
 // Returns the summary of a database that got another name, or the error of its check.
 fn renamed_summary(rt: &HostRuntime, old: &str, room: &Room<'_>) -> Result<Vec<u8>, CheckFault> {
-    let no_memory = CheckFault::Copy(PairFault::Memory);
-    let file = room.path_of("before.db").map_err(|_| no_memory)?;
-    let mut pair = NamedPair::find(rt, old).map_err(CheckFault::Copy)?;
-    let mut copy = NamedCopy::at(rt, file.as_str()).map_err(|_| no_memory)?;
-    copy_checked(rt.alloc(), &mut pair, &mut copy)
+    match room.path_of("before.db") {
+        Ok(file) => copy_checked_at(rt, old, file.as_str()),
+        Err(_) => Err(CheckFault::Copy(PairFault::Memory)),
+    }
 }
 
 // Returns the line about a database that got another name, if there was one.

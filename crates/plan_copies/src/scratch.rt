@@ -5,7 +5,7 @@ ghost use Rattle.plan_io.specs.Devices.{most_calls};
 ghost use Rattle.plan_serve.specs.CheckRun.{IsPrinted, IsPrintedInPart};
 ghost use Rattle.plan_copies.specs.Checks.{IsCheckFault};
 
-use crate::check::{CheckFault, check_copy};
+use crate::check::{CheckFault, check_copy, copy_checked};
 use crate::fault::PairFault;
 use crate::lines::{CopyFault, store_fault};
 use crate::named::{NamedCopy, NamedPair, target_fault};
@@ -33,6 +33,44 @@ pub fn scratch_folder(rt: &HostRuntime, given: Option<&str>) -> Result<String, C
     }
 }
 
+/// Copies an office from the file of a name to that of another name, and checks the copy with its
+/// log and without it. Returns the summary.
+pub(crate) fn copy_checked_at(
+    rt: &HostRuntime,
+    path: &str,
+    copy: &str,
+) -> Result<Vec<u8>, CheckFault> {
+    let mut pair = NamedPair::find(rt, path).map_err(CheckFault::Copy)?;
+    match NamedCopy::at(rt, copy) {
+        Ok(mut copy) => copy_checked(rt.alloc(), &mut pair, &mut copy),
+        Err(_) => Err(CheckFault::Copy(PairFault::Memory)),
+    }
+}
+
+/// Checks the office in the file of a name by a copy of another name.
+pub(crate) fn check_copy_at<W: Sink>(
+    rt: &HostRuntime,
+    path: &str,
+    copy: &str,
+    writer: &mut W,
+) -> Result<bool, CheckFault>
+    ensures ok { OnOk result (IsPrinted (W.taken writer.old) (W.taken writer.new)) }
+    ensures part { IsErrOf result (CheckFault.Office ServeFault.Output)
+        → IsPrintedInPart (W.taken writer.old) (W.taken writer.new) }
+    ensures writes { W.calls writer.new ≤ W.calls writer.old + most_calls }
+    ensures silent { IfErr result
+        (λ e. (e ≡ CheckFault.Office ServeFault.Output) ⊎ (writer.new ≡ writer.old)) }
+    ensures fine { OnOk result (W.faults writer.new ≡ W.faults writer.old) }
+    ensures which { IfErr result IsCheckFault }
+{
+    let mut pair = NamedPair::find(rt, path).map_err(CheckFault::Copy)?;
+    let Ok(copy) = NamedCopy::at(rt, copy) else {
+        return Err(CheckFault::Copy(PairFault::Memory));
+    };
+    let mut copy = copy;
+    check_copy(rt.alloc(), &mut pair, &mut copy, writer)
+}
+
 // Checks the office in a file by a copy in a folder of its own.
 fn check_in<W: Sink>(
     rt: &HostRuntime,
@@ -49,15 +87,10 @@ fn check_in<W: Sink>(
     ensures fine { OnOk result (W.faults writer.new ≡ W.faults writer.old) }
     ensures which { IfErr result IsCheckFault }
 {
-    let mut pair = NamedPair::find(rt, path).map_err(CheckFault::Copy)?;
-    let Ok(place) = room.path_of("office.db") else {
-        return Err(CheckFault::Copy(PairFault::Memory));
-    };
-    let Ok(copy) = NamedCopy::at(rt, place.as_str()) else {
-        return Err(CheckFault::Copy(PairFault::Memory));
-    };
-    let mut copy = copy;
-    check_copy(rt.alloc(), &mut pair, &mut copy, writer)
+    match room.path_of("office.db") {
+        Ok(copy) => check_copy_at(rt, path, copy.as_str(), writer),
+        Err(_) => Err(CheckFault::Copy(PairFault::Memory)),
+    }
 }
 
 /// Checks every row of the office in the file of this name by a copy of it in this folder, which is

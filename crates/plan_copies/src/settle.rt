@@ -54,6 +54,15 @@ pub fn settle_from<F: Start, W: Sink>(
     (settled(done, &files), files)
 }
 
+/// The same for the file of this name, with the summary in memory.
+pub(crate) fn settle_named(
+    rt: &HostRuntime,
+    path: &str,
+    text: &mut MemSink,
+) -> ResultAndFiles<Unknown> {
+    settle_from(rt, path, fs::metadata(rt, path), Unknown, text)
+}
+
 /// `plan settle`: copies the log of the office in the file of this name into its database, and
 /// writes the number of rows in each table and a digest of the rows.
 pub fn settle_on_file<W: Sink>(
@@ -62,8 +71,7 @@ pub fn settle_on_file<W: Sink>(
     writer: &mut W,
 ) -> Result<(), CopyFault> {
     let mut text = MemSink::new(Vec::new(rt.alloc()));
-    let looked = fs::metadata(rt, path);
-    let (done, files) = settle_from(rt, path, looked, Unknown, &mut text);
+    let (done, files) = settle_named(rt, path, &mut text);
     match (done, files) {
         (Ok(()), _) => {}
         (Err(ServeFault::Store), Some(Err(_))) => {

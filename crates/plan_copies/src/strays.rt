@@ -1,6 +1,7 @@
 //! Logs that a refused command left beside a file.
 
-use sqlite::Unknown;
+use sqlite::{FileFrom, Files, Unknown};
+use sqlite_std_file::OpenError;
 use std::fs;
 
 // The length of the header of a log and of the header of its first frame in bytes. A shorter log
@@ -22,13 +23,21 @@ pub fn has_log(rt: &HostRuntime, database: &str) -> bool {
     }
 }
 
+/// Opens the files of a database, and locks them.
+pub(crate) fn open_files(
+    rt: &HostRuntime,
+    database: &str,
+) -> Result<Files<FileFrom<Unknown>>, OpenError> {
+    sqlite_std_file::open(rt, database, Unknown)
+}
+
 /// Removes the log of a database if it has no frame. It holds the locks of the database meanwhile,
 /// so the log isn't another program's.
 pub fn remove_stray_log(rt: &HostRuntime, database: &str) {
     let Some(log) = log_of(rt, database) else {
         return;
     };
-    let Ok(files) = sqlite_std_file::open(rt, database, Unknown) else {
+    let Ok(files) = open_files(rt, database) else {
         return;
     };
     if let Ok(found) = fs::symlink_metadata(rt, log.as_str()) {

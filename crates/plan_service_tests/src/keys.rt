@@ -1,7 +1,7 @@
 //! Keys from a source that fails.
 
 use crate::devices::Drip;
-use plan_serve::{ServeFault, read_key};
+use plan_door::{ServeFault, read_key};
 use std::alloc::Global;
 
 // The SHA-256 of `password`, as `sha256sum` prints it.

@@ -1,5 +1,5 @@
-//! Tests of the service with devices that fail, and with rows that break a rule. No command can
-//! cause these.
+//! Tests of the service with devices that fail, rows that break a rule, and refused allocations over
+//! a book in memory. No command can cause these.
 #![tactic(auto)]
 
 #[cfg(test)]
@@ -13,6 +13,8 @@ mod office;
 #[cfg(test)]
 mod pieces;
 #[cfg(test)]
+mod refusals;
+#[cfg(test)]
 mod replays;
 #[cfg(test)]
 mod responses;
@@ -20,3 +22,5 @@ mod responses;
 mod tables;
 #[cfg(test)]
 mod visits;
+#[cfg(test)]
+mod worlds;

@@ -3,8 +3,8 @@
 use crate::devices::Narrow;
 use crate::office::{LISTED, LISTING, OPENED, OPENING, office};
 use plan_desk::{Book, Office};
+use plan_door::{ServeFault, read_connection, replay_run};
 use plan_io::{MemSink, MemSource};
-use plan_serve::{ServeFault, read_connection, replay_run};
 use std::alloc::{AllocError, Global};
 use std::process::Abort;
 use std::test::Fail;

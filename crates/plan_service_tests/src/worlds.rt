@@ -1,18 +1,10 @@
-//! Two runs that a desk can't tell apart, over two kinds of books.
+//! Two runs that a desk can't tell apart.
 
-use crate::office::{NORTH_KEY, OFFICE_KEY, office, sent, sql_office};
+use crate::office::{LISTED, NORTH_KEY, OFFICE_KEY, OPENED, office, sent};
 use plan_http::{Run, serve_two_worlds};
 use std::alloc::{AllocError, Global};
 use std::process::Abort;
 use std::test::Fail;
-
-// The response to the request that opens `north`.
-const OPENED: &str =
-    "HTTP/1.1 201 Created\r\nContent-Type: application/json\r\nContent-Length: 17\r\nConnection: close\r\n\r\n{\"desk\":\"north\"}\n";
-
-// The response to the request for the plans of `north`.
-const LISTED: &str =
-    "HTTP/1.1 200 OK\r\nContent-Type: application/json\r\nContent-Length: 13\r\nConnection: close\r\n\r\n{\"plans\":[]}\n";
 
 // Returns the bytes of the request that opens a desk.
 fn opening(alloc: Global, desk: &str, key: &str) -> Result<String, AllocError> {
@@ -45,7 +37,7 @@ fn expect_last(rt: &impl Abort, run: &Run, count: usize) {
 #[test]
 fn a_desk_receives_the_same_responses_beside_another_desk(rt: HostRuntime) -> Result<(), Fail> {
     let alloc = rt.alloc();
-    let (Some(mut first), Some(mut second)) = (office(alloc), sql_office(alloc)) else {
+    let (Some(mut first), Some(mut second)) = (office(alloc), office(alloc)) else {
         panic!(rt; "no memory");
     };
     let north = opening(alloc, "north", NORTH_KEY)?;

@@ -1,40 +1,14 @@
-//! A request for each route, over a book in memory and over SQL in memory, while one allocation may
-//! fail (`tests/refusals/run` lets each fail in turn). The request is answered, or refused for lack
-//! of memory; then nothing has changed, and the same request is answered as with ample memory.
+//! A request for each route, while one allocation may fail (`tests/refusals/run` lets each fail in
+//! turn). The request is answered, or refused for lack of memory; then nothing has changed, and the
+//! same request is answered as with ample memory.
 
-use crate::office::{NORTH_KEY, OFFICE_KEY, body_of, office, read, sent, sql_office};
-use plan_desk::{Book, Office, Request};
-use plan_http::Routes;
+use crate::office::{NORTH_KEY, OFFICE_KEY, SIX, office, sent};
+use plan_desk::{Body, Book, Office, Reply, Request};
+use plan_http::{Asked, Listening, Routes, read_request};
+use plan_io::MemSource;
 use std::alloc::{AllocError, Global};
 use std::process::Abort;
 use std::test::Fail;
-
-// Six activities of durations 0, 3, 2, 4, 3 and 0, and one resource of capacity 2.
-const SIX: &str = "projects: 1
-jobs: 6
-- renewable: 1
-- nonrenewable: 0
-- doubly constrained: 0
-PRECEDENCE RELATIONS:
-jobnr. #modes #successors successors
-1 1 2 2 3
-2 1 1 4
-3 1 2 4 5
-4 1 1 6
-5 1 1 6
-6 1 0
-REQUESTS/DURATIONS:
-jobnr. mode duration R
-1 1 0 0
-2 1 3 1
-3 1 2 1
-4 1 4 1
-5 1 3 1
-6 1 0 0
-RESOURCEAVAILABILITIES:
-R
-2
-";
 
 // Two jobs of two steps on two machines.
 const TWO_BY_TWO: &str = "2 2
@@ -229,6 +203,24 @@ const EXCHANGES: [Exchange; 18] = [
     ),
 ];
 
+// Returns the request of a connection, or none if memory runs out.
+fn read(rt: &impl Abort, alloc: Global, routes: &Routes, conn: &str) -> Option<Request> {
+    let mut client = Listening::new(MemSource::new(conn.as_bytes()));
+    match read_request(alloc, routes, &mut client) {
+        Asked::Request(request) => Some(request),
+        Asked::NoMemory => None,
+        _ => panic!(rt; "no request: {conn}"),
+    }
+}
+
+// Returns the body of a reply.
+fn body_of(reply: &Reply) -> &str {
+    match &reply.body {
+        Body::Fixed(text) => text,
+        Body::Owned(text) => text.as_str(),
+    }
+}
+
 // Expects the answer to a request, at its second try if memory runs out at the first.
 fn settle<B: Book>(
     rt: &impl Abort,
@@ -294,28 +286,11 @@ fn expect_all<B: Book>(rt: &impl Abort, alloc: Global, office: &mut Office<B>) -
     Ok(())
 }
 
-// Expects all answers of an office, if there was memory for it.
-fn expect_office<B: Book + Drop>(
-    rt: &impl Abort,
-    alloc: Global,
-    office: Option<Office<B>>,
-) -> Result<(), Fail> {
-    match office {
-        Some(mut office) => expect_all(rt, alloc, &mut office),
-        None => panic!(rt; "no memory"),
-    }
-}
-
 #[test]
 fn each_route(rt: HostRuntime) -> Result<(), Fail> {
     let alloc = rt.alloc();
-    let made = office(alloc).or_else(|| office(alloc));
-    expect_office(&rt, alloc, made)
-}
-
-#[test]
-fn each_route_over_sql(rt: HostRuntime) -> Result<(), Fail> {
-    let alloc = rt.alloc();
-    let made = sql_office(alloc).or_else(|| sql_office(alloc));
-    expect_office(&rt, alloc, made)
+    match office(alloc).or_else(|| office(alloc)) {
+        Some(mut office) => expect_all(&rt, alloc, &mut office),
+        None => panic!(rt; "no memory"),
+    }
 }
