@@ -1,10 +1,7 @@
-//! Readers and writers that fail. Each error of std is a fault at that call, nothing else is, and a
-//! command reports it.
+//! Readers and writers that fail. Each error of std is a fault at that call, and nothing else is.
 
 ghost use Rattle.std.specs.Prelude.{None};
 
-use crate::six::{SIX, SIX_DATES};
-use plan_cli::{CliFault, cpm_run};
 use plan_io::{
     DeviceFault, InputError, MemSink, MemSource, Sink, Source, StdSink, StdSource, Tally,
     read_beyond, write_whole,
@@ -188,41 +185,5 @@ fn tells_how_much_was_written(rt: HostRuntime) -> Result<(), Fail> {
     let mut sink = MemSink::new(Vec::from_slice(rt.alloc(), b"ab")?);
     assert_eq!(rt; write_whole(&mut sink, b"cd").err(), None);
     assert_eq!(rt; sink.into_bytes().as_slice(), b"abcd".as_slice());
-    Ok(())
-}
-
-#[test]
-fn tells_that_the_input_failed(rt: HostRuntime) -> Result<(), Fail> {
-    for left in [0, 1, SIX.len()] {
-        let mut source = FailingSource {
-            inner: MemSource::new(SIX.as_bytes()),
-            left,
-            tally: Tally::new(),
-        };
-        let mut sink = MemSink::new(Vec::new(rt.alloc()));
-        let run = cpm_run(rt.alloc(), &mut source, &mut sink);
-        assert_eq!(rt; matches!(run, Err(CliFault::Input)), true, "{left}");
-        assert_eq!(rt; sink.into_bytes().len(), 0, "{left}");
-    }
-    Ok(())
-}
-
-#[test]
-fn tells_that_the_output_failed(rt: HostRuntime) -> Result<(), Fail> {
-    for (room, fails, wanted) in [
-        (0, true, true),
-        (1, true, true),
-        (SIX_DATES.len() - 1, true, true),
-        (0, false, true),
-        (SIX_DATES.len(), true, false),
-    ] {
-        let mut sink = FullSink {
-            room,
-            fails,
-            tally: Tally::new(),
-        };
-        let run = cpm_run(rt.alloc(), &mut MemSource::new(SIX.as_bytes()), &mut sink);
-        assert_eq!(rt; matches!(run, Err(CliFault::Output)), wanted, "{room}");
-    }
     Ok(())
 }

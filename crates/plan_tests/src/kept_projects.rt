@@ -1,7 +1,7 @@
-//! The answers of a memo for projects that differ in one value, and for a job shop between them.
+//! The answers of a memo for a project, and for a job shop between them.
 
 use crate::shops::shop_of;
-use plan_exact::{ExactFault, Kind, Memo};
+use plan_exact::{ExactFault, Memo};
 use plan_psplib::{ProjectDoc, read_sm};
 use plan_sgs::Instance;
 use plan_shop::Shop;
@@ -34,21 +34,6 @@ R
 2
 ";
 
-// The question: a capacity, the lag between activities 2 and 5, and a budget. The answer: its kind,
-// its makespan, and the number of answers that the memo then keeps. With a capacity of 1 the work
-// takes 4 time units; with a lag of 3 the longest path takes 4.
-const ASKED: [(u64, u64, u64, Kind, u64, usize); 9] = [
-    (2, 0, 10, Kind::Optimal, 2, 1),
-    (2, 0, 7, Kind::Budget, 3, 2),
-    (1, 0, 10, Kind::Optimal, 4, 3),
-    (2, 3, 10, Kind::Optimal, 4, 4),
-    (2, 2, 10, Kind::Optimal, 3, 5),
-    (2, 0, 10, Kind::Optimal, 2, 5),
-    (2, 3, 10, Kind::Optimal, 4, 5),
-    (1, 0, 10, Kind::Optimal, 4, 5),
-    (2, 0, 7, Kind::Budget, 3, 5),
-];
-
 fn five(rt: &impl Abort, alloc: Global) -> ProjectDoc {
     match read_sm(alloc, FIVE.as_bytes()) {
         Ok(project) => project,
@@ -58,27 +43,6 @@ fn five(rt: &impl Abort, alloc: Global) -> ProjectDoc {
 
 // A job shop of two steps, the second of which takes no time.
 const TWO_STEPS: &str = "1 2\n0 4 1 0\n";
-
-#[test]
-fn keeps_an_answer_for_each_capacity_lag_and_budget(rt: HostRuntime) -> Result<(), Fail> {
-    let mut memo = Memo::new(rt.alloc())?;
-    let mut project = five(&rt, rt.alloc());
-    for (capacity, lag, budget, kind, makespan, kept) in ASKED {
-        project.set_lag(2, 5, lag)?;
-        assert!(rt; project.avail().len() == 1);
-        let caps = [capacity];
-        let instance = Instance::of_project(&project, &caps)?;
-        let found = memo.solve_project(&instance, budget)?;
-        assert_eq!(rt; found.kind, kind, "{capacity} {lag} {budget}");
-        assert_eq!(rt;
-            found.schedule.makespan,
-            makespan,
-            "{capacity} {lag} {budget}"
-        );
-        assert_eq!(rt; memo.len(), kept, "{capacity} {lag} {budget}");
-    }
-    Ok(())
-}
 
 // Returns the makespan that a memo answers for a project, and the number of answers that it then
 // keeps.

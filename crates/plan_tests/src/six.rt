@@ -41,14 +41,3 @@ RESOURCEAVAILABILITIES:
    2
 ****************************************
 ";
-
-/// Its date table, by hand.
-pub const SIX_DATES: &str = " act       d      ES      EF      LS      LF      TF      FF
-   1       0       0       0       0       0       0       0 *
-   2       3       0       3       0       3       0       0 *
-   3       2       0       2       1       3       1       0
-   4       4       3       7       3       7       0       0 *
-   5       3       2       5       4       7       2       2
-   6       0       7       7       7       7       0       0 *
-T 7
-";
