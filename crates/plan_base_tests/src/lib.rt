@@ -1,6 +1,6 @@
 //! Worked examples of the libraries at the base that no command on files shows: networks, tails and
-//! successors, profiles, the search of any tree, the answers that a memo keeps, and the reasons
-//! that a clause kernel accepts.
+//! successors, profiles, the answers that a memo keeps, and the reasons that a clause kernel
+//! accepts.
 #![tactic(auto)]
 
 #[cfg(test)]
@@ -13,5 +13,3 @@ mod memos;
 mod networks;
 #[cfg(test)]
 mod profiles;
-#[cfg(test)]
-mod searches;
