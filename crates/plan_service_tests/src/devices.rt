@@ -22,11 +22,6 @@ impl<'a> Drip<'a> {
             tally: Tally::new(),
         }
     }
-
-    /// Returns the bytes that aren't read yet.
-    pub fn left(&self) -> &'a [u8] {
-        self.rest
-    }
 }
 
 impl<'a> Source for Drip<'a> {

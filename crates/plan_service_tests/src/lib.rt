@@ -7,11 +7,7 @@ mod devices;
 #[cfg(test)]
 mod keys;
 #[cfg(test)]
-mod losses;
-#[cfg(test)]
 mod office;
-#[cfg(test)]
-mod pieces;
 #[cfg(test)]
 mod refusals;
 #[cfg(test)]

@@ -1,11 +1,7 @@
-//! A small office in memory, and connections to it.
+//! A small office in memory, and requests to it.
 
-use plan_desk::{Book, MemBook, Office, key_digest};
-use plan_http::{ConnEnd, Listening, Routes, serve_conn};
-use plan_io::{MemSink, MemSource};
+use plan_desk::{MemBook, Office, key_digest};
 use std::alloc::{AllocError, Global};
-use std::process::Abort;
-use std::str;
 
 /// The key of the office.
 pub const OFFICE_KEY: &str = "office-key";
@@ -65,29 +61,4 @@ pub fn office(alloc: Global) -> Option<Office<MemBook>> {
 pub fn sent(alloc: Global, line: &str, key: &str, body: &str) -> Result<String, AllocError> {
     let len = body.len();
     format!(in alloc; "{line} HTTP/1.0\r\nDesk-Key: {key}\r\nContent-Length: {len}\r\n\r\n{body}")
-}
-
-/// Returns the bytes of a response in JSON.
-pub fn response(alloc: Global, front: &str, body: &str) -> Result<String, AllocError> {
-    let len = body.len();
-    format!(in alloc;
-        "HTTP/1.1 {front}\r\nContent-Type: application/json\r\nContent-Length: {len}\r\nConnection: close\r\n\r\n{body}"
-    )
-}
-
-/// Expects this response to a connection.
-pub fn expect_answer<B: Book>(
-    rt: &impl Abort,
-    alloc: Global,
-    routes: &Routes,
-    office: &mut Office<B>,
-    conn: &str,
-    wanted: &str,
-) {
-    let mut writer = MemSink::new(Vec::new(alloc));
-    let mut reader = Listening::new(MemSource::new(conn.as_bytes()));
-    let end = serve_conn(alloc, routes, office, &mut reader, &mut writer);
-    assert!(rt; matches!(end, ConnEnd::Replied(_)), "{conn}");
-    let written = writer.into_bytes();
-    assert_eq!(rt; str::from_utf8(&written).unwrap_or("no text"), wanted);
 }

@@ -1,10 +1,10 @@
-//! Replays to a sink that fails, of no connection, and of files longer than a request.
+//! Replays to a sink that fails, and of no connection.
 
 use crate::devices::Narrow;
 use crate::office::{LISTED, LISTING, OPENED, OPENING, office};
 use plan_desk::{Book, Office};
-use plan_door::{ServeFault, read_connection, replay_run};
-use plan_io::{MemSink, MemSource};
+use plan_door::{ServeFault, replay_run};
+use plan_io::MemSink;
 use std::alloc::{AllocError, Global};
 use std::process::Abort;
 use std::test::Fail;
@@ -50,15 +50,4 @@ fn a_sink_that_fails_took_a_front_and_the_office_keeps_all(rt: HostRuntime) -> R
         Some(mut office) => expect_front(&rt, rt.alloc(), &mut office),
         None => panic!(rt; "no memory"),
     }
-}
-
-#[test]
-fn a_file_is_read_as_far_as_a_request_may_go(rt: HostRuntime) -> Result<(), Fail> {
-    let alloc = rt.alloc();
-    for (len, wanted) in [(1_056_767, 1_056_767), (1_056_769, 1_056_768)] {
-        let bytes = vec![in alloc; 32; len]?;
-        let read = read_connection(alloc, &mut MemSource::new(&bytes));
-        assert_eq!(&rt; read.map(|read| read.len()), Ok(wanted), "{len}");
-    }
-    Ok(())
 }
