@@ -187,7 +187,7 @@ SUBJECTS = [
     ("compare nowhere.sm nowhere.txt .", "I1", "nowhere.txt: a file can't be read"),
     ("compare p.sm . nowhere.txt", "I1", ".: a file can't be read"),
     (
-        "report --starts good.txt --start 2024-03-01 --holidays . p.sm",
+        "report --starts good.txt --start 2024-03-01 --days 1111100 --holidays . p.sm",
         "I1",
         ".: a file can't be read",
     ),
