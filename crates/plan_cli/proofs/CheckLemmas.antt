@@ -14,7 +14,7 @@ use Rattle.plan_cli.specs.declared.tasks.Rows.TheVariants as rows
 use Rattle.plan_cli.specs.declared.tasks.Task.TheVariants as task
 use Rattle.plan_cli.proofs.ViewTextLemmas.{view_text}
 
--- what shows the first verdict on the starts in a text
+-- the view of the first verdict on the starts in a text
 pub verdict_shown : (listed : List ℕ) (p : Plan) (verdict : Verdict) (view : View)
     → IsVerdictOn listed p verdict → view ≡ table (verdict_view_of (sentence_of p verdict)) → IsVerdictView listed p view
 verdict_shown listed p verdict view is shown = record {

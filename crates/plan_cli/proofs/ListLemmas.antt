@@ -1,4 +1,4 @@
--- What a command reads of a list, and of the first bytes of a file.
+-- The text of a list for a command, and the first bytes of a file.
 use Rattle.std.proofs.Common.{◌≡◌, ◌⊎◌, inl, inr, ℕ, ◌+◌, ◌≤◌, ◌<◌, List, [], ◌∷◌, Option, Some, None, Result, Ok, Err, Vec, length, take, refl, sym, ap, ◌∙◌, subst, arith}
 use Rattle.std.specs.Prelude.{IfOk, IfErr}
 use Rattle.std.specs.Global.{Global}
@@ -56,7 +56,7 @@ read_refused of file IsLine kind s text bytes e is same told =
 
 -- ---- the text of a task
 
--- what holds of what is read holds for the file
+-- a fact about the text that a command takes is one about the file
 pub read_as : {X E : Type 0} (Holds : Option ListKind → Subject → List ℕ → X → Type 0) (of : Subject) (file : List ℕ)
     (kind : Option ListKind) (s : Subject) (text bytes : List ℕ) (result : Result X E)
     → IsReadAs of file kind s text → bytes ≡ text → IfOk result (λ x. Holds kind s bytes x)
@@ -125,7 +125,7 @@ list_front : (kind : ListKind) → HoldsByFront (RefusesList kind)
 list_front kinds.Activities = no_import_front []
 list_front kinds.Orders = no_shop_import_front
 
--- what holds of what is read of the front of a file holds of what is read of the file
+-- a fact about the text that a command takes from the front of a file is one about the file
 as_front : (of : Subject) (Holds : Option ListKind → Subject → List ℕ → Type 0) (file : List ℕ)
     → ((s : Subject) → Holds None s (take (longest_text + 1) file) → Holds None s file)
     → ReadsAs of (take (longest_text + 1) file) Holds → ReadsAs of file Holds

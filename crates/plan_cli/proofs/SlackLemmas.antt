@@ -45,7 +45,7 @@ no_slack listed i made (Err e) same t =
     refuses_as (TellsBadSlack listed made) (TellsNoSlack listed i) e
     (λ line tells. inr (subst (λ (p : Planned). TellsBadSlack listed p line) same tells)) t
 
--- what refuses the project in a file with given capacities refuses the file
+-- an error of the project in a file with given capacities is an error of the file
 pub file_refused : (listed file : List ℕ) (names : List Name) (given : List Capacity) (p : Project) (e : CliFault)
     → SaysProject file p → names ≡ resources_in file → Refuses (RefusesWith names given p (TellsNoSlack listed)) e
     → Refuses (RefusesFile given (TellsNoSlack listed) file) e
