@@ -89,7 +89,7 @@ const legendNodes = (view) => legendOf(view).map(([name, words]) => make("li", {
 
 function captionOf({ plan, dates, calendar }) {
   const unit = !dates ? "working time from 0"
-    : `weeks begin on Monday${calendar ? ", free weekdays are shaded" : ""}`;
+    : `weeks begin on Monday${calendar ? ", free days are shaded" : ""}`;
   const rows = plan.kind === "project" ? "Activities" : "Steps";
   return `${rows} by ${nameOf(plan, plan.drawn)}; ${unit}`;
 }

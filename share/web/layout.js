@@ -1,8 +1,6 @@
 // The layout of a chart: where times are on its axis, its marks, free days, colours and row
 // heights. Nothing here draws.
 
-import { dateOf, dayOf, weekdayOf } from "./days.js";
-
 const LETTER = 6.6;
 const COLOURS = 16;
 
@@ -14,13 +12,13 @@ function dayBefore(days, time) {
   return times.length ? days.get(Math.max(...times)) : Math.min(...days.values());
 }
 
-/** Returns the scale of an axis: in days if the rows of a view are dated, else in units of working
- * time. */
-export function scaleOf({ rows, dates, calendar, total }, left, right) {
-  const dated = dates ? rows.filter(({ first }) => first) : [];
+/** Returns the scale of an axis: in days if the rows of a view are dated and the days of the axis are
+ * known, else in units of working time. */
+export function scaleOf({ rows, dates, axis, total }, left, right) {
+  const dated = dates && axis ? rows.filter(({ first }) => first) : [];
   const isDated = dated.length > 0;
-  const begins = new Map(dated.map(({ start, first }) => [start, dayOf(first)]));
-  const ends = new Map(dated.map(({ end, last }) => [end, dayOf(last) + 1]));
+  const begins = new Map(dated.map(({ start, first }) => [start, axis.places.get(first)]));
+  const ends = new Map(dated.map(({ end, last }) => [end, axis.places.get(last) + 1]));
   const origin = isDated ? Math.min(...begins.values()) : 0;
   const both = new Map([[0, origin], ...begins, ...ends]);
   const begin = (time) => (isDated ? begins.get(time) ?? dayBefore(both, time) : time) - origin;
@@ -29,7 +27,7 @@ export function scaleOf({ rows, dates, calendar, total }, left, right) {
   const unit = (right - left) / span;
   const x = (place) => left + place * unit;
   return {
-    isDated, marks: isDated && calendar ? calendar.days : null, origin, span, unit, left, right, x,
+    isDated, axis, origin, span, unit, left, right, x,
     // an interval that takes no time is where the work before it ends
     startOf: (start, end) => x(start < end ? begin(start) : finish(start)),
     endOf: (end) => x(finish(end)),
@@ -43,16 +41,16 @@ export function roundUnits(room, unit) {
   }
 }
 
-function lineDays({ origin, span, unit }) {
+function lineDays({ axis: { dates, monday }, origin, span, unit }) {
   const days = Array.from({ length: span + 1 }, (_, place) => origin + place);
-  if (unit * 7 >= 8) return days.filter((day) => weekdayOf(day) === 0);
-  const firsts = days.filter((day) => dateOf(day).endsWith("-01"));
-  return unit * 30 >= 8 ? firsts : firsts.filter((day) => dateOf(day).endsWith("-01-01"));
+  if (unit * 7 >= 8) return days.filter((day) => (day - monday) % 7 === 0);
+  const end = unit * 30 >= 8 ? "-01" : "-01-01";
+  return days.filter((day) => dates[day]?.endsWith(end));
 }
 
 /** Returns the marks of an axis: where each is in units, with its label if there is room. */
 export function marksOn(scale) {
-  const { isDated, origin, span, unit, left, right } = scale;
+  const { isDated, axis, origin, span, unit, left, right } = scale;
   if (!isDated) {
     const step = roundUnits(46, unit);
     return Array.from({ length: Math.floor(span / step) + 1 },
@@ -60,7 +58,7 @@ export function marksOn(scale) {
   }
   let free = -Infinity;
   return [...new Set([origin, ...lineDays(scale)])].map((day) => {
-    const words = dateOf(day), place = day - origin;
+    const words = axis.dates[day] ?? "", place = day - origin;
     const begin = left + place * unit, end = begin + widthOf(words);
     if (begin < free || end > right + 24) return { place, words: "" };
     free = end + 10;
@@ -69,10 +67,10 @@ export function marksOn(scale) {
 }
 
 /** Returns the free days of an axis as runs of days; none if a day is too narrow to be seen. */
-export function freeDays({ marks, origin, span, unit }) {
+export function freeDays({ isDated, axis, origin, span, unit }) {
   const runs = [];
-  for (let place = 0; marks && unit >= 1 && place < span; place += 1) {
-    if (marks[weekdayOf(origin + place)] === "1") continue;
+  for (let place = 0; isDated && axis.worked && unit >= 1 && place < span; place += 1) {
+    if (axis.worked.has(axis.dates[origin + place])) continue;
     const last = runs.at(-1);
     if (last && last.place + last.days === place) last.days += 1;
     else runs.push({ place, days: 1 });
@@ -82,9 +80,8 @@ export function freeDays({ marks, origin, span, unit }) {
 
 export const today = () => new Date().toLocaleDateString("en-CA");
 
-export function placeOfDate({ isDated, origin, span }, date) {
-  if (!isDated) return null;
-  const place = dayOf(date) - origin;
+export function placeOfDate({ isDated, axis, origin, span }, date) {
+  const place = isDated ? axis.places.get(date) - origin : -1;
   return place >= 0 && place <= span ? place : null;
 }
 

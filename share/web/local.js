@@ -22,7 +22,7 @@ const tableBy = (plan, ...words) =>
   printed([...words, PLAN_FILE, ...instanceOf(plan)], { [PLAN_FILE]: plan.bytes });
 
 function dayTable(plan, rule) {
-  const { start, days, holidays } = plan.calendar ?? {};
+  const { start, days, holidays = "" } = plan.calendar ?? {};
   if (!start) throw new Refusal("G4 no calendar");
   const words = ["days", ...(holidays ? ["--holidays", "holidays"] : []), rule, start, days];
   return printed([...words, PLAN_FILE, ...instanceOf(plan)], { [PLAN_FILE]: plan.bytes, holidays });

@@ -202,7 +202,10 @@ async function searchBest({ seconds }) {
   byId("cancel").hidden = !plan.model;
   const told = (line) => page.plan === plan && fill("best-answer", tell(line));
   try {
-    const table = await (plan.model ? solved(plan, seconds, told, searching.signal) : askBest(plan));
+    const { signal } = searching;
+    const table = await (plan.model ? solved(plan, Number(seconds), told, signal) : askBest(plan));
+    if (!table) throw new Refusal("The search was cancelled before it had found a schedule.");
+    table.isCancelled = signal.aborted;
     plan.schedules.set("best", { ...[...plan.schedules.values()][0], ...table });
     plan.days.delete("best");
     await learn(plan, "best");

@@ -86,17 +86,19 @@ export async function printed(words, files = {}) {
   return outputOf(await answer);
 }
 
-/** Runs a command that takes long, in a worker of its own. `told` gets its lines of progress, and
- * `signal` ends it. */
+/** Runs a command that takes long, in a worker of its own. `told` gets its lines of progress. Returns
+ * null if `signal` ends it. */
 export async function searched(words, files, told, signal) {
+  if (signal.aborted) return null;
   const worker = newWorker();
-  const stopped = new Promise((_, reject) => {
-    signal.onabort = () => reject(new Refusal("The search was cancelled. Nothing of it is kept."));
+  const stopped = new Promise((resolve) => {
+    signal.onabort = () => resolve(null);
   });
   const line = (text) => told(text.replaceAll(/[\r\n]|\x1b\[K/g, ""));
   try {
     const done = called(worker, words, files, { isTerminal: true, told: line });
-    return outputOf(await Promise.race([done, stopped]));
+    const answer = await Promise.race([done, stopped]);
+    return answer && outputOf(answer);
   } finally {
     worker.terminate();
   }

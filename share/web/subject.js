@@ -175,12 +175,34 @@ export async function daysOf({ model, subject: { files, words } }, starts, calen
     .map(({ first, last }) => (first === null ? null : { first, last }));
 }
 
-/** Searches for a short schedule, and returns it as a table with the verdict and the bound. */
-export async function solved({ model, subject: { files, words } }, seconds, told, signal) {
-  const given = ["solve", "--seconds", `${seconds}`, "--format", "json", ...words];
-  const { status, lower_bound: lower, makespan: total, rows } =
-    JSON.parse(await searched(given, files, told, signal));
+/** Returns the seconds of each slice of a search: 1, 2, 4 .., and the rest. */
+export function slicesOf(seconds) {
+  const slices = [];
+  for (let rest = seconds, slice = 1; rest > 0; rest -= slices.at(-1), slice *= 2) {
+    slices.push(rest < 3 * slice ? rest : slice);
+  }
+  return slices;
+}
+
+async function solvedIn({ model, subject: { files, words } }, limits, told, signal) {
+  const text = await searched(["solve", ...limits, "--format", "json", ...words], files, told, signal);
+  if (!text) return null;
+  const { status, lower_bound: lower, makespan: total, rows } = JSON.parse(text);
   return { rows: rows.slice(0, model.durations.length), verdict: status, lower, total };
+}
+
+/** Searches for a short schedule, and returns it as a table with the verdict and the bound. The search
+ * runs in slices, each longer than the one before it. When `signal` ends it, the best schedule of
+ * the slices that had ended is returned; null if there is none. */
+export async function solved(plan, seconds, told, signal) {
+  let best = null;
+  const limits = slicesOf(seconds).map((slice) => ["--seconds", `${slice}`]);
+  for (const limit of [["--conflicts", "1", ...limits[0]], ...limits]) {
+    const found = await solvedIn(plan, limit, told, signal);
+    if (found && !(found.total > best?.total)) best = found;
+    if (!found || found.verdict === "optimal") break;
+  }
+  return best;
 }
 
 /** Returns a file to save: `report`, `ics` or `svg`. */

@@ -2,6 +2,7 @@
 // tables agree with its file; and the rows, bars and texts of the schedule that is drawn.
 
 import { Refusal } from "./api.js";
+import { axisOf } from "./axis.js";
 import { byId } from "./dom.js";
 import { coloursOf } from "./layout.js";
 import { mostNeeded } from "./project.js";
@@ -35,12 +36,28 @@ export async function learn(plan, rule) {
   if (!plan.days.has(rule) && plan.calendar) {
     plan.days.set(rule, { rows: await daysOf(plan, starts, plan.calendar).catch(() => null) });
   }
+  await learnAxis(plan);
+}
+
+// the days from the first to the last of all schedules
+async function learnAxis(plan) {
+  const rows = [...plan.days.values()].flatMap((days) => days.rows ?? []);
+  const dated = rows.filter((row) => row && row.first !== "-");
+  const first = dated.map((row) => row.first).sort()[0];
+  const last = dated.map((row) => row.last).sort().at(-1);
+  const isKnown = plan.axis?.places.has(first) && plan.axis.places.has(last);
+  if (!isKnown) plan.axis = first ? await axisOf(first, last, plan.calendar) : null;
 }
 
 /** Settles the model of a plan, and asks the program for all that is shown of its schedules. */
 export async function settle(plan) {
+  Object.assign(plan, { model: null, note: "", calendar: null, axis: null, slacks: new Map() });
+  await settleFile(plan);
+  await learnAxis(plan);
+}
+
+async function settleFile(plan) {
   const [table] = plan.schedules.values();
-  Object.assign(plan, { model: null, note: "", calendar: null, slacks: new Map() });
   if (!table) return;
   plan.model = plan.kind === "shop" ? shopModel(table.rows) : projectModel(plan);
   if (!plan.model) {
@@ -53,7 +70,7 @@ export async function settle(plan) {
     await settleModel(plan);
   } catch (fault) {
     if (!(fault instanceof Refusal)) throw fault;
-    Object.assign(plan, { model: null, calendar: null, note: fault.message });
+    Object.assign(plan, { model: null, calendar: null, axis: null, note: fault.message });
   }
 }
 
@@ -173,7 +190,7 @@ export function viewOf(plan) {
   const bars = plan.kind === "project" ? projectBars({ plan, rows, slack }) : shopBars({ rows });
   return {
     plan, starts, slack, rows, bars, total: Math.max(...rows.map(({ end }) => end)),
-    isNamed: rows.some(({ name }) => name), dates, calendar: dates && plan.calendar,
+    isNamed: rows.some(({ name }) => name), dates, axis: plan.axis, calendar: dates && plan.calendar,
     lineNames: new Map(bars.map(({ line, lineName }) => [line, lineName])),
   };
 }

@@ -1,5 +1,5 @@
 """Compares the modules of the browser page that need no browser (subject, use, search, layout, project,
-handin, table, days) with Python's datetime and csv, with plain models, and with `plan`. Needs node.
+handin, table) with Python's datetime and csv, with plain models, and with `plan`. Needs node.
 """
 
 import csv
@@ -16,8 +16,6 @@ from exchanges import HERE, TOP, file_of
 from programs import Unable, Wrong, plan, same
 
 NODE = shutil.which("node") or shutil.which("nodejs")
-EPOCH = datetime.date(1970, 1, 1)
-LAST = datetime.date(9999, 12, 31)
 
 
 class Modules:
@@ -52,10 +50,6 @@ class Modules:
 # ---- calendar
 
 
-def day_number(date):
-    return (date - EPOCH).days
-
-
 def worked_days(start, marks, count):
     """The first so many worked days from a date, by stepping from day to day."""
     days, date = [], start
@@ -64,17 +58,6 @@ def worked_days(start, marks, count):
             days.append(date)
         date += datetime.timedelta(1)
     return days
-
-
-def try_dates(modules, draw):
-    """Dates are days as datetime counts them, and back."""
-    dates = [EPOCH, LAST, datetime.date(2024, 2, 29), datetime.date(1900, 1, 1)]
-    dates += [EPOCH + datetime.timedelta(draw.randrange(-25000, 2900000)) for _ in range(200)]
-    numbers = [day_number(date) for date in dates]
-    same("days", modules.values([["days", "dayOf", [str(date)]] for date in dates]), numbers)
-    same("dates", modules.values([["days", "dateOf", [day]] for day in numbers]), list(map(str, dates)))
-    weekdays = modules.values([["days", "weekdayOf", [day]] for day in numbers])
-    same("days of the week", weekdays, [date.weekday() for date in dates])
 
 
 def project(durations, successors, needs, capacities):
@@ -351,6 +334,10 @@ def try_search(modules, draw):
         ("shop", "between", 11, "spt", "between 11: the shortest that was found; no schedule is shorter than 50. "
          "The schedule by the rule spt is 3 shorter, so it is drawn."),
     ]
+    slices = modules.values([["subject", "slicesOf", [seconds]] for seconds in (1, 2, 3, 10, 60, 600, 86400)])
+    same("slices", slices[:5], [[1], [2], [1, 2], [1, 2, 7], [1, 2, 4, 8, 45]])
+    same("their sums", list(map(sum, slices)), [1, 2, 3, 10, 60, 600, 86400])
+    same("the last ones", [part[-1] * 2 >= sum(part) - 1 for part in slices], [True] * 7)
     plans = []
     for kind, verdict, total, *_ in cases:
         tables = [[rule, {"verdict": "", "total": makespan}] for rule, makespan in by_rule[kind].items()]
@@ -483,8 +470,18 @@ def try_colours(modules, draw):
                 raise Wrong(f"of {jobs} jobs two neighbours have the same colour")
 
 
+def axis_of(days, marks):
+    """The axis of a list of days, and of some behind them, in the form of axis.js."""
+    dates = [days[0] + datetime.timedelta(k) for k in range((days[-1] - days[0]).days + 20)]
+    monday = next(k for k, date in enumerate(dates) if date.weekday() == 0)
+    worked = [str(date) for date in dates if marks[date.weekday()] == "1"]
+    return {"dates": list(map(str, dates)), "monday": monday,
+            "places": {"map": [[str(date), k] for k, date in enumerate(dates)]},
+            "worked": {"map": [[date, True] for date in worked]}}
+
+
 def dated_view(draw):
-    """A view of a chain of activities with the days of a calendar, and all its working days."""
+    """A view of a chain of activities with the days of a calendar, its marks, and all its working days."""
     marks = draw.choice([format(draw.randrange(1, 128), "07b"), "1111100", "1111110"])
     start = datetime.date(1900, 1, 1) + datetime.timedelta(draw.randrange(109000))
     durations = [draw.choice([1, 2, 5, 60]) for _ in range(draw.randrange(1, 12))]
@@ -492,27 +489,31 @@ def dated_view(draw):
     ends = [sum(durations[:at + 1]) for at in range(len(durations))]
     rows = [{"start": end - d, "end": end, "first": str(days[end - d]), "last": str(days[end - 1])}
             for d, end in zip(durations, ends)]
-    return {"rows": rows, "dates": rows, "calendar": {"days": marks}, "total": ends[-1]}, days
+    return {"rows": rows, "dates": rows, "axis": axis_of(days, marks), "total": ends[-1]}, marks, days
+
+
+def scales_of(modules, views, rooms):
+    """The scales of views between two edges; a Map comes back as a list, so the axis is put in again."""
+    scales = modules.values([["layout", "scaleOf", [view, *room]] for view, room in zip(views, rooms)])
+    return [scale | {"axis": view["axis"]} for scale, view in zip(scales, views)]
 
 
 def try_axis(modules, draw):
     """The span of an axis, its free days and the places of dates are those of datetime."""
     cases = [dated_view(draw) for _ in range(60)]
     widths = [draw.choice([300, 900, 1500]) for _ in cases]
-    scales = modules.values([["layout", "scaleOf", [view, 50, width]]
-                             for (view, _), width in zip(cases, widths)])
+    scales = scales_of(modules, [view for view, *_ in cases], [[50, width] for width in widths])
     free = modules.values([["layout", "freeDays", [scale]] for scale in scales])
-    for scale, runs, (view, days), width in zip(scales, free, cases, widths):
+    for scale, runs, (_, marks, days), width in zip(scales, free, cases, widths):
         span = (days[-1] - days[0]).days + 1
-        same("an axis", (scale["span"], scale["origin"]), (span, day_number(days[0])))
-        marks = view["calendar"]["days"]
+        same("an axis", (scale["span"], scale["origin"]), (span, 0))
         wanted = {k for k in range(span)
                   if marks[(days[0] + datetime.timedelta(k)).weekday()] == "0"}
         found = {run["place"] + k for run in runs for k in range(run["days"])}
         same("free days", found, wanted if (width - 50) / span >= 1 else set())
-    scale, origin = scales[0], EPOCH + datetime.timedelta(scales[0]["origin"])
+    scale, first = scales[0], cases[0][2][0]
     places = [-1, 0, scale["span"], scale["span"] + 1]
-    found = modules.values([["layout", "placeOfDate", [scale, str(origin + datetime.timedelta(k))]]
+    found = modules.values([["layout", "placeOfDate", [scale, str(first + datetime.timedelta(k))]]
                             for k in places])
     same("places of dates", found, [None, 0, scale["span"], None])
     try_marks(modules)
@@ -524,10 +525,9 @@ def try_marks(modules):
     def view(count):
         days = worked_days(datetime.date(2024, 3, 1), "1111100", count)
         rows = [{"start": 0, "end": count, "first": str(days[0]), "last": str(days[-1])}]
-        return {"rows": rows, "dates": rows, "calendar": {"days": "1111100"}, "total": count}
-    plain = {"rows": [], "dates": None, "calendar": None, "total": 45}
-    scales = modules.values([["layout", "scaleOf", words] for words in (
-        [view(19), 0, 540], [view(261), 0, 365], [plain, 0, 450])])
+        return {"rows": rows, "dates": rows, "axis": axis_of(days, "1111100"), "total": count}
+    plain = {"rows": [], "dates": None, "axis": None, "total": 45}
+    scales = scales_of(modules, [view(19), view(261), plain], [[0, 540], [0, 365], [0, 450]])
     weeks, months, units = modules.values([["layout", "marksOn", [scale]] for scale in scales])
     # Friday, and the Mondays 4, 11, 18 and 25 March; the Friday's date covers the first of them
     same("weeks", [[mark["place"], mark["words"]] for mark in weeks],
@@ -546,7 +546,7 @@ def try_sorting(modules, draw):
     same("orders", [(order > 0) - (order < 0) for order in found], [-1, 1, 1, 1, -1, 0])
 
 
-TRIALS = [try_dates, try_slack, try_verdicts, try_shops, try_use, try_search, try_hand_in, try_projects,
+TRIALS = [try_slack, try_verdicts, try_shops, try_use, try_search, try_hand_in, try_projects,
           try_layout, try_sorting]
 
 

@@ -1208,8 +1208,8 @@ def hard_project():
 
 
 def visit_cancel(browser):
-    """A search shows its progress, and is cancelled: then nothing of it is kept. One that ends by its
-    time limit has a bound."""
+    """A search shows its progress. Cancelled, it keeps the best schedule of the slices that had ended.
+    One that ends by its time limit has a bound."""
     drop(browser, "hard.sm", hard_project())
     wait_plan(browser, 14)
     browser.type("#best [name=seconds]", "600")
@@ -1217,10 +1217,13 @@ def visit_cancel(browser):
     browser.wait("its progress", "return /^best \\d+, lower bound \\d+, /.test("
                  "document.getElementById('best-answer').textContent)")
     browser.click("#cancel")
-    wait_text(browser, "#best-answer .refusal", "The search was cancelled. Nothing of it is kept.")
+    wait_text(browser, "#best-answer", "The search was cancelled, and the best schedule so far is kept.")
     wait_idle(browser)
     same("its button", browser.run("return document.getElementById('cancel').hidden"), True)
-    same("the schedules", len(texts(browser, "#drawn label")), len(RULES))
+    same("the schedules", len(texts(browser, "#drawn label")), len(RULES) + 1)
+    words = seen(browser, "#best-answer").split("kept. ")[1].split(":")[0].split()
+    same("the schedule that is kept", (words[0], f"best between {words[1]}" in " ".join(
+        texts(browser, "#drawn label"))), ("between", True))
     browser.type("#best [name=seconds]", "1")
     submit(browser, "best")
     wait_text(browser, "#best-answer", "the shortest that was found; no schedule is shorter than")
