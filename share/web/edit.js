@@ -1,8 +1,10 @@
-// Editing a list as a text; and plan.html without a server: starting from an example or a template,
+// Changing a list, as a table or as a text; and plan.html without a server: starting from an example or a template,
 // and one file with everything.
 
+import { cellsOf, listText } from "./cells.js";
 import { byId, clear, download, onSubmit } from "./dom.js";
-import { noteFile, takeBytes, takeFile } from "./import.js";
+import { letChangeGrid, markLine, showGrid } from "./grid.js";
+import { listOf, noteFile, takeBytes, takeFile } from "./import.js";
 import { isAlone, isUnsaved, openedFile, replaceFile, savedFile } from "./local.js";
 import { leavePlan } from "./plan.js";
 import { askLists, showPlans } from "./plans.js";
@@ -24,19 +26,36 @@ capacity,,,,4
 // the texts of the list before each change
 let earlier = [];
 
+const bytesOfText = (text) => new TextEncoder().encode(text);
+
+const outcomeOf = (list) => list && (list.text ?? list.fault.message);
+
+// the cells of a list, if the program reads the list that is written with them as the same
+async function gridRows({ name, text, given, list }) {
+  const rows = cellsOf(text), again = listText(rows);
+  const other = again === text ? list : await listOf(name, bytesOfText(again), given);
+  return outcomeOf(other) === outcomeOf(list) ? rows : null;
+}
+
 /** Shows the list that was taken, to be changed. */
-export function showEdit({ text }) {
-  const form = byId("edit");
+export async function showEdit(file) {
+  const form = byId("edit"), rows = await gridRows(file);
   form.hidden = false;
-  form.elements.list.value = text;
+  form.elements.list.value = file.text;
   byId("undo").hidden = !earlier.length;
+  byId("grid-part").hidden = !rows;
+  if (!rows) byId("list-text").open = true;
+  if (!rows) return;
+  showGrid(rows, (next) => readAgain({ list: listText(next) }));
+  const message = file.list.fault?.message ?? "";
+  markLine(Number(message.match(/\bline (\d+)/)?.[1] ?? 0), message);
 }
 
 // the name of a list makes it one, whatever its text
 const listName = (name) => (/\.(csv|tsv)$/i.test(name) ? name : `${name}.csv`);
 
 const takeText = (text) => takeBytes({ ...page.file, name: listName(page.file.name), text,
-  bytes: new TextEncoder().encode(text) });
+  bytes: bytesOfText(text) });
 
 async function readAgain({ list }) {
   const text = list.replaceAll("\r\n", "\n");
@@ -64,8 +83,7 @@ function editPlan() {
   const { n } = page.plan, { list } = recordOf(n);
   if (!list) return;
   earlier = [];
-  takeBytes({ ...list, given: new Map(list.given), bytes: new TextEncoder().encode(list.text),
-    replaces: n });
+  takeBytes({ ...list, given: new Map(list.given), bytes: bytesOfText(list.text), replaces: n });
 }
 
 /** Shows whether the list of the open plan can be changed. */
@@ -106,6 +124,7 @@ export function openSaved(text) {
 
 export function letEdit() {
   onSubmit("edit", readAgain);
+  letChangeGrid();
   byId("undo").onclick = undo;
   byId("edit-list").onclick = editPlan;
   byId("starters").onclick = ({ target: { value } }) => value && start(value);

@@ -38,8 +38,8 @@ async function triedTo(words, bytes) {
   }
 }
 
-// the project or the job shop that a list becomes, or the error of the list
-async function listOf(name, bytes, given) {
+/** Returns the project or the job shop that a list becomes, or the error of the list. */
+export async function listOf(name, bytes, given) {
   const options = [...given].flatMap(([resource, amount]) => ["--capacity", `${resource}=${amount}`]);
   const project = { isProject: true, ...await triedTo(["import", ...options], bytes) };
   if (project.text) return project;
@@ -123,11 +123,12 @@ export function forgetFile() {
 async function showList() {
   const { file } = page, { fault, text, isProject } = file.list;
   byId("preview").hidden = false;
-  showEdit(file);
+  await showEdit(file);
   importButton().hidden = Boolean(fault);
   fill("preview", ...(fault ? faultyNodes(file, fault.message)
     : isProject ? projectNodes(file, readProject(text)) : await shopNodes(file, text)));
   fill("capacities", ...(isProject ? capacityNodes(file) : []));
+  if (byId("edit").contains(document.activeElement)) return;
   if (!fault) importButton().focus();
   byId("preview").scrollIntoView({ block: "nearest" });
 }

@@ -258,6 +258,8 @@ def submit(browser, form):
     """Presses the button of a form, and waits for the answer."""
     if form in TABS:
         open_tab(browser, TABS[form])
+    if form == "edit":
+        browser.run("document.getElementById('list-text').open = true")
     browser.click(f"#{form} button:not([type=button])")
     wait_idle(browser)
 

@@ -1,0 +1,27 @@
+// The cells of a list, for the table in which it is changed. What they mean is known to the program
+// alone: the page offers the table only if the program reads the list that it writes as the same.
+
+const quoted = (cell) => (/[",;\t\n]/.test(cell) ? `"${cell.replaceAll('"', '""')}"` : cell);
+
+/** Returns a list as CSV. */
+export const listText = (rows) => rows.map((row) => `${row.map(quoted).join(",")}\n`).join("");
+
+function separatorOf(text) {
+  const head = text.slice(0, text.indexOf("\n"));
+  const count = (mark) => head.split(mark).length;
+  return ["\t", ";", ","].reduce((a, b) => (count(b) > count(a) ? b : a));
+}
+
+/** Returns the rows of a list, each as its cells. */
+export function cellsOf(list) {
+  const text = list.replace(/^\ufeff/, "").replaceAll("\r\n", "\n").replace(/\n$/, "");
+  const mark = separatorOf(`${text}\n`);
+  const pattern = new RegExp(`(?:"((?:[^"]|"")*)"|([^${mark}\\n]*))(${mark}|\\n|$)`, "gy");
+  const rows = [[]];
+  for (const [whole, inner, plain, behind] of text.matchAll(pattern)) {
+    rows.at(-1).push(inner?.replaceAll('""', '"') ?? plain);
+    if (behind === "\n") rows.push([]);
+    if (!behind || !whole) break;
+  }
+  return rows;
+}
