@@ -23,8 +23,8 @@ capacity
 1
 `;
 
-// the working days behind the first `skipped` ones, from a date on
-async function daysFrom(date, marks, holidays, skipped) {
+/** Returns working days from a date on, behind the first `skipped` ones. */
+export async function daysFrom(date, marks, holidays, skipped) {
   const words = ["days", "--format", "json", ...(holidays ? ["--holidays", "holidays"] : []),
     "--starts", "starts", date, marks, "units.sm"];
   const starts = units.map((at) => `${skipped + at}\n`).join("");

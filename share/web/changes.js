@@ -2,7 +2,9 @@
 // last values that this browser set, because the office has no route that returns them.
 
 import { command, planPath } from "./api.js";
+import { daysFrom } from "./axis.js";
 import { all, byId, fill, make, onSubmit, put } from "./dom.js";
+import { isAlone } from "./local.js";
 import { leavePlan, openPlan } from "./plan.js";
 import { dropPlan, showPlans } from "./plans.js";
 import { CODE_KINDS, page, recordOf, rememberChange } from "./state.js";
@@ -30,11 +32,15 @@ const bind = ({ place, code }) => changePlan("bind", { place: Number(place), cod
   (made) => `${placeWord()} ${made.place} is ${made.code}.`,
   `The plan has no ${placeWord().toLowerCase()} ${place}.`);
 
-const setCalendar = ({ start, holidays }) => changePlan("calendar",
-  { start, days: boxes().map(({ checked }) => Number(checked)).join(""),
-    ...(holidays?.trim() && { holidays: `${holidays.trim()}\n` }) },
-  (made) => made,
-  (made) => `From ${made.start} on; working days ${made.days}, Monday first.`);
+// the office knows no holidays: at a desk they are kept in this browser
+async function setCalendar({ start, holidays: lines }) {
+  const days = boxes().map(({ checked }) => Number(checked)).join("");
+  const holidays = lines.trim() ? `${lines.trim()}\n` : "";
+  if (holidays && start && days.includes("1")) await daysFrom(start, days, holidays, 0);
+  return changePlan("calendar", { start, days, ...(holidays && isAlone() && { holidays }) },
+    (made) => ({ ...made, holidays }),
+    (made) => `From ${made.start} on; working days ${made.days}, Monday first.`);
+}
 
 const setLag = ({ from, to, lag }) => changePlan("lag",
   { from: Number(from), to: Number(to), lag: Number(lag) },

@@ -2,14 +2,15 @@
 // and one file with everything.
 
 import { cellsOf, listText } from "./cells.js";
-import { byId, clear, download, onSubmit } from "./dom.js";
+import { byId, clear, download, onSubmit, put } from "./dom.js";
 import { letChangeGrid, markLine, showGrid } from "./grid.js";
-import { listOf, noteFile, takeBytes, takeFile } from "./import.js";
-import { isAlone, isUnsaved, openedFile, replaceFile, savedFile } from "./local.js";
+import { listOf, noteFile, sentFile, takeBytes, takeFile } from "./import.js";
+import { isAlone, isUnsaved, keepPlans, plansIn, replaceFile, savedFile } from "./local.js";
 import { leavePlan } from "./plan.js";
 import { askLists, showPlans } from "./plans.js";
 import { printed } from "./program.js";
 import { newPage, page, recordOf, remember } from "./state.js";
+import { bringBack } from "./whole.js";
 
 const EXAMPLE = `id,name,duration,predecessors,crew
 A,Measure,1,,1
@@ -68,7 +69,7 @@ const undo = () => earlier.length && takeText(earlier.pop());
 /** Keeps the list of a plan, so that it can be changed. */
 export function noteList(n, { name, text, given }) {
   earlier = [];
-  if (isAlone()) remember(n, { list: { name, text, given: [...given] } });
+  remember(n, { list: { name, text, given: [...given] } });
 }
 
 /** Puts a file in the place of that of a plan, and returns the plan; null for a new plan. */
@@ -83,12 +84,13 @@ function editPlan() {
   const { n } = page.plan, { list } = recordOf(n);
   if (!list) return;
   earlier = [];
-  takeBytes({ ...list, given: new Map(list.given), bytes: bytesOfText(list.text), replaces: n });
+  takeBytes({ ...list, given: new Map(list.given), bytes: bytesOfText(list.text),
+    replaces: isAlone() ? n : undefined });
 }
 
 /** Shows whether the list of the open plan can be changed. */
 export function showEditable({ n }) {
-  byId("edit-list").hidden = !isAlone() || !recordOf(n).list;
+  byId("edit-list").hidden = !recordOf(n).list;
 }
 
 // -- without a server
@@ -106,20 +108,28 @@ export async function start(kind) {
   await takeFile(new File([text], kind === "example" ? "example.csv" : `new-${kind}.csv`));
 }
 
-/** Opens a file that has everything; returns whether a text is one. */
-export function openSaved(text) {
-  const plans = isAlone() ? openedFile(text) : null;
+/** Opens a file that has everything; returns whether a text is one. At a desk its plans become new
+ * ones. */
+export async function openSaved(text) {
+  const plans = plansIn(text);
   if (!plans) return false;
   clear(".answer");
+  if (isAlone()) openKept(plans);
+  else await bringBack(plans, sentFile);
+  return true;
+}
+
+function openKept(plans) {
   leavePlan();
   newPage().desk = "own";
-  for (const { n, kind, bytes, instance, record } of plans) {
+  keepPlans(plans);
+  for (const { n, kind, bytes, instance, record: { set, ...record } } of plans) {
     page.plans.push({ n, kind });
     noteFile(n, kind === "project", "", bytes, instance);
-    remember(n, record);
+    remember(n, { ...record, set: set?.calendar && { calendar: set.calendar } });
+    if (set?.bind || set?.lag) put("news", "The binds and lags of a desk aren't kept in plan.html.");
   }
   showPlans();
-  return true;
 }
 
 export function letEdit() {

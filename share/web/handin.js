@@ -3,9 +3,10 @@
 import { page } from "./state.js";
 import { namesIn } from "./view.js";
 
-// a text that a spreadsheet would take for a formula gets a quote sign
+// a text that a spreadsheet would take for a formula gets a quote sign; a signed number doesn't
 function cellOf(value) {
-  const text = /^[=+\-@\t\r]/.test(value) && !/^-?\d/.test(value) ? `'${value}` : String(value);
+  const isFormula = /^[=@\t\r]/.test(value) || /^[+-](?!\d+([.,]\d+)?$)/.test(value);
+  const text = isFormula ? `'${value}` : String(value);
   return /[",;\n\r]/.test(text) ? `"${text.replaceAll('"', '""')}"` : text;
 }
 

@@ -6,6 +6,7 @@ import {
   byId, faultNodes, fill, make, onSubmit, put, refusalNode, tableNode, tell, wideNode,
 } from "./dom.js";
 import { noteList, openSaved, replacedFile, showEdit } from "./edit.js";
+import { isAlone } from "./local.js";
 import { openPlan, showPlan, takeStarts } from "./plan.js";
 import { showPlans } from "./plans.js";
 import { printed } from "./program.js";
@@ -81,7 +82,7 @@ export async function takeFile(file) {
   if (!bytes) return null;
   const text = new TextDecoder().decode(bytes);
   try {
-    if (openSaved(text)) return null;
+    if (await openSaved(text)) return null;
   } catch (fault) {
     return fill("import-answer", ...faultNodes(fault));
   }
@@ -231,27 +232,50 @@ async function importFile(fields) {
   } finally {
     byId("import-answer").scrollIntoView({ block: "nearest" });
   }
-  noteFile(made.n, isProject, file.name, bytes, instance);
+  noteMade(made, file.name, bytes, instance);
   if (list) noteList(made.n, file);
-  page.plans = [...page.plans.filter(({ n }) => n !== made.n), made]
-    .sort((a, b) => a.n - b.n);
-  showPlans();
   if (file.instances.length < 2) forgetFile();
   await openPlan(made.n);
   return `${file.name} is plan ${made.n}.`;
 }
 
-/** Keeps what the page shows of a plan's file. */
+function noteMade(made, name, bytes, instance) {
+  noteFile(made.n, made.kind === "project", name, bytes, instance);
+  page.plans = [...page.plans.filter(({ n }) => n !== made.n), made]
+    .sort((a, b) => a.n - b.n);
+  showPlans();
+}
+
+/** Sends the file of a plan, and returns the number of the new plan. */
+export async function sentFile({ kind, bytes, instance }) {
+  const path = kind === "project" ? deskPath("projects") : shopPath(instance);
+  const made = await command(path, "POST", new Blob([bytes]));
+  noteMade(made, "", bytes, instance);
+  return made.n;
+}
+
+/** Keeps what the page shows of a plan's file, and at a desk the file. */
 export function noteFile(n, isProject, name, bytes, instance) {
-  const text = new TextDecoder().decode(bytes);
-  const found = isProject ? readProject(text) : readShop(text, instance);
+  const found = noteProject(n, isProject, bytes, instance);
   if (!found) return;
-  if (isProject) page.projects.set(n, { ...found, bytes });
   remember(n, {
     title: found.title ?? name.replace(/\.[^.]*$/, ""),
     shape: undefined, names: Object.fromEntries(found.names),
     resources: Object.fromEntries(found.resources),
+    file: isAlone() ? undefined : { isProject, bytes, instance },
   });
+}
+
+function noteProject(n, isProject, bytes, instance) {
+  const text = new TextDecoder().decode(bytes);
+  const found = isProject ? readProject(text) : readShop(text, instance);
+  if (found && isProject) page.projects.set(n, { ...found, bytes });
+  return found;
+}
+
+/** Takes the files that this browser remembers. */
+export function noteKept() {
+  for (const [n, { file }] of page.records) if (file) noteProject(n, file.isProject, file.bytes);
 }
 
 export async function takeNames(file) {

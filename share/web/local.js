@@ -77,26 +77,30 @@ const unpacked = (text) => Uint8Array.from(atob(text), (letter) => letter.charCo
 
 const MARK = "plan.html";
 
-/** Returns all plans as the text of a file; `recordOf` gives what the page knows of one. */
-export function savedFile(recordOf) {
-  const plans = [...kept].map(([n, plan]) =>
-    ({ n, ...plan, bytes: packed(plan.bytes), record: recordOf(n) }));
-  isChanged = false;
-  return `${JSON.stringify({ page: MARK, plans })}\n`;
+/** Returns plans as the text of a file. */
+export const fileOf = (plans) => `${JSON.stringify({ page: MARK,
+  plans: plans.map(({ bytes, ...plan }) => ({ ...plan, bytes: packed(bytes) })) })}\n`;
+
+/** Returns the plans of a saved file, or null for another text. */
+export function plansIn(text) {
+  if (!text.startsWith(`{"page":"${MARK}"`)) return null;
+  try {
+    return JSON.parse(text).plans.map(({ bytes, ...plan }) => ({ ...plan, bytes: unpacked(bytes) }));
+  } catch {
+    throw new Refusal("This saved file is damaged: it isn't JSON, or a plan's file is missing.");
+  }
 }
 
-/** Returns the plans of a saved file, or null for another text. They replace those that are open. */
-export function openedFile(text) {
-  if (!text.startsWith(`{"page":"${MARK}"`)) return null;
-  let plans;
-  try {
-    plans = JSON.parse(text).plans;
-  } catch {
-    throw new Refusal("This saved file is damaged: it isn't JSON.");
-  }
-  kept = new Map(plans.map(({ n, record, bytes, ...plan }) =>
-    [n, { ...plan, bytes: unpacked(bytes) }]));
-  return plans.map(({ n, record }) => ({ n, record, ...kept.get(n) }));
+/** Returns all plans as the text of a file; `recordOf` gives what the page knows of one. */
+export function savedFile(recordOf) {
+  isChanged = false;
+  return fileOf([...kept].map(([n, plan]) => ({ n, ...plan, record: recordOf(n) })));
+}
+
+/** Opens the plans of a saved file, which replace those that are open. */
+export function keepPlans(plans) {
+  kept = new Map(plans.map(({ n, kind, bytes, instance, calendar }) =>
+    [n, { kind, bytes, instance, calendar }]));
 }
 
 /** Puts another file in the place of a plan's. */

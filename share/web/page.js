@@ -5,14 +5,14 @@ import { listenTo, Refusal } from "./api.js";
 import { letChange } from "./changes.js";
 import { all, byId, clear, during, fill, letChoose, letTake, make, onSubmit, put } from "./dom.js";
 import { letEdit, openAlone, start } from "./edit.js";
-import { forgetFile, letImport, takeFile, takeNames } from "./import.js";
+import { forgetFile, letImport, noteKept, takeFile, takeNames } from "./import.js";
 import { isAlone } from "./local.js";
 import { leavePlan, letPlanAct, redraw, showPaper } from "./plan.js";
 import {
-  askAgain, askLists, askMakespans, letOfficeAct, noteAnswered, noteLost, refresh, showPublished,
-  tryOfficeKey,
+  askAgain, askLists, askMakespans, letOfficeAct, noteAnswered, noteLost, refresh, showPlans,
+  showPublished, tryOfficeKey,
 } from "./plans.js";
-import { isRemembering, newPage, page, setRemembering } from "./state.js";
+import { isRemembering, newPage, page, readRecords, setRemembering } from "./state.js";
 import { glossary } from "./words.js";
 
 function showView(name) {
@@ -30,6 +30,9 @@ const trying = (words, action) => action().catch((fault) => {
 async function enterDesk(fields) {
   Object.assign(newPage(), fields);
   await trying("This desk and key don't match.", askLists);
+  await readRecords();
+  noteKept();
+  showPlans();
   leavePlan();
   forgetFile();
   showView("desk");

@@ -16,6 +16,7 @@ import { page, recordOf, remember, RULES, shapeOf, WORDS_OF_KIND } from "./state
 import { savedText, solved, verdictOf } from "./subject.js";
 import { showTable } from "./table.js";
 import { learn, nameOf, namesIn, needWords, settle, viewOf } from "./view.js";
+import { wholeText } from "./whole.js";
 import { COLUMN_WORDS, RULE_WORDS } from "./words.js";
 
 let view = null;
@@ -242,7 +243,7 @@ async function save(form) {
   const { plan, starts } = view;
   const name = `${page.desk}-plan-${plan.n}-${plan.drawn}.${form}`;
   try {
-    const text = TEXTS[form] ? TEXTS[form](view)
+    const text = form === "all.json" ? wholeText(view) : TEXTS[form] ? TEXTS[form](view)
       : await savedText(plan, form, starts, view.calendar);
     download(name, text);
     fill("save-answer");
@@ -253,7 +254,7 @@ async function save(form) {
 
 function showSaves({ plan, calendar }) {
   for (const button of all("#saves button")) {
-    const isAble = TEXTS[button.value] || (plan.model && (button.value !== "ics" || calendar));
+    const isAble = button.value === "all.json" ? recordOf(plan.n).file : TEXTS[button.value] || (plan.model && (button.value !== "ics" || calendar));
     button.hidden = !isAble;
   }
 }

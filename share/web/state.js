@@ -1,10 +1,10 @@
-// The state of the page, and what this browser remembers of plans: titles, names, and the changes
-// that were made here. Keys are never stored. With the switch off, all of it ends with the page.
+// The state of the page, and what this browser remembers of plans: files, titles, names, and the
+// changes that were made here. Keys are never stored. With the switch off, all of it ends with the page.
 
 import { isAlone } from "./local.js";
 
 const SWITCH = "plan/forget";
-const PREFIX = "plan/of/";
+const STORE = "plans";
 
 const blankPage = () => ({
   desk: "", key: "", plans: [], codes: [], published: new Map(),
@@ -27,8 +27,8 @@ export const RULES = {
 export const CODE_KINDS = { project: "crew", shop: "machine" };
 export const WORDS_OF_KIND = { project: "project", shop: "job shop" };
 
-// uses the browser's memory, which may be closed, full or damaged: the page goes on without it
-function withMemory(action) {
+// the browser's memory may be closed, full or damaged: the page goes on without it
+function withSwitch(action) {
   try {
     return isAlone() ? undefined : action(localStorage);
   } catch {
@@ -36,32 +36,51 @@ function withMemory(action) {
   }
 }
 
-export const isRemembering = () => withMemory((memory) => memory.getItem(SWITCH)) !== "1";
+export const isRemembering = () => withSwitch((memory) => memory.getItem(SWITCH)) !== "1";
 
-const keyOf = (n) => `${PREFIX}${page.desk}/${n}`;
-
-const write = (n, record) => isRemembering()
-  && withMemory((memory) => memory.setItem(keyOf(n), JSON.stringify(record)));
-
-/** Switches the memory of this computer; switching it off forgets all desks. */
-export const setRemembering = (isOn) => withMemory((memory) => {
-  if (isOn) {
-    memory.removeItem(SWITCH);
-    page.records.forEach((record, n) => write(n, record));
-  } else {
-    for (const key of Object.keys(memory)) if (key.startsWith(PREFIX)) memory.removeItem(key);
-    memory.setItem(SWITCH, "1");
-  }
+const resultOf = (request) => new Promise((resolve, reject) => {
+  request.onsuccess = () => resolve(request.result);
+  request.onerror = () => reject(request.error);
 });
 
-/** Returns the record of a plan: { title, names, resources, shape, makespan, set }. */
-export function recordOf(n) {
-  if (!page.records.has(n)) {
-    const record = withMemory((memory) => JSON.parse(memory.getItem(keyOf(n))));
-    page.records.set(n, record ?? {});
-  }
-  return page.records.get(n);
+let database = null;
+
+function opened() {
+  const request = indexedDB.open("plan", 1);
+  request.onupgradeneeded = () => request.result.createObjectStore(STORE);
+  return resultOf(request);
 }
+
+async function withStore(action) {
+  try {
+    if (isAlone()) return undefined;
+    const store = (await (database ??= opened())).transaction(STORE, "readwrite").objectStore(STORE);
+    return await resultOf(action(store));
+  } catch {
+    return undefined;
+  }
+}
+
+const write = (n, record, { desk } = page) =>
+  isRemembering() && withStore((store) => store.put({ n, record }, [desk, n]));
+
+/** Switches the memory of this computer; switching it off forgets all desks. */
+export function setRemembering(isOn) {
+  withSwitch((memory) => (isOn ? memory.removeItem(SWITCH) : memory.setItem(SWITCH, "1")));
+  if (isOn) page.records.forEach((record, n) => write(n, record));
+  else withStore((store) => store.clear());
+}
+
+/** Reads what this browser remembers of the plans of the desk. */
+export async function readRecords() {
+  const asking = page, { desk } = page;
+  const all = IDBKeyRange.bound([desk], [desk, []]);
+  const kept = isRemembering() ? await withStore((store) => store.getAll(all)) : [];
+  for (const { n, record } of kept ?? []) asking.records.set(n, record);
+}
+
+/** Returns the record of a plan: { title, names, resources, shape, makespan, set, file, list }. */
+export const recordOf = (n) => page.records.get(n) ?? {};
 
 export function remember(n, members) {
   const record = { ...recordOf(n), ...members };
@@ -69,9 +88,9 @@ export function remember(n, members) {
   write(n, record);
 }
 
-export function forget(n) {
+export function forget(n, { desk } = page) {
   page.records.delete(n);
-  withMemory((memory) => memory.removeItem(keyOf(n)));
+  withStore((store) => store.delete([desk, n]));
 }
 
 /** Returns a text that is the same for plans of the same rows. */

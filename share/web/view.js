@@ -5,6 +5,7 @@ import { Refusal } from "./api.js";
 import { axisOf } from "./axis.js";
 import { byId } from "./dom.js";
 import { coloursOf } from "./layout.js";
+import { isAlone } from "./local.js";
 import { mostNeeded } from "./project.js";
 import { page, recordOf, shapeOf } from "./state.js";
 import { agrees, daysOf, projectModel, shopModel, slackOf, subjectOf } from "./subject.js";
@@ -88,16 +89,19 @@ async function settleModel(plan) {
 const dayCells = (rows) =>
   rows.map((row) => (row && row.first !== "-" ? `${row.first} ${row.last}` : "-")).join();
 
-// the calendar that was set here, if the office's days are those that the program has by it
+// the calendar that was set here, if the office's days are those that the program has by it; at a desk
+// the days are then those that also skip holidays
 async function settleCalendar(plan) {
   const set = recordOf(plan.n).set?.calendar;
   const told = [...plan.days].filter(([, days]) => days.rows);
   if (!set || !told.length) return;
+  const holidays = isAlone() ? set.holidays : "";
   for (const [rule, days] of told) {
-    const own = await daysOf(plan, startsOf(plan.schedules.get(rule)), set);
+    const own = await daysOf(plan, startsOf(plan.schedules.get(rule)), { ...set, holidays });
     if (dayCells(own) !== dayCells(days.rows)) return;
   }
   plan.calendar = { start: set.start, days: set.days, holidays: set.holidays };
+  if (set.holidays && !isAlone()) plan.days.clear();
 }
 
 // the office's dates, or else those of the program, if the calendar is known

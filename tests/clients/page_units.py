@@ -390,11 +390,14 @@ def try_hand_in(modules, draw):
     same("starts of one's own", sorted(json.loads(texts[3])),
          ["desk", "makespan", "plan", "rows", "schedule", "title"])
     given = [{"act": 1, "name": 'Walls, "north"', "start": 0}, {"act": 2, "name": "=1+1", "start": 4},
-             {"act": 3, "name": "-x", "start": 5}]
+             {"act": 3, "name": "-x", "start": 5}, {"act": 4, "name": "-1+cmd|'x'!A1", "start": -3},
+             {"act": 5, "name": "+4,5", "start": 6}, {"act": 6, "name": "@SUM(1)", "start": 7},
+             {"act": 7, "name": "+-1", "start": 8}]
     text = modules.values([["handin", "csvText", [given]]])[0]
     same("CSV that is written", list(csv.reader(io.StringIO(text))), [
         ["act", "name", "start"], ["1", 'Walls, "north"', "0"], ["2", "'=1+1", "4"],
-        ["3", "'-x", "5"]])
+        ["3", "'-x", "5"], ["4", "'-1+cmd|'x'!A1", "-3"], ["5", "+4,5", "6"], ["6", "'@SUM(1)", "7"],
+        ["7", "'+-1", "8"]])
     for text in texts[:1]:
         paths = given_files(modules.room, {"two.sm": project([0, 2], [[2], []], [[0], [0]], [1]).decode(),
                                            "starts": text})

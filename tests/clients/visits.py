@@ -52,6 +52,25 @@ def slack_in(text, lines):
     return brute_slack(model_of(text), [int(row[2]) for row in rows_of(lines)])
 
 
+def kept(browser):
+    """What the browser keeps of plans: the keys of its records, and all of them as a text."""
+    return browser.run("""
+        return new Promise((tell) => {
+            const request = indexedDB.open("plan", 1);
+            request.onupgradeneeded = () => request.result.createObjectStore("plans");
+            request.onsuccess = () => {
+                const store = request.result.transaction("plans").objectStore("plans");
+                const keys = store.getAllKeys(), values = store.getAll();
+                const text = (_, value) => value instanceof Uint8Array ? new TextDecoder().decode(value) : value;
+                store.transaction.oncomplete = () => {
+                    request.result.close();
+                    tell([keys.result, JSON.stringify(values.result, text)]);
+                };
+            };
+        });
+    """)
+
+
 def column(browser, head, css="#table"):
     """The cells of a column of a table."""
     heads, *rows = seen_table(browser, css)
@@ -128,10 +147,11 @@ def visit_desk(browser):
     wait_text(browser, "#plans", "No plans yet.")
     wanted = [["Code", "Kind", "Capacity"], ["crew-a", "crew", "4"], ["press-1", "machine", "1"]]
     same("the published capacities", seen_table(browser, "#codes"), wanted)
-    kept = browser.run("return [localStorage.length, sessionStorage.length, document.cookie,"
-                       " location.href.split('/').pop(),"
-                       " document.querySelector('#enter [name=key]').value]")
-    same("what the browser keeps of the key", kept, [0, 0, "", "", ""])
+    found = browser.run("return [localStorage.length, sessionStorage.length, document.cookie,"
+                        " location.href.split('/').pop(),"
+                        " document.querySelector('#enter [name=key]').value]")
+    same("what the browser keeps of the key", found, [0, 0, "", "", ""])
+    same("what it keeps of plans", kept(browser), [[], "[]"])
 
 
 def visit_left(browser):
@@ -721,11 +741,12 @@ def visit_need(browser, office):
 
 
 def visit_names(browser):
-    """Names outlast a sign-in on this computer, without any key, and can be switched off; the plan's
-    file gives them back."""
-    kept = browser.run("return JSON.stringify(localStorage)")
-    same("a name that is kept", "Foundation" in kept, True)
-    same("keys that are kept", [key for key in (KEY, OFFICE_KEY, FIRST_KEY) if key in kept], [])
+    """Files and names outlast a sign-in on this computer, without any key, and can be switched off; the
+    plan's file gives them back."""
+    keys, text = kept(browser)
+    same("a name and a file that are kept", ("Foundation" in text, "REQUESTS/DURATIONS" in text), (True, True))
+    stored = text + browser.run("return JSON.stringify(localStorage)")
+    same("keys that are kept", [key for key in (KEY, OFFICE_KEY, FIRST_KEY) if key in stored], [])
     browser.click("#leave")
     sign_in(browser)
     wait_text(browser, "#plans", "Two sites")
@@ -733,6 +754,15 @@ def visit_names(browser):
     same("makespans in the list", all(cell.isdigit() for cell in makespans), True)
     open_plan(browser, 6)
     same("the names then", column(browser, "name")[1], "Excavation")
+    same("the slack by the file", "slack" in seen_table(browser, "#table")[0], True)
+    same("its list", browser.run("return document.getElementById('edit-list').checkVisibility()"), True)
+    browser.click("#remember")
+    browser.click("#leave")
+    same("what is kept without the switch", (browser.run("return Object.keys(localStorage)"), kept(browser)),
+         (["plan/forget"], [[], "[]"]))
+    sign_in(browser)
+    open_plan(browser, 6)
+    same("a column of names", "name" in seen_table(browser, "#table")[0], False)
     wait_text(browser, "#note", "Slack isn't known, because this page hasn't read the plan's file.")
     same("the colours", set(bar_classes(browser)), {"plain"})
     same("the use without a file", texts(browser, "#use svg"), [])
@@ -746,23 +776,15 @@ def visit_names(browser):
     submit(browser, "bind")
     wait_text(browser, "#bind .refusal", "E03 body")
     same("what the page says of it", texts(browser, "#bind .refusal p"), ["The plan has no resource 3."])
-    browser.click("#remember")
-    browser.click("#leave")
-    kept = browser.run("return Object.keys(localStorage)")
-    same("what is kept without the switch", kept, ["plan/forget"])
-    sign_in(browser)
-    open_plan(browser, 6)
-    same("a column of names", "name" in seen_table(browser, "#table")[0], False)
     browser.choose("#names-file", os.path.join(TOP, HOUSE))
     wait_text(browser, "#names-answer .refusal", "house.sm isn't the file of plan 6")
     browser.choose("#names-file", os.path.join(TOP, "tests", "tables", "list.csv"))
     wait_text(browser, "#names-answer", "list.csv is the file of plan 6.")
     same("the names again", column(browser, "name")[1], "Excavation")
-    same("the slack again", "slack" in seen_table(browser, "#table")[0], True)
-    same("what is kept then", browser.run("return Object.keys(localStorage)"), ["plan/forget"])
+    same("what is kept then", kept(browser), [[], "[]"])
     browser.click("#remember")
-    kept = browser.run("return Object.keys(localStorage).sort()")
-    same("what is kept with the switch", f"plan/of/{DESK}/6" in kept and "plan/forget" not in kept, True)
+    browser.wait("the records", "return !localStorage.getItem('plan/forget')")
+    same("what is kept with the switch", [DESK, 6] in kept(browser)[0], True)
 
 
 def visit_other(browser, office):
@@ -973,9 +995,7 @@ def visit_delete(browser):
         wait_text(browser, "#plan-head, #news", told)
         wait_idle(browser)
     same("the plans", seen_plans(browser), [1, 3, 4, 5, 6, 7, 8])
-    same("its record", browser.run("return localStorage.getItem(arguments[0])", f"plan/of/{DESK}/2"), None)
-    same("the others' records", browser.run("return localStorage.getItem(arguments[0]) !== null",
-                                            f"plan/of/{DESK}/6"), True)
+    same("its record", [n for n in (2, 6) if [DESK, n] in kept(browser)[0]], [6])
 
 
 # ---- a lost connection
@@ -1232,6 +1252,48 @@ def visit_cancel(browser):
     same("the search", (told, bound < int(total)), ("between", True))
 
 
+def visit_whole(browser, office):
+    """Holidays at a desk are kept in the browser. Everything about a plan is saved as one file; dropped,
+    it is a new plan with the same file, bind, lag, calendar and schedule."""
+    n = max(seen_plans(browser), default=0) + 1
+    drop(browser, "house.sm", file_of(HOUSE).decode())
+    wait_plan(browser, n)
+    open_tab(browser, "changes")
+    browser.type("#bind [name=place]", "1")
+    submit(browser, "bind")
+    set_date(browser, "#calendar [name=start]", "2024-03-01")
+    holidays = "2024-03-08\n2024-03-29..2024-04-01\n"
+    for text, told in (("2024-13-01", "line 1"), (holidays, "From 2024-03-01 on")):
+        browser.run("calendar.elements.holidays.value = arguments[0]", text)
+        submit(browser, "calendar")
+        wait_text(browser, "#calendar .answer", told)
+    with open(os.path.join(os.path.dirname(office.database), "holidays"), "w", encoding="ascii") as file:
+        file.write(holidays)
+    rows = rows_of(printed("days", "--holidays", file.name, "lft", "2024-03-01", "1111100", "-",
+                           given=house_of_four()))
+    same("the last days", column(browser, "last day"), ["" if row[-1] == "-" else row[-1] for row in rows])
+    for name, value in {"from": "2", "to": "3", "lag": "5"}.items():
+        browser.type(f"#lag [name={name}]", value)
+    submit(browser, "lag")
+    wait_text(browser, "#lag-set", "2-3: 5 (set here on")
+    submit(browser, "best")
+    wait_text(browser, "#drawn label:last-child", "best optimal")
+    browser.click("#drawn [value=best]")
+    before = seen_table(browser, "#table")
+    name, text = downloaded(browser, office, "all")
+    same("the name of the file", name, f"{DESK}-plan-{n}-best.all.json")
+    same("keys in it", [key for key in (KEY, OFFICE_KEY) if key in text], [])
+    drop(browser, name, text)
+    wait_plan(browser, n + 1)
+    wait_text(browser, "#news", f"house is plan {n + 1}, with 3 changes.")
+    wait_text(browser, "#check-answer strong", "active")
+    same("the schedule", seen_table(browser, "#table"), before)
+    same("the values set", values_set(browser), ["1", "2", "3", "5", "2024-03-01"])
+    same("what the office has", listed(office.server)[-2:], [n, n + 1])
+    drop(browser, "damaged.json", text[:200])
+    wait_text(browser, "#import-answer .refusal", "This saved file is damaged")
+
+
 def visit_module(browser):
     """A module of another digest is refused; the page goes on without slack."""
     state = lambda script: browser.call("POST", "/execute/async", {"script": script, "args": []})
@@ -1375,5 +1437,5 @@ VISIT = [
     visit_names, visit_other,
     visit_shop, visit_colours, visit_links, visit_focus, visit_closed, visit_refused, visit_keys, visit_delete,
     visit_lost, visit_found, visit_waiting, visit_sizes, visit_senses, visit_paper, visit_orders,
-    visit_cancel, visit_quiet, visit_module, visit_pictures,
+    visit_cancel, visit_whole, visit_quiet, visit_module, visit_pictures,
 ]
