@@ -3,12 +3,13 @@
 
 import { command, planPath } from "./api.js";
 import { daysFrom } from "./axis.js";
-import { all, byId, fill, make, onSubmit, put } from "./dom.js";
+import { all, byId, make, onSubmit, put } from "./dom.js";
 import { isAlone } from "./local.js";
+import { visitPlace } from "./place.js";
 import { leavePlan, openPlan } from "./plan.js";
 import { dropPlan, showPlans } from "./plans.js";
 import { CODE_KINDS, page, recordOf, rememberChange } from "./state.js";
-import { namesIn } from "./view.js";
+import { named, namesIn } from "./view.js";
 
 const NOT_HERE = "Not set on this computer; the office doesn't tell it.";
 const boxes = () => all("#marks input");
@@ -63,6 +64,7 @@ async function deletePlan() {
   const { n } = await command(planPath(page.plan.n), "DELETE");
   dropPlan(n);
   leavePlan();
+  visitPlace(0);
   showPlans();
   byId("plans-head").focus();
   put("news", `Plan ${n} is deleted.`);
@@ -75,33 +77,55 @@ function showSet(place, changes, words) {
   return made.at(-1) ?? {};
 }
 
-export function showChanges(plan) {
+const optionNodes = (count, least, names) => Array.from({ length: count }, (_, at) =>
+  make("option", { value: at + least }, named(at + least, names[at + least])));
+
+function showBind(plan, binds) {
   const isProject = plan.kind === "project";
-  const { bind: binds, calendar, lag: lags } = recordOf(plan.n).set ?? {};
   const word = isProject ? "Resource" : "Machine";
   const { place, code } = byId("bind").elements;
   const count = plan.model?.capacities.length ?? (isProject ? 16 : 20);
-  place.min = isProject ? 1 : 0;
-  place.max = isProject ? count : count - 1;
   put("place-word", word);
-  fill("places", ...Object.entries(namesIn(plan).resources)
-    .map(([value, name]) => make("option", { value }, name)));
+  place.replaceChildren(...optionNodes(count, isProject ? 1 : 0, namesIn(plan).resources));
   code.replaceChildren(...page.codes.filter(({ kind }) => kind === CODE_KINDS[plan.kind])
     .map((found) => make("option", { value: found.code }, `${found.code} (${found.capacity})`)));
   const bound = showSet("bind-set", binds,
     (made) => `${word.toLowerCase()} ${made.at} is ${made.code}`);
   place.value = bound.at ?? "";
   if (bound.code) code.value = bound.code;
+}
+
+// the successors of an activity are known from the plan's file
+function showLag(plan, lags) {
   const delayed = showSet("lag-set", lags, ({ at, lag }) => `${at}: ${lag}`);
   const { from, to, lag } = byId("lag").elements;
-  [from.value, to.value] = (delayed.at ?? "-").split("-");
+  const options = () => optionNodes(plan.dates?.rows?.length ?? 0, 1, namesIn(plan).names);
+  const isAfter = ({ value }) => !plan.model || plan.model.arcs.some((arc) =>
+    arc.from + 1 === Number(from.value) && arc.to + 1 === Number(value));
+  from.onchange = () => to.replaceChildren(...options().filter(isAfter));
+  from.replaceChildren(...options());
+  const [first, second] = (delayed.at ?? "-").split("-");
+  from.value = first;
+  from.onchange();
+  to.value = second;
   lag.value = delayed.lag ?? "";
-  byId("lag").hidden = !isProject;
-  byId("calendar").elements.start.value = calendar?.start ?? "";
-  byId("calendar").elements.holidays.value = calendar?.holidays ?? "";
+}
+
+function showCalendar(calendar) {
+  const { start, holidays } = byId("calendar").elements;
+  start.value = calendar?.start ?? "";
+  holidays.value = calendar?.holidays ?? "";
   boxes().forEach((box, at) => { box.checked = (calendar?.days ?? "1111100")[at] === "1"; });
   put("calendar-set", calendar
     ? `Set here on ${calendar.on}; the office doesn't tell it.` : NOT_HERE);
+}
+
+export function showChanges(plan) {
+  const { bind: binds, calendar, lag: lags } = recordOf(plan.n).set ?? {};
+  byId("lag").hidden = plan.kind !== "project";
+  showBind(plan, binds);
+  showLag(plan, lags);
+  showCalendar(calendar);
 }
 
 export function letChange() {

@@ -43,12 +43,24 @@ export function tableNode({ caption, heads, rows, foot, marks = [] }) {
 
 const MEANINGS = { ...FAULTS, ...LIST_FAULTS, ...PAGE_FAULTS };
 
+// a text of `plan explain` with what a line names in the place of A, B, R, M and N
+function filled(words, line) {
+  const cycle = line.match(/\bcycle ([\d ]+)/)?.[1].trim().split(" ");
+  let text = cycle ? words.replace("A, B, ..", cycle.join(", ")).replace("precedes A", `precedes ${cycle[0]}`)
+    : words;
+  for (const [kind, letter] of [["activity", "A"], ["resource", "R"], ["machine", "M"], ["line", "N"]]) {
+    const number = line.match(new RegExp(`\\b${kind} (\\d+)`))?.[1];
+    if (number) text = text.replace(new RegExp(`\\b(${kind}) ${letter}\\b`, "gi"), `$1 ${number}`);
+  }
+  return text;
+}
+
 /** Returns an error with its meaning, by default that of its last code. */
 export function refusalNode(line, lead = "", meaning = null) {
   const code = (line.match(/\b[A-Z]\d+\b/g) ?? []).findLast((found) => MEANINGS[found]);
   return make("div", { class: "refusal", role: "alert" },
     ...(lead ? [say(lead, { class: "lead" })] : []), make("strong", {}, line),
-    ...(meaning ?? MEANINGS[code] ?? []).map((words) => say(words)));
+    ...(meaning ?? MEANINGS[code] ?? []).map((words) => say(filled(words, line))));
 }
 
 export function faultNodes(fault) {

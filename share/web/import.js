@@ -7,6 +7,7 @@ import {
 } from "./dom.js";
 import { noteList, openSaved, replacedFile, showEdit } from "./edit.js";
 import { isAlone } from "./local.js";
+import { showPlace } from "./place.js";
 import { openPlan, showPlan, takeStarts } from "./plan.js";
 import { showPlans } from "./plans.js";
 import { printed } from "./program.js";
@@ -23,8 +24,10 @@ const importButton = () => byId("import").querySelector("button");
 async function bytesOf(file) {
   const isLarge = file.size > LARGEST_FILE;
   const content = isLarge ? null : await file.arrayBuffer().catch(() => null);
-  if (content) return new Uint8Array(content);
-  const words = isLarge ? "It has more than 1,048,576 bytes" : "It can't be read";
+  const isWorkbook = content && new TextDecoder().decode(content.slice(0, 4)) === "PK\x03\x04";
+  if (content && !isWorkbook) return new Uint8Array(content);
+  const words = isLarge ? "It has more than 1,048,576 bytes"
+    : isWorkbook ? "It is a workbook. Save its sheet as CSV (UTF-8), and drop that" : "It can't be read";
   fill("import-answer", refusalNode(`${file.name} was not sent. ${words}.`));
   return null;
 }
@@ -108,6 +111,7 @@ export async function takeBytes({ name, bytes, text, given = new Map(), replaces
   instance.value = instances[0] ?? "-";
   byId("instance-label").hidden = Boolean(isProject || list);
   byId("chosen").hidden = importButton().hidden = false;
+  showPlace();
   if (list) return showList();
   return isProject || instances.length < 2 ? byId("import").requestSubmit() : instance.focus();
 }
@@ -117,6 +121,7 @@ export function forgetFile() {
   byId("chosen").hidden = byId("preview").hidden = byId("edit").hidden = true;
   fill("preview");
   fill("capacities");
+  showPlace();
 }
 
 // -- lists
@@ -158,7 +163,8 @@ function capacityNode(name, value) {
 
 const previewNodes = (name, kind, parts, table) => [
   tell(`${name} becomes a ${kind} of ${parts}. Look at it, then import it.`),
-  wideNode(`The ${kind}`, tableNode(table)),
+  make("details", {}, make("summary", {}, "As the program reads it"),
+    wideNode(`The ${kind}`, tableNode(table))),
 ];
 
 // the first and the last activity of the project aren't rows of the list

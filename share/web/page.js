@@ -7,7 +7,8 @@ import { all, byId, clear, during, fill, letChoose, letTake, make, onSubmit, put
 import { letEdit, openAlone, start } from "./edit.js";
 import { forgetFile, letImport, noteKept, takeFile, takeNames } from "./import.js";
 import { isAlone } from "./local.js";
-import { leavePlan, letPlanAct, redraw, showPaper } from "./plan.js";
+import { letGoBack, visitPlace } from "./place.js";
+import { leavePlan, letPlanAct, openPlan, redraw, showPaper } from "./plan.js";
 import {
   askAgain, askLists, askMakespans, letOfficeAct, noteAnswered, noteLost, refresh, showPlans,
   showPublished, tryOfficeKey,
@@ -19,6 +20,8 @@ function showView(name) {
   for (const view of ["door", "desk", "office"]) byId(view).hidden = view !== name;
   byId("leave").hidden = byId("who").hidden = name === "door" || isAlone();
   put("who", name === "office" ? "The office" : `Desk ${page.desk}`);
+  if (name !== "desk") document.title = name === "office" ? "The office" : "Scheduling desks";
+  if (name !== "door" && !isAlone()) visitPlace(0);
   byId("remember").checked = isRemembering();
 }
 
@@ -58,6 +61,12 @@ function leave() {
   forgetFile();
   showView("door");
   byId("enter").elements.desk.focus();
+}
+
+function openList() {
+  leavePlan();
+  forgetFile();
+  byId("plans-head").focus();
 }
 
 function letDrop() {
@@ -107,6 +116,11 @@ function letAct() {
   letOfficeAct();
   letChoose(byId("tabs"));
   letTake(byId("names-zone"), takeNames);
+  letGoBack(openPlan, openList);
+  byId("to-plans").onclick = () => {
+    visitPlace(0);
+    openList();
+  };
   byId("leave").onclick = leave;
   byId("again").onclick = () => during(byId("again"), byId("plans-answer"), askAgain);
   addEventListener("focus", refresh);

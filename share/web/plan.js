@@ -10,6 +10,7 @@ import {
 } from "./dom.js";
 import { showEditable } from "./edit.js";
 import { TEXTS } from "./handin.js";
+import { visitPlace } from "./place.js";
 import { markOpen, showPlans } from "./plans.js";
 import { searchWords, shorterOf } from "./search.js";
 import { page, recordOf, remember, RULES, shapeOf, WORDS_OF_KIND } from "./state.js";
@@ -17,7 +18,7 @@ import { savedText, solved, verdictOf } from "./subject.js";
 import { showTable } from "./table.js";
 import { learn, nameOf, namesIn, needWords, settle, viewOf } from "./view.js";
 import { wholeText } from "./whole.js";
-import { COLUMN_WORDS, RULE_WORDS } from "./words.js";
+import { COLUMN_WORDS, RULE_NAMES, RULE_WORDS } from "./words.js";
 
 let view = null;
 // ends the search that is on
@@ -29,6 +30,7 @@ export async function openPlan(n) {
   const drawn = !isNew && RULES[kind].includes(page.plan.drawn) ? page.plan.drawn : RULES[kind][0];
   const plan = { n, kind, drawn, schedules: new Map(), days: new Map() };
   page.plan = plan;
+  visitPlace(n);
   markOpen();
   awaitPlan(isNew);
   try {
@@ -166,7 +168,8 @@ function showChoice(plan) {
   fill("drawn", byId("drawn").firstElementChild, ...choices);
 }
 
-const titled = (words) => make("abbr", { title: COLUMN_WORDS[words] ?? RULE_WORDS[words] }, words);
+const titled = (words) =>
+  make("abbr", { title: COLUMN_WORDS[words] ?? RULE_WORDS[words] }, RULE_NAMES[words] ?? words);
 
 function showDates(dates) {
   byId("dates-fold").hidden = !dates?.rows;

@@ -4,6 +4,7 @@
 import { ask, askTable, command, deskPath, Lost, orRefusal, planPath, Refusal } from "./api.js";
 import { all, byId, during, fill, make, onSubmit, put, say, tableNode } from "./dom.js";
 import { openPlan, leavePlan } from "./plan.js";
+import { showPlace } from "./place.js";
 import { forget, page, recordOf, remember, RULES, WORDS_OF_KIND } from "./state.js";
 
 const MOST_MAKESPANS = 20;
@@ -35,7 +36,8 @@ export function showPlans() {
   });
   const heads = ["Number", "Title", "Kind", "Makespan"];
   fill("plans",
-    rows.length ? tableNode({ heads, rows }) : say("No plans yet. Drop a file below."));
+    rows.length ? tableNode({ heads, rows }) : say("No plans yet. Drop a file, or start with an example."));
+  byId("start").classList.toggle("alone", rows.length > 0);
   if (value) byId("plans").querySelector(`[value="${value}"]`)?.focus();
   markOpen();
 }
@@ -44,6 +46,7 @@ export function markOpen() {
   for (const button of all("#plans button")) {
     button.ariaCurrent = Number(button.value) === page.plan?.n ? "true" : null;
   }
+  showPlace();
 }
 
 function codesTable(codes, none) {

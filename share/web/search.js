@@ -1,6 +1,7 @@
 // The result of a search for the best schedule, beside the schedules of the rules.
 
 import { RULES } from "./state.js";
+import { RULE_NAMES } from "./words.js";
 
 const totalOf = ({ schedules }, name) => schedules.get(name).total;
 
@@ -18,9 +19,9 @@ export function shorterOf(plan) {
 function comparedWords(plan) {
   const least = leastRule(plan);
   const gain = totalOf(plan, least) - totalOf(plan, "best");
-  if (gain > 0) return `It is ${gain} shorter than the shortest by a rule (${least}).`;
-  if (gain === 0) return `The rule ${least} is as good.`;
-  return `The schedule by the rule ${least} is ${-gain} shorter, so it is drawn.`;
+  if (gain > 0) return `It is ${gain} shorter than the shortest by a rule (${RULE_NAMES[least]}).`;
+  if (gain === 0) return `The rule "${RULE_NAMES[least]}" is as good.`;
+  return `The schedule by the rule "${RULE_NAMES[least]}" is ${-gain} shorter, so it is drawn.`;
 }
 
 /** Returns the words on a search, whose schedule is `best`. */

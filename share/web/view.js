@@ -8,6 +8,7 @@ import { coloursOf } from "./layout.js";
 import { isAlone } from "./local.js";
 import { mostNeeded } from "./project.js";
 import { page, recordOf, shapeOf } from "./state.js";
+import { RULE_NAMES } from "./words.js";
 import { agrees, daysOf, projectModel, shopModel, slackOf, subjectOf } from "./subject.js";
 
 const STARRED = "critical by dates alone (crews not counted)";
@@ -114,7 +115,8 @@ function datesIn(plan, rule) {
 
 export function nameOf(plan, rule) {
   const { verdict, total } = plan.schedules.get(rule);
-  return rule === "best" ? `best ${verdict} ${total}` : `${rule} ${total}${verdict}`;
+  return rule === "best" ? `best ${verdict} ${total}`
+    : `${RULE_NAMES[rule] ?? rule} ${total}${verdict}`;
 }
 
 /** Returns the title and the names of a plan; none if they were remembered of other rows. */

@@ -1,5 +1,10 @@
 // The words of the page: what rules, columns, terms and the errors of lists mean.
 
+export const RULE_NAMES = {
+  lft: "latest finish first", slk: "least slack first", spt: "shortest first",
+  mts: "most successors first", num: "in the order of numbers", mwkr: "most work left first",
+  fcfs: "first come, first served",
+};
 export const RULE_WORDS = {
   lft: "least latest finish: the activity that must end first",
   slk: "least slack: the activity with the smallest float",

@@ -326,13 +326,13 @@ def try_search(modules, draw):
                "shop": {"mwkr": 9, "spt": 8, "fcfs": 10}}
     cases = [
         ("project", "between", 58, "mts", "between 58: the shortest that was found; no schedule is shorter than 50. "
-         "The schedule by the rule mts is 1 shorter, so it is drawn."),
+         'The schedule by the rule "most successors first" is 1 shorter, so it is drawn.'),
         ("project", "between", 57, "best", "between 57: the shortest that was found; no schedule is shorter than 50. "
-         "The rule mts is as good."),
+         'The rule "most successors first" is as good.'),
         ("project", "optimal", 50, "best", "optimal 50: no schedule of this plan is shorter. "
-         "It is 7 shorter than the shortest by a rule (mts)."),
+         "It is 7 shorter than the shortest by a rule (most successors first)."),
         ("shop", "between", 11, "spt", "between 11: the shortest that was found; no schedule is shorter than 50. "
-         "The schedule by the rule spt is 3 shorter, so it is drawn."),
+         'The schedule by the rule "shortest first" is 3 shorter, so it is drawn.'),
     ]
     slices = modules.values([["subject", "slicesOf", [seconds]] for seconds in (1, 2, 3, 10, 60, 600, 86400)])
     same("slices", slices[:5], [[1], [2], [1, 2], [1, 2, 7], [1, 2, 4, 8, 45]])

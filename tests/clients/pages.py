@@ -7,6 +7,12 @@ from exchanges import TOP
 from programs import Wrong, plan, same
 
 RULES = ["lft", "slk", "spt", "mts", "num"]
+# the rules in the words of the page
+RULE_NAMES = {
+    "lft": "latest finish first", "slk": "least slack first", "spt": "shortest first",
+    "mts": "most successors first", "num": "in the order of numbers", "mwkr": "most work left first",
+    "fcfs": "first come, first served",
+}
 
 
 # ---- what `plan` prints
@@ -23,9 +29,16 @@ def printed(*words, given=b""):
     return out.decode().splitlines()
 
 
-def explained(code):
-    """What `plan explain` says of a code, but for its form and for which line N is."""
-    return [re.sub(r"(?<=\.) N is .*", "", text) for text in printed("explain", code)[1:]]
+def explained(line):
+    """What `plan explain` says of the code of an error, but for its form and for which line N is; with
+    the line and the activities of the error in the place of letters."""
+    code, _, number, *rest = line.split()
+    texts = [re.sub(r"(?<=\.) N is .*", "", text) for text in printed("explain", code)[1:]]
+    texts = [re.sub(r"\b([Ll]ine) N\b", rf"\1 {number}", text) for text in texts]
+    if rest[:1] == ["cycle"]:
+        texts = [text.replace("A, B, ..", ", ".join(rest[1:])).replace("precedes A", f"precedes {rest[1]}")
+                 for text in texts]
+    return texts
 
 
 def rows_of(lines):
@@ -140,7 +153,7 @@ def same_project(browser, given):
     tables = {rule: printed("schedule", rule, "-", given=given) for rule in RULES}
     columns = [[f"{row[2]}–{row[3]}" for row in rows_of(lines)] for lines in tables.values()]
     fixed = [row[:2] for row in rows_of(tables["lft"])]
-    wanted = [["act", "d", *RULES]]
+    wanted = [["act", "d", *(RULE_NAMES[rule] for rule in RULES)]]
     wanted += [[*row, *cells] for row, cells in zip(fixed, zip(*columns))]
     wanted += [["makespan", "", *map(makespan_of, tables.values())]]
     same("the schedules by rule", seen_table(browser, "#rules"), wanted)
@@ -271,6 +284,15 @@ def focus_window(browser):
         return performance.now() - window.focused > 1050;
     """)
     browser.run("window.focused = performance.now(); dispatchEvent(new Event('focus'))")
+
+
+def pick(browser, css, value):
+    """Chooses a value of a list, or sets it in a field."""
+    browser.run("""
+        const node = document.querySelector(arguments[0]);
+        node.value = arguments[1];
+        node.dispatchEvent(new Event("change"));
+    """, css, value)
 
 
 def set_date(browser, css, date):

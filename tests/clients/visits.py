@@ -13,7 +13,8 @@ from exchanges import OFFICE_KEY, TOP, Exchange, file_of
 from front import sent
 from page_units import as_model, brute_slack, read_sm, shop_model, worked_days
 from pages import (
-    RULES, drop, example, explained, focus_window, makespan_of, open_plan, open_tab, printed, rows_of,
+    RULE_NAMES, RULES, drop, example, explained, focus_window, makespan_of, open_plan, open_tab, pick,
+    printed, rows_of,
     same_bars, same_project, same_senses, same_table, seen, seen_axis, seen_plans, seen_table,
     set_date, submit, texts, wait_idle, wait_plan, wait_text,
 )
@@ -326,7 +327,7 @@ def visit_calendar(browser):
         slack = slack_in(file_of(HOUSE).decode(), lines)
         same_table(browser, lines, file_of(HOUSE), days_by(rule, start, marks, house), slack)
         caption = seen(browser, "#table caption")
-        same("the caption", caption, f"Schedule by {rule} {makespan_of(lines)}")
+        same("the caption", caption, f"Schedule by {RULE_NAMES[rule]} {makespan_of(lines)}")
         last = int(makespan_of(lines))
         same_bars(f"a calendar by {rule}", browser, [[row[0], row[2], row[3]] for row in rows_of(lines)],
                   last, places_in(start, marks, last))
@@ -386,27 +387,28 @@ def house_of_four():
 def visit_bind(browser):
     """A bound resource has the code's capacity, not the file's, also in the slack; a place beyond the
     plan's resources isn't sent."""
-    browser.type("#bind [name=place]", "1")
+    pick(browser, "#bind [name=place]", "1")
     submit(browser, "bind")
     wait_text(browser, "#bind .answer", "Resource 1 is crew-a.")
     lines = printed("schedule", "lft", "-", given=house_of_four())
     slack = slack_in(house_of_four().decode(), lines)
-    same("the makespan", seen(browser, "#drawn label").strip(), f"lft {makespan_of(lines)}")
+    same("the makespan", seen(browser, "#drawn label").strip(),
+         f"{RULE_NAMES['lft']} {makespan_of(lines)}")
     same("the slack", column(browser, "slack"), [str(number) for number in slack])
     same("set here", "resource 1 is crew-a (set here on" in seen(browser, "#bind-set"), True)
-    limits = browser.run("const { place } = bind.elements; return [place.min, place.max]")
-    same("the places of a project of two resources", limits, ["1", "2"])
-    browser.type("#bind [name=place]", "3")
-    browser.click("#bind button")
-    beyond = browser.run("return bind.elements.place.validity.rangeOverflow")
-    same("a place beyond", (beyond, texts(browser, "#bind .answer")), (True, ["Resource 1 is crew-a."]))
+    same("the places of a project of two resources", places_offered(browser), ["1", "2"])
+
+
+def places_offered(browser):
+    """The resources or machines that can be bound."""
+    return browser.run("return [...bind.elements.place.options].map(({ textContent }) => textContent)")
 
 
 def visit_lag(browser):
     """A lag delays its successor, and 0 removes it; only an arc has one. Slack counts it."""
     arc = {"from": "2", "to": "3", "lag": "5"}
     for name, value in arc.items():
-        browser.type(f"#lag [name={name}]", value)
+        pick(browser, f"#lag [name={name}]", value)
     submit(browser, "lag")
     wait_text(browser, "#lag .answer", "At least 5 between 2 and 3.")
     wait_text(browser, "#lag-set", "2-3: 5 (set here on")
@@ -420,7 +422,11 @@ def visit_lag(browser):
     submit(browser, "lag")
     wait_text(browser, "#lag-set", "2-3: 0 (set here on")
     same("the whole", "the whole takes 45" in seen(browser, "#dates caption"), True)
-    browser.type("#lag [name=to]", "14")
+    offered = "return [...lag.elements[arguments[0]].options].map(({ textContent }) => textContent)"
+    same("activities", browser.run(offered, "from"), [str(n) for n in range(1, 15)])
+    same("the successors of activity 2", browser.run(offered, "to"), ["3", "4"])
+    browser.run("lag.elements.to.add(new Option('14', '14'))")
+    pick(browser, "#lag [name=to]", "14")
     submit(browser, "lag")
     wait_text(browser, "#lag .refusal", "E03 body")
     same("what the page says of it", texts(browser, "#lag .refusal p"),
@@ -430,7 +436,7 @@ def visit_lag(browser):
     open_plan(browser, 2)
     open_tab(browser, "changes")
     for name, value in arc.items():
-        browser.type(f"#lag [name={name}]", value)
+        pick(browser, f"#lag [name={name}]", value)
     submit(browser, "lag")
     wait_text(browser, "#lag-set", "2-3: 5 (set here on")
     same("a column of slack with a lag alone", "slack" in seen_table(browser, "#table")[0], True)
@@ -452,7 +458,7 @@ def visit_elsewhere(browser, office):
     open_plan(browser, 2)
     wait_text(browser, "#note", "Slack isn't known")
     open_tab(browser, "changes")
-    browser.type("#bind [name=place]", "1")
+    pick(browser, "#bind [name=place]", "1")
     submit(browser, "bind")
     same("a note of what was set here", browser.run("return note.checkVisibility()"), False)
     same("a column of slack then", "slack" in seen_table(browser, "#table")[0], True)
@@ -496,11 +502,11 @@ def same_choice(browser, found):
     drawn = browser.run("return document.querySelector('#drawn :checked').value")
     same("what is drawn", drawn, "best" if found <= ends[rule] else rule)
     if found > ends[rule]:
-        told = f"The schedule by the rule {rule} is {found - ends[rule]} shorter, so it is drawn."
+        told = f'The schedule by the rule "{RULE_NAMES[rule]}" is {found - ends[rule]} shorter, so it is drawn.'
     elif found == ends[rule]:
-        told = f"The rule {rule} is as good."
+        told = f'The rule "{RULE_NAMES[rule]}" is as good.'
     else:
-        told = f"It is {ends[rule] - found} shorter than the shortest by a rule ({rule})."
+        told = f"It is {ends[rule] - found} shorter than the shortest by a rule ({RULE_NAMES[rule]})."
     wait_text(browser, "#best-answer", told)
     lines = printed("schedule", rule, example("five.sm"))
     if drawn == rule:
@@ -728,7 +734,7 @@ def visit_need(browser, office):
         browser.wait("the plan", "return !document.getElementById('plan').hasAttribute('aria-busy')")
     publish(4)
     open_tab(browser, "changes")
-    browser.type("#bind [name=place]", "1")
+    pick(browser, "#bind [name=place]", "1")
     browser.click("#bind option[value=crew-c]")
     submit(browser, "bind")
     wait_text(browser, "#plan-answer strong", "E11 S1 activity 3 resource 1")
@@ -772,7 +778,7 @@ def visit_names(browser):
     wait_text(browser, "#best-answer .solve", "Add the file of this plan below")
     open_plan(browser, 6)
     open_tab(browser, "changes")
-    browser.type("#bind [name=place]", "3")
+    pick(browser, "#bind [name=place]", "3")
     submit(browser, "bind")
     wait_text(browser, "#bind .refusal", "E03 body")
     same("what the page says of it", texts(browser, "#bind .refusal p"), ["The plan has no resource 3."])
@@ -837,11 +843,10 @@ def visit_shop(browser):
     submit(browser, "best")
     wait_text(browser, "#best-answer", "optimal 6:")
     open_tab(browser, "changes")
-    browser.type("#bind [name=place]", "0")
+    pick(browser, "#bind [name=place]", "0")
     submit(browser, "bind")
     same("machine 0", "machine 0 is press-1 (set here on" in seen(browser, "#bind-set"), True)
-    limits = browser.run("const { place } = bind.elements; return [place.min, place.max]")
-    same("the places of two machines", limits, ["0", "1"])
+    same("the places of two machines", places_offered(browser), ["0", "1"])
 
 
 def large_shop():
@@ -921,7 +926,7 @@ def visit_closed(browser, office):
     """A machine whose code is published with 0 is closed, and the plan says so in the place of a
     chart; with 1 it is open again. The window's focus asks for it."""
     open_tab(browser, "changes")
-    browser.type("#bind [name=place]", "1")
+    pick(browser, "#bind [name=place]", "1")
     submit(browser, "bind")
     wait_text(browser, "#bind .answer", "Machine 1 is press-1.")
     for capacity, is_open in ((0, False), (1, True)):
@@ -946,9 +951,9 @@ def visit_refused(browser):
         browser.choose("#file", example(name))
         wait_text(browser, "#import-answer strong", "E10 " + line)
         wait_idle(browser)
-        code, number = line.split()[0], int(line.split()[2])
+        number = int(line.split()[2])
         said = texts(browser, "#import-answer .refusal p")
-        same(f"what the page says of {code}", said, explained(code))
+        same(f"what the page says of {line}", said, explained(line))
         marked = browser.run("return [...document.querySelectorAll('.marked > *')].map("
                              "(cell) => cell.innerText)")
         lines = file_of(f"examples/{name}").decode().split("\n")
@@ -967,9 +972,10 @@ def visit_keys(browser):
     wait_plan(browser, 1)
     wait_idle(browser)
     same("the focus then", browser.run("return document.activeElement.id"), "plan-head")
-    browser.press(TAB, RIGHT)
+    browser.run("document.querySelector('#drawn :checked').focus()")
+    browser.press(RIGHT)
     makespan = makespan_of(printed("schedule", "slk", "-", given=house_of_four()))
-    wait_text(browser, "#caption", f"Activities by slk {makespan}")
+    wait_text(browser, "#caption", f"Activities by {RULE_NAMES['slk']} {makespan}")
     browser.run("document.querySelector('#tab-table').focus()")
     browser.press(RIGHT)
     same("the tab", browser.run("return [changes.hidden, document.activeElement.id]"),
@@ -981,6 +987,31 @@ def visit_keys(browser):
     browser.wait("no question", "return !question.open")
     wait_idle(browser)
     same("the plans", seen_plans(browser), list(range(1, 9)))
+
+
+def visit_back(browser):
+    """Back goes from a plan to the one before it, and to the list, and never signs out. The title has
+    the plan and the desk."""
+    title = lambda: browser.run("return document.title")
+    browser.run("document.querySelector('#to-plans').click()")
+    same("the title of the list", title(), f"Plans - {DESK}")
+    for n in (3, 6):
+        open_plan(browser, n)
+    same("the title of a plan", title(), f"list - {DESK}")
+    browser.run("history.back()")
+    wait_plan(browser, 3)
+    wait_idle(browser)
+    browser.run("history.back()")
+    browser.wait("the list", "return plan.hidden")
+    same("the title of the list again", title(), f"Plans - {DESK}")
+    # as if the desk had been opened at this plan
+    browser.run("history.replaceState(null, '')")
+    open_plan(browser, 3)
+    browser.run("history.back()")
+    wait_text(browser, "#news", "You are still signed in. Sign out to leave.")
+    same("the plan stays", browser.run("return plan.checkVisibility()"), True)
+    browser.run("document.querySelector('#to-plans').click()")
+    open_plan(browser, 1)
 
 
 def visit_delete(browser):
@@ -1259,7 +1290,7 @@ def visit_whole(browser, office):
     drop(browser, "house.sm", file_of(HOUSE).decode())
     wait_plan(browser, n)
     open_tab(browser, "changes")
-    browser.type("#bind [name=place]", "1")
+    pick(browser, "#bind [name=place]", "1")
     submit(browser, "bind")
     set_date(browser, "#calendar [name=start]", "2024-03-01")
     holidays = "2024-03-08\n2024-03-29..2024-04-01\n"
@@ -1273,7 +1304,7 @@ def visit_whole(browser, office):
                            given=house_of_four()))
     same("the last days", column(browser, "last day"), ["" if row[-1] == "-" else row[-1] for row in rows])
     for name, value in {"from": "2", "to": "3", "lag": "5"}.items():
-        browser.type(f"#lag [name={name}]", value)
+        pick(browser, f"#lag [name={name}]", value)
     submit(browser, "lag")
     wait_text(browser, "#lag-set", "2-3: 5 (set here on")
     submit(browser, "best")
@@ -1435,7 +1466,7 @@ VISIT = [
     visit_use, visit_sort, visit_calendar, visit_today, visit_bind, visit_lag, visit_elsewhere,
     visit_best, visit_large, visit_check, visit_save, visit_table, visit_capacity, visit_need,
     visit_names, visit_other,
-    visit_shop, visit_colours, visit_links, visit_focus, visit_closed, visit_refused, visit_keys, visit_delete,
+    visit_shop, visit_colours, visit_links, visit_focus, visit_closed, visit_refused, visit_keys, visit_back, visit_delete,
     visit_lost, visit_found, visit_waiting, visit_sizes, visit_senses, visit_paper, visit_orders,
     visit_cancel, visit_whole, visit_quiet, visit_module, visit_pictures,
 ]
