@@ -6,7 +6,8 @@
 import { webcrypto } from "node:crypto";
 import { readFileSync } from "node:fs";
 import { createInterface } from "node:readline";
-import { load, run } from "../../share/web/engine/runtime.js";
+
+const { load, run } = await import(process.env.PLAN_RUNTIME ?? "../../share/web/engine/runtime.js");
 
 globalThis.crypto ??= webcrypto;
 const folder = process.env.PLAN_WEB;

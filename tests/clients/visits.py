@@ -1114,9 +1114,14 @@ def visit_sizes(browser):
     three screens."""
     for n in (1, 8):
         open_plan(browser, n)
-        for width, height in ((360, 740), (800, 600), (1600, 900)):
+        for width, height in ((320, 640), (360, 740), (800, 600), (1600, 900)):
             browser.resize(width, height)
             fits(browser, width)
+            browser.run("scrollTo(0, 0)")
+            listed, top = browser.run("return [document.getElementById('plans').checkVisibility(),"
+                                      " document.getElementById('chart').getBoundingClientRect().top]")
+            same(f"the list beside the plan, at {width}", listed, width == 1600)
+            same(f"the chart is on the first screen, at {width}", top < height, True)
     paper = "return getComputedStyle(document.body).backgroundColor.match(/[0-9]+/g).map(Number)"
     for scheme, is_dark in (("dark", True), ("light", False)):
         browser.darken(scheme)
