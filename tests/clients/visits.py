@@ -1280,9 +1280,11 @@ def visit_cancel(browser):
     words = seen(browser, "#best-answer").split("kept. ")[1].split(":")[0].split()
     same("the schedule that is kept", (words[0], f"best between {words[1]}" in " ".join(
         texts(browser, "#drawn label"))), ("between", True))
-    browser.type("#best [name=seconds]", "1")
+    browser.type("#best [name=seconds]", "2")
+    began = browser.run("return performance.now()")
     submit(browser, "best")
     wait_text(browser, "#best-answer", "the shortest that was found; no schedule is shorter than")
+    same("two seconds", browser.run("return performance.now()") - began >= 2000, True)
     told, total = seen(browser, "#best-answer").split(":")[0].split()
     bound = int(seen(browser, "#best-answer").split("shorter than ")[1].split(".")[0])
     same("the search", (told, bound < int(total)), ("between", True))
