@@ -141,7 +141,7 @@ def visit_office(browser):
 
 
 def visit_desk(browser):
-    """A desk is opened by its key; it has no plans yet."""
+    """A desk is opened by its key; it has no plans yet, and offers an example."""
     browser.type("#enter [name=desk]", DESK)
     browser.type("#enter [name=key]", KEY)
     browser.press(ENTER)
@@ -153,6 +153,10 @@ def visit_desk(browser):
                         " document.querySelector('#enter [name=key]').value]")
     same("what the browser keeps of the key", found, [0, 0, "", "", ""])
     same("what it keeps of plans", kept(browser), [[], "[]"])
+    browser.click("#starters [value=example]")
+    wait_text(browser, "#preview", "example.csv becomes a project of 8 activities")
+    browser.run("document.getElementById('to-plans').click()")
+    same("the list again", browser.run("return preview.checkVisibility()"), False)
 
 
 def visit_left(browser):
