@@ -46,9 +46,11 @@ const MEANINGS = { ...FAULTS, ...LIST_FAULTS, ...PAGE_FAULTS };
 // a text of `plan explain` with what a line names in the place of A, B, R, M and N
 function filled(words, line) {
   const cycle = line.match(/\bcycle ([\d ]+)/)?.[1].trim().split(" ");
-  let text = cycle ? words.replace("A, B, ..", cycle.join(", ")).replace("precedes A", `precedes ${cycle[0]}`)
+  let text = cycle
+    ? words.replace("A, B, ..", cycle.join(", ")).replace("precedes A", `precedes ${cycle[0]}`)
     : words;
-  for (const [kind, letter] of [["activity", "A"], ["resource", "R"], ["machine", "M"], ["line", "N"]]) {
+  const letters = { activity: "A", resource: "R", machine: "M", line: "N" };
+  for (const [kind, letter] of Object.entries(letters)) {
     const number = line.match(new RegExp(`\\b${kind} (\\d+)`))?.[1];
     if (number) text = text.replace(new RegExp(`\\b(${kind}) ${letter}\\b`, "gi"), `$1 ${number}`);
   }

@@ -1,5 +1,5 @@
-// Changing a list, as a table or as a text; and plan.html without a server: starting from an example or a template,
-// and one file with everything.
+// Changing a list, as a table or as a text; starting from an example or a template; and for plan.html
+// one file with everything.
 
 import { cellsOf, listText } from "./cells.js";
 import { byId, clear, download, onSubmit, put } from "./dom.js";
@@ -127,7 +127,9 @@ function openKept(plans) {
     page.plans.push({ n, kind });
     noteFile(n, kind === "project", "", bytes, instance);
     remember(n, { ...record, set: set?.calendar && { calendar: set.calendar } });
-    if (set?.bind || set?.lag) put("news", "The binds and lags of a desk aren't kept in plan.html.");
+    if (set?.bind || set?.lag) {
+      put("news", "The binds and lags of a desk aren't kept in plan.html.");
+    }
   }
   showPlans();
 }

@@ -9,7 +9,8 @@ let rows = [];
 let changed = () => {};
 let last = 0;
 
-const fieldAt = (row, column) => byId("grid").querySelector(`[data-row="${row}"][data-column="${column}"]`);
+const fieldAt = (row, column) =>
+  byId("grid").querySelector(`[data-row="${row}"][data-column="${column}"]`);
 
 function change(next, row, column) {
   rows = next;
@@ -39,7 +40,8 @@ function cellNode(row, column, size) {
 
 function rowNode(row, sizes) {
   const button = make("button", { type: "button", "aria-label": `Remove row ${row}` }, "\u00d7");
-  button.onclick = () => change(rows.filter((_, at) => at !== row), Math.min(row, rows.length - 2), 0);
+  button.onclick = () =>
+    change(rows.filter((_, at) => at !== row), Math.min(row, rows.length - 2), 0);
   return make("tr", { "data-line": row + 1 }, make("th", { scope: "row" }, row),
     ...sizes.map((size, column) => cellNode(row, column, size)), make("td", {}, button));
 }

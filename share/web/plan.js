@@ -257,7 +257,9 @@ async function save(form) {
 
 function showSaves({ plan, calendar }) {
   for (const button of all("#saves button")) {
-    const isAble = button.value === "all.json" ? recordOf(plan.n).file : TEXTS[button.value] || (plan.model && (button.value !== "ics" || calendar));
+    const { value } = button;
+    const isAble = value === "all.json" ? recordOf(plan.n).file
+      : TEXTS[value] || (plan.model && (value !== "ics" || calendar));
     button.hidden = !isAble;
   }
 }
