@@ -6,4 +6,5 @@ pub mod AxisLemmas
 pub mod MarkupLemmas
 pub mod PieceLemmas
 pub mod UseLemmas
+pub mod ChangeLemmas
 pub mod ReportMarkupLemmas

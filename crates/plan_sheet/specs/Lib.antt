@@ -9,6 +9,7 @@ pub mod Marks
 pub mod Titles
 pub mod Chart
 pub mod Uses
+pub mod Changes
 pub mod Usage
 pub mod Table
 pub mod Page

@@ -4,6 +4,7 @@
 
 mod axis;
 mod bars;
+mod changes;
 mod chart;
 mod days;
 mod escape;

@@ -9,6 +9,7 @@ ghost use Rattle.plan_sheet.specs.Chart.{chart_of};
 ghost use Rattle.plan_sheet.specs.Usage as spec;
 
 use crate::axis::axis_from;
+use crate::changes::next_change;
 use crate::chart::{Chart, push_image_head, shown_label};
 use crate::marks::push_marks;
 use crate::pieces::push_counted;
@@ -58,7 +59,7 @@ fn push_step_at(
     }
 }
 
-// Appends the steps of the instants before the makespan.
+// Appends the steps of the instants before the makespan. The use is constant between two changes.
 fn push_steps(
     text: &mut String,
     span: u32,
@@ -70,8 +71,10 @@ fn push_steps(
     ensures { OnOk result (string_bytes text.new
         ≡ string_bytes text.old ++ spec.steps_of span days.now capacity uses.now makespan) }
 {
-    for t in 0..makespan {
+    let mut t = 0;
+    while t < makespan {
         push_step_at(text, span, days, capacity, uses, t)?;
+        t = next_change(uses, t, makespan);
     }
     Ok(())
 }
