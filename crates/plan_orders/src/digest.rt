@@ -2,4 +2,4 @@
 
 /// The digest of all sources of the program but this file, in hexadecimal digits, as
 /// `./release --digest` prints it.
-pub(crate) const SOURCES: &str = "677dc75c135b694638d9c046e1cd634bcf4278de3290c5d9e55bdb8cfb9f74e8";
+pub(crate) const SOURCES: &str = "19600b422be234ca575089877dba49ccdcafe75987dc1a64ded3fa7eaadbce15";
