@@ -1,5 +1,5 @@
-// Changing a list, as a table or as a text; starting from an example or a template; and for plan.html
-// one file with everything.
+// Changing a list, as a table or as a text; starting from an example or a template; and for
+// plan.html one file with everything.
 
 import { cellsOf, listText } from "./cells.js";
 import { byId, clear, download, onSubmit, put } from "./dom.js";

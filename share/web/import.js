@@ -27,7 +27,8 @@ async function bytesOf(file) {
   const isWorkbook = content && new TextDecoder().decode(content.slice(0, 4)) === "PK\x03\x04";
   if (content && !isWorkbook) return new Uint8Array(content);
   const words = isLarge ? "It has more than 1,048,576 bytes"
-    : isWorkbook ? "It is a workbook. Save its sheet as CSV (UTF-8), and drop that" : "It can't be read";
+    : isWorkbook ? "It is a workbook. Save its sheet as CSV (UTF-8), and drop that"
+      : "It can't be read";
   fill("import-answer", refusalNode(`${file.name} was not sent. ${words}.`));
   return null;
 }

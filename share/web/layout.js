@@ -12,8 +12,8 @@ function dayBefore(days, time) {
   return times.length ? days.get(Math.max(...times)) : Math.min(...days.values());
 }
 
-/** Returns the scale of an axis: in days if the rows of a view are dated and the days of the axis are
- * known, else in units of working time. */
+/** Returns the scale of an axis: in days if the rows of a view are dated and the days of the axis
+ * are known, else in units of working time. */
 export function scaleOf({ rows, dates, axis, total }, left, right) {
   const dated = dates && axis ? rows.filter(({ first }) => first) : [];
   const isDated = dated.length > 0;

@@ -85,7 +85,8 @@ export const fileOf = (plans) => `${JSON.stringify({ page: MARK,
 export function plansIn(text) {
   if (!text.startsWith(`{"page":"${MARK}"`)) return null;
   try {
-    return JSON.parse(text).plans.map(({ bytes, ...plan }) => ({ ...plan, bytes: unpacked(bytes) }));
+    return JSON.parse(text).plans
+      .map(({ bytes, ...plan }) => ({ ...plan, bytes: unpacked(bytes) }));
   } catch {
     throw new Refusal("This saved file is damaged: it isn't JSON, or a plan's file is missing.");
   }

@@ -13,7 +13,9 @@ import {
   askAgain, askLists, askMakespans, letOfficeAct, noteAnswered, noteLost, refresh, showPlans,
   showPublished, tryOfficeKey,
 } from "./plans.js";
-import { isRemembering, newPage, page, readRecords, setRemembering } from "./state.js";
+import {
+  isRemembering, moveEarlier, newPage, page, readRecords, setRemembering,
+} from "./state.js";
 import { glossary } from "./words.js";
 
 function showView(name) {
@@ -133,6 +135,8 @@ letHelp();
 letAct();
 letDrop();
 letFit();
+// no desk is open yet, so its transaction comes before those of readRecords
+moveEarlier();
 for (const doors of all("#door fieldset")) doors.disabled = false;
 if (isAlone()) {
   await openAlone();

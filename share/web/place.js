@@ -18,8 +18,8 @@ export function visitPlace(n) {
   if (JSON.stringify(history.state) !== JSON.stringify(state)) history.pushState(state, "");
 }
 
-/** Lets Back and Forward go between the list and the plans. They never leave a desk, because the key
- * would be lost. */
+/** Lets Back and Forward go between the list and the plans. They never leave a desk, because the
+ * key would be lost. */
 export function letGoBack(openPlan, openList) {
   addEventListener("popstate", ({ state }) => {
     if (!byId("door").hidden) return;

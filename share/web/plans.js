@@ -35,8 +35,8 @@ export function showPlans() {
     return [button, title, WORDS_OF_KIND[kind], makespan];
   });
   const heads = ["Number", "Title", "Kind", "Makespan"];
-  fill("plans",
-    rows.length ? tableNode({ heads, rows }) : say("No plans yet. Drop a file, or start with an example."));
+  fill("plans", rows.length ? tableNode({ heads, rows })
+    : say("No plans yet. Drop a file, or start with an example."));
   byId("start").classList.toggle("alone", rows.length > 0);
   if (value) byId("plans").querySelector(`[value="${value}"]`)?.focus();
   markOpen();

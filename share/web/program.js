@@ -86,8 +86,8 @@ export async function printed(words, files = {}) {
   return outputOf(await answer);
 }
 
-/** Runs a command that takes long, in a worker of its own. `told` gets its lines of progress. Returns
- * null if `signal` ends it. */
+/** Runs a command that takes long, in a worker of its own. `told` gets its lines of progress.
+ * Returns null if `signal` ends it. */
 export async function searched(words, files, told, signal) {
   if (signal.aborted) return null;
   const worker = newWorker();

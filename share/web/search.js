@@ -27,7 +27,8 @@ function comparedWords(plan) {
 /** Returns the words on a search, whose schedule is `best`. */
 export function searchWords(plan) {
   const { verdict, total, lower, isCancelled } = plan.schedules.get("best");
-  const lead = isCancelled ? "The search was cancelled, and the best schedule so far is kept. " : "";
+  const lead = isCancelled
+    ? "The search was cancelled, and the best schedule so far is kept. " : "";
   const meaning = verdict === "optimal" ? "no schedule of this plan is shorter"
     : `the shortest that was found${lower ? `; no schedule is shorter than ${lower}` : ""}`;
   return `${lead}${verdict} ${total}: ${meaning}. ${comparedWords(plan)}`;

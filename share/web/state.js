@@ -1,10 +1,13 @@
 // The state of the page, and what this browser remembers of plans: files, titles, names, and the
-// changes that were made here. Keys are never stored. With the switch off, all of it ends with the page.
+// changes that were made here. Keys are never stored. With the switch off, nothing outlasts the
+// page.
 
 import { isAlone } from "./local.js";
 
 const SWITCH = "plan/forget";
 const STORE = "plans";
+// the page of 0.6.0 and earlier kept records in localStorage, as plan/of/DESK/NUMBER
+const EARLIER = "plan/of/";
 
 const blankPage = () => ({
   desk: "", key: "", plans: [], codes: [], published: new Map(),
@@ -51,11 +54,19 @@ function opened() {
   return resultOf(request);
 }
 
+const endOf = (transaction) => new Promise((resolve, reject) => {
+  transaction.oncomplete = resolve;
+  transaction.onabort = () => reject(transaction.error);
+});
+
+// returns the result of the action's request after the transaction, or undefined if it failed
 async function withStore(action) {
   try {
     if (isAlone()) return undefined;
-    const store = (await (database ??= opened())).transaction(STORE, "readwrite").objectStore(STORE);
-    return await resultOf(action(store));
+    const transaction = (await (database ??= opened())).transaction(STORE, "readwrite");
+    const request = action(transaction.objectStore(STORE));
+    await endOf(transaction);
+    return request.result;
   } catch {
     return undefined;
   }
@@ -64,11 +75,50 @@ async function withStore(action) {
 const write = (n, record, { desk } = page) =>
   isRemembering() && withStore((store) => store.put({ n, record }, [desk, n]));
 
+const earlierKeys = () =>
+  withSwitch((memory) => Object.keys(memory).filter((key) => key.startsWith(EARLIER))) ?? [];
+
+const removeEarlier = (keys) =>
+  withSwitch((memory) => keys.forEach((key) => memory.removeItem(key)));
+
+// returns null for a damaged entry
+function earlierEntry(key) {
+  const [, desk, n] = key.match(/^plan\/of\/([^/]+)\/(\d+)$/) ?? [];
+  const record = withSwitch((memory) => JSON.parse(memory.getItem(key)));
+  return desk && record ? { place: [desk, Number(n)], record } : null;
+}
+
+function putMissing(store, entries) {
+  const request = store.getAllKeys();
+  request.onsuccess = () => {
+    const present = request.result.map(String);
+    for (const { place, record } of entries) {
+      if (!present.includes(`${place}`)) store.put({ n: place[1], record }, place);
+    }
+  };
+  return request;
+}
+
+/** Moves the records in localStorage to the store. Those that are in the store already stay as
+ * they are. */
+export async function moveEarlier() {
+  const keys = earlierKeys();
+  if (!keys.length) return;
+  const entries = isRemembering() ? keys.map(earlierEntry).filter(Boolean) : [];
+  // without the store they stay, for the next start of the page
+  const isMoved = !entries.length || await withStore((store) => putMissing(store, entries));
+  if (isMoved) removeEarlier(keys);
+}
+
 /** Switches the memory of this computer; switching it off forgets all desks. */
 export function setRemembering(isOn) {
   withSwitch((memory) => (isOn ? memory.removeItem(SWITCH) : memory.setItem(SWITCH, "1")));
-  if (isOn) page.records.forEach((record, n) => write(n, record));
-  else withStore((store) => store.clear());
+  if (isOn) {
+    page.records.forEach((record, n) => write(n, record));
+  } else {
+    removeEarlier(earlierKeys());
+    withStore((store) => store.clear());
+  }
 }
 
 /** Reads what this browser remembers of the plans of the desk. */

@@ -185,15 +185,16 @@ export function slicesOf(seconds) {
 }
 
 async function solvedIn({ model, subject: { files, words } }, limits, told, signal) {
-  const text = await searched(["solve", ...limits, "--format", "json", ...words], files, told, signal);
+  const command = ["solve", ...limits, "--format", "json", ...words];
+  const text = await searched(command, files, told, signal);
   if (!text) return null;
   const { status, lower_bound: lower, makespan: total, rows } = JSON.parse(text);
   return { rows: rows.slice(0, model.durations.length), verdict: status, lower, total };
 }
 
-/** Searches for a short schedule, and returns it as a table with the verdict and the bound. The search
- * runs in slices, each longer than the one before it. When `signal` ends it, the best schedule of
- * the slices that had ended is returned; null if there is none. */
+/** Searches for a short schedule, and returns it as a table with the verdict and the bound. The
+ * search runs in slices, each longer than the one before it. When `signal` ends it, the best
+ * schedule of the slices that had ended is returned; null if there is none. */
 export async function solved(plan, seconds, told, signal) {
   let best = null;
   const limits = slicesOf(seconds).map((slice) => ["--seconds", `${slice}`]);

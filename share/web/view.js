@@ -90,8 +90,8 @@ async function settleModel(plan) {
 const dayCells = (rows) =>
   rows.map((row) => (row && row.first !== "-" ? `${row.first} ${row.last}` : "-")).join();
 
-// the calendar that was set here, if the office's days are those that the program has by it; at a desk
-// the days are then those that also skip holidays
+// the calendar that was set here, if the office's days are those that the program has by it; at a
+// desk the days are then those that also skip holidays
 async function settleCalendar(plan) {
   const set = recordOf(plan.n).set?.calendar;
   const told = [...plan.days].filter(([, days]) => days.rows);
@@ -196,7 +196,8 @@ export function viewOf(plan) {
   const bars = plan.kind === "project" ? projectBars({ plan, rows, slack }) : shopBars({ rows });
   return {
     plan, starts, slack, rows, bars, total: Math.max(...rows.map(({ end }) => end)),
-    isNamed: rows.some(({ name }) => name), dates, axis: plan.axis, calendar: dates && plan.calendar,
+    isNamed: rows.some(({ name }) => name),
+    dates, axis: plan.axis, calendar: dates && plan.calendar,
     lineNames: new Map(bars.map(({ line, lineName }) => [line, lineName])),
   };
 }

@@ -1,5 +1,5 @@
-// Everything about a plan of a desk as one file, and its way back: the file and the list, binds, lags,
-// the calendar, and the schedule that was drawn. It has the form of what plan.html saves.
+// Everything about a plan of a desk as one file, and its way back: the file and the list, binds,
+// lags, the calendar, and the schedule that was drawn. It has the form of what plan.html saves.
 
 import { command, orRefusal, planPath, Refusal } from "./api.js";
 import { fill, put, refusalNode } from "./dom.js";
@@ -9,7 +9,8 @@ import { recordOf, rememberChange, remember } from "./state.js";
 import { startsText } from "./handin.js";
 import { counted } from "./words.js";
 
-/** Returns everything about the plan of a view as the text of a file; null without the plan's file. */
+/** Returns everything about the plan of a view as the text of a file; null without the plan's
+ * file. */
 export function wholeText({ plan: { n, kind, drawn }, rows }) {
   const { file, ...record } = recordOf(n);
   if (!file) return null;

@@ -140,6 +140,41 @@ def visit_office(browser):
     browser.click("#leave")
 
 
+def visit_upgrade(browser, office):
+    """Records that the page of an earlier release kept in localStorage are moved when the page starts.
+    They replace none that is there. The switch clears both places, and nothing is moved while it is off."""
+    for path, key, body in (("/office/desks", OFFICE_KEY, b'{"desk":"earlier","key":"earlier-key-1"}'),
+                            ("/desks/earlier/projects", "earlier-key-1", file_of(HOUSE))):
+        sent(office.server.port, "POST", path, key, body)
+
+    def plant(text):
+        browser.run("localStorage.setItem('plan/of/earlier/1', arguments[0])", text)
+
+    def start_again():
+        browser.open(browser.run("return location.href"))
+        browser.wait("the first page", "return document.querySelector('#door fieldset:enabled')")
+        browser.wait("no records in localStorage",
+                     "return !Object.keys(localStorage).some((key) => key.startsWith('plan/of/'))")
+
+    record = {"title": "Old house", "names": {"2": "Clearing"}}
+    for text in ("damaged", "null", json.dumps(record), json.dumps(record | {"title": "Another house"})):
+        plant(text)
+        start_again()
+    keys, text = kept(browser)
+    same("what was moved", (keys, json.loads(text)), ([["earlier", 1]], [{"n": 1, "record": record}]))
+    sign_in(browser, "earlier", "earlier-key-1")
+    wait_text(browser, "#plans", "Old house")
+    plant(json.dumps(record))
+    browser.click("#remember")
+    cleared = (["plan/forget"], [[], "[]"])
+    same("what the switch leaves", (browser.run("return Object.keys(localStorage)"), kept(browser)), cleared)
+    plant(json.dumps(record))
+    start_again()
+    same("what is moved without the switch",
+         (browser.run("return Object.keys(localStorage)"), kept(browser)), cleared)
+    browser.run("localStorage.clear()")
+
+
 def visit_desk(browser):
     """A desk is opened by its key; it has no plans yet, and offers an example."""
     browser.type("#enter [name=desk]", DESK)
@@ -1473,8 +1508,8 @@ def named_house():
 
 
 VISIT = [
-    visit_door, visit_help, visit_office, visit_desk, visit_left, visit_import, visit_bars, visit_slack,
-    visit_use, visit_sort, visit_calendar, visit_today, visit_bind, visit_lag, visit_elsewhere,
+    visit_door, visit_help, visit_office, visit_upgrade, visit_desk, visit_left, visit_import, visit_bars,
+    visit_slack, visit_use, visit_sort, visit_calendar, visit_today, visit_bind, visit_lag, visit_elsewhere,
     visit_best, visit_large, visit_check, visit_save, visit_table, visit_capacity, visit_need,
     visit_names, visit_other,
     visit_shop, visit_colours, visit_links, visit_focus, visit_closed, visit_refused, visit_keys, visit_back, visit_delete,
