@@ -1,2 +1,2 @@
 // The SHA-256 of plan.wasm. Written by share/web/engine/make.
-export const DIGEST = "7cfbcdbf4b54e096371ba4c6f70901e341168465a4d37bcd1357e1659506e5c9";
+export const DIGEST = "f586a320d1868db73292bd7b45a8e9357c21e85c6fefc5f15c2f0ae7bd210e3a";
