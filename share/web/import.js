@@ -46,13 +46,13 @@ async function triedTo(words, bytes) {
 /** Returns the project or the job shop that a list becomes, or the error of the list. */
 export async function listOf(name, bytes, given) {
   const options = [...given].flatMap(([resource, amount]) => ["--capacity", `${resource}=${amount}`]);
-  const project = { isProject: true, ...await triedTo(["import", ...options], bytes) };
+  const read = await triedTo(["import", ...options], bytes);
+  const project = { isProject: !read.text || /^PRECEDENCE RELATIONS:/m.test(read.text), ...read };
   if (project.text) return project;
   const shop = { isProject: false, ...await triedTo(["import", "--shop"], bytes) };
-  if (shop.text) return shop;
-  const { message } = project.fault;
-  if (/^T(5|6|7|8|9|10|11|14) /.test(message)) return project;
-  if (/^T(5|6|12|15) /.test(shop.fault.message)) return shop;
+  if (shop.text || /^T(5|6|15) /.test(shop.fault.message)) return shop;
+  if (/^T(5|6|7|8|9|10|11|14) /.test(project.fault.message)) return project;
+  if (/^T12 /.test(shop.fault.message)) return shop;
   return /\.(csv|tsv)$/i.test(name) ? project : null;
 }
 
