@@ -56,6 +56,9 @@ activity_key = codes "name "
 abbrev pub resource_key : List ℕ
 resource_key = codes "resource "
 
+abbrev pub id_key : List ℕ
+id_key = codes "id "
+
 -- a number with its name; an empty name is none
 abbrev pub name_at : ℕ → List ℕ → List Name
 name_at n [] = []
