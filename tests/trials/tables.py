@@ -346,10 +346,11 @@ class Table:
 
 
 class Project:
-    """A project with names, as its file shows it: the rows, the resources and their amounts."""
+    """A project with names, as its file shows it: the rows, the resources and their amounts, and the ids of
+    the rows if they are in a column."""
 
-    def __init__(self, rows, resources, amounts):
-        self.rows, self.resources, self.amounts = rows, resources, amounts
+    def __init__(self, rows, resources, amounts, ids=()):
+        self.rows, self.resources, self.amounts, self.ids = rows, resources, amounts, ids
 
     def jobs(self):
         count = len(self.rows)
@@ -378,6 +379,7 @@ class Project:
         for j, (duration, _, needs) in enumerate(jobs):
             lines.append(f"{j + 1:>3}{spaced(6, 1)}{spaced(5, duration)}{columns(7, 4, needs)}")
         lines += [RULE, "RESOURCEAVAILABILITIES:", heads, columns(4, 4, amounts), RULE, "PROJECT INFORMATION:"]
+        lines += [f"id {j + 2} {name}" for j, name in enumerate(self.ids)]
         lines += [f"name {j + 2} {row['name']}" for j, row in enumerate(self.rows) if row["name"]]
         lines += [f"resource {k + 1} {name}" for k, name in enumerate(self.resources)]
         return "\n".join(lines + [RULE]) + "\n"
@@ -405,7 +407,8 @@ def wanted(data, given):
         head = next((line for line in text.split("\n") if line.strip(BLANKS)), "")
         delimiter = "\t" if "\t" in head else ";" if ";" in head else ","
         table = Table(records(text, delimiter), given)
-        return 0, Project(table.rows, table.resources, table.amounts).text().encode(), b""
+        ids = table.seen if table.id_at is not None else ()
+        return 0, Project(table.rows, table.resources, table.amounts, ids).text().encode(), b""
     except Refused as fault:
         return 1, b"", str(fault).encode() + b"\n"
 
@@ -509,7 +512,8 @@ def project_of(told):
     """The project that a file of tests/tables describes."""
     rows = [{"name": a["name"], "duration": a["duration"], "before": a["predecessors"], "needs": a["needs"]}
             for a in told["activities"]]
-    return Project(rows, [r["name"] for r in told["resources"]], [r["capacity"] for r in told["resources"]])
+    names, amounts = [r["name"] for r in told["resources"]], [r["capacity"] for r in told["resources"]]
+    return Project(rows, names, amounts, [a["id"] for a in told["activities"] if "id" in a])
 
 
 def answer_of(stem):

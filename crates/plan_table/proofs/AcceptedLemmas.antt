@@ -34,7 +34,7 @@ later_columns : (place k : ℕ) (heads : List Head) → place < k → IdsElsewhe
 later_columns place k [] past = tt
 later_columns place k (head ∷ heads) past = ((λ e. ne_eqb place k (λ is. omega (arith, is, past))), later_columns place (k + 1) heads (omega (arith, past)))
 
-place_range : (k place : ℕ) (heads : List Head) → place_from columns.Id k heads ≡ Some place → k ≤ place
+pub place_range : (k place : ℕ) (heads : List Head) → place_from columns.Id k heads ≡ Some place → k ≤ place
 place_range k place [] is = absurd (cc)
 place_range k place (head ∷ heads) is = by_kind (place_range (k + 1) place heads) (same_kind columns.Id head.column) is
   where

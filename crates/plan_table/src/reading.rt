@@ -6,11 +6,11 @@ ghost use Rattle.plan_table.specs.Limits.{IsWithinLimits};
 ghost use Rattle.plan_table.specs.Listing.{listing_of, table_read, table_read_with};
 ghost use Rattle.plan_table.specs.Overrides.{override_of};
 ghost use Rattle.plan_table.specs.Refused as spec;
-ghost use Rattle.plan_table.specs.Table.{activity_of, table_of};
+ghost use Rattle.plan_table.specs.Table.{activity_of};
 
 use crate::checked::check;
 use crate::fault::{ReadError, TableCode, TableFault};
-use crate::listing::{Listing, read_listing};
+use crate::listing::read_listing;
 use crate::overrides::Override;
 use crate::table::{Activity, Table};
 use plan_net::NetFault;
@@ -96,16 +96,14 @@ pub fn read_table_with(
     // Which check is the first that fails, or which cycle there is.
     ensures refused { IfErr result (spec.IsRefusedWith (map override_of overrides.now) text.now) }
 {
-    let Listing {
-        activities,
-        resources,
-    } = read_listing(alloc, overrides, text)?;
-    match check(alloc, &activities, &resources) {
+    let listing = read_listing(alloc, overrides, text)?;
+    match check(alloc, &listing) {
         Ok(()) => Ok(Table {
-            activities,
-            resources,
+            own_ids: listing.own_ids,
+            activities: listing.activities,
+            resources: listing.resources,
         }),
-        Err(NetFault::Cycle(members)) => Err(cycle_fault(alloc, &activities, &members)),
+        Err(NetFault::Cycle(members)) => Err(cycle_fault(alloc, &listing.activities, &members)),
         Err(_) => Err(ReadError::Memory),
     }
 }

@@ -16,7 +16,7 @@ use crate::fault::{ReadError, TableCode};
 use crate::header::{Column, Head};
 use crate::predecessors::{Label, predecessors};
 use crate::table::Activity;
-use plan_psplib::{is_blank, trim};
+use plan_psplib::trim;
 use std::alloc::{AllocError, Global};
 
 // 1 for the first byte of a character.
@@ -42,7 +42,7 @@ fn characters(text: &[u8]) -> usize
 fn is_id_byte(byte: u8) -> bool
     ensures { result ≡ spec.is_id_byte byte }
 {
-    !(is_blank(byte) || byte == b',' || byte == b';' || byte == b'\n')
+    byte > b' ' && !(byte == b',' || byte == b';' || byte == b'\n')
 }
 
 // Whether each byte can stand in an id.
