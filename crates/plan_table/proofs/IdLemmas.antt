@@ -110,10 +110,10 @@ activity_id : (ids before : List Label) (line p : ℕ) (heads : List Head) (cell
 unfolding activity_read
 activity_id ids before line p heads cells b at e =
     let id = trim (first_cell (drop p cells)) in
-    then_ok (row_read ids before line (fresh_activity id) heads cells) _ b e (λ x is e.
+    then_ok (row_read ids before line (fresh_activity line id) heads cells) _ b e (λ x is e.
     then_ok (check (nat_le (length cells) (length heads)) code.Cells line) _ b e (λ u whole e.
-    let same_id : x.id ≡ utf8_lossy id = row_keeps ids before line (fresh_activity id) x heads cells is in
-    let good = id_at_place ids before line 0 p p (fresh_activity id) x heads cells at (omega arith) is in
+    let same_id : x.id ≡ utf8_lossy id = row_keeps ids before line (fresh_activity line id) x heads cells is in
+    let good = id_at_place ids before line 0 p p (fresh_activity line id) x heads cells at (omega arith) is in
     subst (λ (y : Activity). IsId y.id) (same_ok x b e) (subst IsId (sym same_id) (id_text id good))))
 
 -- ---- all rows

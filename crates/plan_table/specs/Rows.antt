@@ -69,13 +69,13 @@ row_read ids before line a (head ∷ heads) cells = do
   b ← cell_read ids before line a head.column head.name (trim (first_cell cells))
   row_read ids before line b heads (drop 1 cells)
 
--- an activity of which only the id is known
-abbrev pub fresh_activity : List ℕ → Activity
-fresh_activity id = record { id = utf8_lossy id; name = []; duration = 0; predecessors = []; needs = [] }
+-- an activity of which only the line and the id are known
+abbrev pub fresh_activity : ℕ → List ℕ → Activity
+fresh_activity line id = record { line = line; id = utf8_lossy id; name = []; duration = 0; predecessors = []; needs = [] }
 
 -- the activity of a row, which has no more cells than there are columns
 unfoldable pub activity_read : List Label → List Label → ℕ → List ℕ → List Head → List (List ℕ) → Result Activity Fault
 activity_read ids before line id heads cells = do
-  a ← row_read ids before line (fresh_activity id) heads cells
+  a ← row_read ids before line (fresh_activity line id) heads cells
   whole ← check (nat_le (length cells) (length heads)) code.Cells line
   Ok a

@@ -6,6 +6,8 @@ use Rattle.plan_table.specs.declared.table.Resource as declared_resource
 
 -- an activity; it has the number 2 if it is the first one, 3 if it is the second one and so on
 pub record Activity : Type 0 where
+  -- the line of its row
+  pub line : ℕ
   pub id : List ℕ
   pub name : List ℕ
   pub duration : ℕ
@@ -28,6 +30,7 @@ pub record Table : Type 0 where
 -- the same, as the program keeps them
 abbrev pub activity_of : declared.Activity → Activity
 activity_of a = record {
+  line = a.line;
   id = string_bytes a.id;
   name = string_bytes a.name;
   duration = a.duration;

@@ -15,6 +15,7 @@ mod kinds;
 mod laws;
 mod listing;
 mod names;
+mod needs;
 mod overrides;
 mod predecessors;
 mod reading;

@@ -3,10 +3,11 @@
 use std::alloc::Global;
 use std::marker::Model;
 
-/// An activity: its id, its name, its duration, the numbers of its predecessors, and what it
+/// An activity: the line of its row, its id, its name, its duration, the numbers of its predecessors, and what it
 /// needs of each resource.
 #[derive(Drop)]
 pub struct Activity {
+    pub line: u64,
     pub id: String,
     pub name: String,
     pub duration: u32,
