@@ -31,6 +31,18 @@ PLAIN = (["cpm"], ["schedule", "lft"], ["best-project", "100"])
 SHOP_PLAIN = (["shop", "mwkr"], ["best", "100"], ["prove", "100"])
 
 
+# Lists that every command refuses, each with its line.
+LINES = {
+    b"duration\n3 hrs\n": b"T5 line 2 duration\n",
+    b"name,duration\nDig,2\nWall,1.5\n": b"T5 line 3 duration\n",
+    b"Dauer;Vorgang\n4,000;Aushub\n": b"T5 line 2 duration\n",
+    b"duration\n2\n\n4 Std.\n": b"T5 line 4 duration\n",
+    b"id;duration;Nachfolger\nA;2;B\nB;1;\n": b"T16 column Nachfolger\n",
+    b"duration,successors\n2,2\n1,\n": b"T16 column successors\n",
+    b"id,duration,crew\nA,2,2\nB,1,3\ncapacity,,2\n": b"T19 line 3 need crew above 2\n",
+}
+
+
 # ---- what is drawn
 
 
@@ -215,9 +227,19 @@ def try_capacity_of_orders():
         same("a capacity for an import of orders", found, (1, b"", b"T14 no resource saw\n"))
 
 
+def try_lines():
+    """That lists with an error are refused with its line."""
+    with tempfile.TemporaryDirectory() as folder:
+        for data, line in LINES.items():
+            written(folder, "list.csv", data)
+            same(f"import of {data!r}", plan(folder, "import", "list.csv"), (1, b"", line))
+            try_refused(f"{data!r}", folder, False, (1, b"", line))
+
+
 def try_lists(cases=200, seed=1, is_verbose=False):
     draw, tally = Draw(Random(seed)), collections.Counter()
     try_capacity_of_orders()
+    try_lines()
     with tempfile.TemporaryDirectory() as folder:
         for _ in range(cases):
             tally[try_list(draw, folder)] += 1

@@ -167,6 +167,14 @@ def project_of(text):
     return found, [(name, int(most)) for _, name, most in resources]
 
 
+def ids_of(text):
+    """The ids of the activities, if the list has a column of them."""
+    (_, head), *rows = records(text)
+    place = columns_of(head, rows)[0].get("id")
+    found = [cells[place] for _, cells in rows] if place is not None else []
+    return [name for name in found if name.lower() != "capacity"]
+
+
 def activity_of(numbers, own, line, cells, places, resources):
     def cell(place):
         return cells[place] if place is not None and place < len(cells) else ""
@@ -235,7 +243,9 @@ def is_imported(path, activities, resources, least):
     """Whether a file becomes this project, whose least makespan is found and proved."""
     rows = [dict(zip(("name", "duration", "before", "needs"), row[1:])) for row in activities]
     names, amounts = [name for name, _ in resources], [most for _, most in resources]
-    text = tables.Project(rows, names, amounts).text().encode()
+    with open(path, "rb") as file:
+        ids = ids_of(text_of(file.read()))
+    text = tables.Project(rows, names, amounts, ids).text().encode()
     if ran("import", path) != (0, text, b""):
         return False
     status, output, _ = ran("solve", "-", data=text)

@@ -67,6 +67,8 @@ NOTE_WORDS = (
     "commentaire, commentaires, début, fin, coût, responsable, nota, notas, comentario, comentarios, "
     "descripción, inicio, coste"
 ).split(", ")
+# words for a column of successors
+SUCCESSORS = ["successors", "nachfolger", "successeurs", "sucesoras"]
 # words for days
 DAYS = ["", "d", "day", "days", "tag", "tage", "jour", "jours", "día", "días"]
 
@@ -203,6 +205,20 @@ def settled(kinds, keys, names, rows, given):
     return found
 
 
+def refuse_successors(kinds, keys, names, found, rows, given):
+    """Refuses a column of successors that has no capacity."""
+    given = [lower(name) for name in given]
+    place = next((k for k, kind in enumerate(kinds) if kind == "id"), None)
+    if place is None:
+        place = next((k for k, key in enumerate(keys) if KINDS.get(key) == "id" and lower(names[k]) not in given), None)
+    cells = [[cell.strip(BLANKS) for cell in row] for row in rows]
+    limits = [row for row in cells if place is not None and place < len(row) and lower(row[place]) == "capacity"]
+    for k, key in enumerate(keys):
+        has_one = lower(names[k]) in given or any(k < len(row) and row[k] for row in limits)
+        if found[k] == "resource" and key in SUCCESSORS and not has_one:
+            raise Refused(f"T16 column {names[k]}")
+
+
 def is_id(word):
     return 1 <= len(word) <= LONGEST_ID and not any(c in word for c in BLANKS + "\n,;") and not has_control(word)
 
@@ -224,6 +240,7 @@ class Table:
             raise Refused(f"T12 limit line {line}")
         if "duration" not in self.kinds:
             raise Refused("T3 no column duration")
+        refuse_successors(kinds, keys, names, self.kinds, [cells for _, cells in found[1:]], given)
         self.id_at = self.kinds.index("id") if "id" in self.kinds else None
         rows = [(n, c) for n, c in found[1:] if any(x.strip(BLANKS) for x in c)]
         ids = [self.id_of(k, c) for k, (_, c) in enumerate(rows)]
@@ -245,6 +262,7 @@ class Table:
             raise Refused("T12 limit line 0")
         self.amounts = self.all_capacities(given)
         self.refuse_cycles()
+        self.refuse_needs()
 
     def id_of(self, k, cells):
         if self.id_at is None:
@@ -265,7 +283,7 @@ class Table:
     def take(self, line, cells, name):
         if self.is_capacity(name):
             return self.take_capacities(line, cells)
-        row = {"name": "", "duration": 0, "before": [], "needs": []}
+        row = {"line": line, "name": "", "duration": 0, "before": [], "needs": []}
         resource = 0
         for k, kind in enumerate(self.kinds):
             cell = cells[k].strip(BLANKS) if k < len(cells) else ""
@@ -323,6 +341,13 @@ class Table:
             amounts.append(found)
         return amounts
 
+    def refuse_needs(self):
+        """Refuses the first need above its capacity, unless the activity takes no time."""
+        for row in self.rows:
+            for name, need, amount in zip(self.resources, row["needs"], self.amounts):
+                if row["duration"] and need > amount:
+                    raise Refused(f"T19 line {row['line']} need {name} above {amount}")
+
     def refuse_cycles(self):
         """Names the cycle that starts at the least activity of the largest set in which each member
         has a predecessor in the set, and goes to the least such predecessor again and again."""
@@ -346,10 +371,11 @@ class Table:
 
 
 class Project:
-    """A project with names, as its file shows it: the rows, the resources and their amounts."""
+    """A project with names, as its file shows it: the rows, the resources and their amounts, and the ids of
+    the rows if they are in a column."""
 
-    def __init__(self, rows, resources, amounts):
-        self.rows, self.resources, self.amounts = rows, resources, amounts
+    def __init__(self, rows, resources, amounts, ids=()):
+        self.rows, self.resources, self.amounts, self.ids = rows, resources, amounts, ids
 
     def jobs(self):
         count = len(self.rows)
@@ -378,6 +404,7 @@ class Project:
         for j, (duration, _, needs) in enumerate(jobs):
             lines.append(f"{j + 1:>3}{spaced(6, 1)}{spaced(5, duration)}{columns(7, 4, needs)}")
         lines += [RULE, "RESOURCEAVAILABILITIES:", heads, columns(4, 4, amounts), RULE, "PROJECT INFORMATION:"]
+        lines += [f"id {j + 2} {name}" for j, name in enumerate(self.ids)]
         lines += [f"name {j + 2} {row['name']}" for j, row in enumerate(self.rows) if row["name"]]
         lines += [f"resource {k + 1} {name}" for k, name in enumerate(self.resources)]
         return "\n".join(lines + [RULE]) + "\n"
@@ -405,7 +432,8 @@ def wanted(data, given):
         head = next((line for line in text.split("\n") if line.strip(BLANKS)), "")
         delimiter = "\t" if "\t" in head else ";" if ";" in head else ","
         table = Table(records(text, delimiter), given)
-        return 0, Project(table.rows, table.resources, table.amounts).text().encode(), b""
+        ids = table.seen if table.id_at is not None else ()
+        return 0, Project(table.rows, table.resources, table.amounts, ids).text().encode(), b""
     except Refused as fault:
         return 1, b"", str(fault).encode() + b"\n"
 
@@ -449,6 +477,8 @@ def drawn_table(draw):
     resources = [draw.choice(["crew", "digger", "Kran", "bücher"]) + str(k) for k in range(draw.randrange(4))]
     kinds = ["duration"] + [k for k in ("id", "name", "predecessors") if draw.random() < 0.8] + resources
     notes = draw.sample(NOTES, draw.choice([0, 0, 1, 2, 4]))
+    if draw.random() < 0.05:
+        notes.append(draw.choice(["Successors", "NACHFOLGER", " successeurs", "sucesoras"]))
     kinds += notes
     draw.shuffle(kinds)
     ids = [chr(65 + k) if count <= 26 else f"a{k}" for k in range(count)]
@@ -474,7 +504,7 @@ def drawn_table(draw):
             row[draw.choice(kinds)] = draw.choice(["x", "-1", "99999", "A B", "1000000000"])
         lines.append([row[kind] for kind in kinds])
     if "id" in kinds and draw.random() < 0.9:
-        row = {"id": draw.choice(CAPACITY), **{name: str(draw.randrange(1, 9)) for name in resources}}
+        row = {"id": draw.choice(CAPACITY), **{name: str(draw.randrange(3 - (draw.random() < 0.2), 9)) for name in resources}}
         row.update({name: "2" for name in notes if draw.random() < 0.1})
         lines.insert(draw.randrange(1, len(lines) + 1), [row.get(kind, "") for kind in kinds])
     if draw.random() < 0.2:
@@ -509,7 +539,8 @@ def project_of(told):
     """The project that a file of tests/tables describes."""
     rows = [{"name": a["name"], "duration": a["duration"], "before": a["predecessors"], "needs": a["needs"]}
             for a in told["activities"]]
-    return Project(rows, [r["name"] for r in told["resources"]], [r["capacity"] for r in told["resources"]])
+    names, amounts = [r["name"] for r in told["resources"]], [r["capacity"] for r in told["resources"]]
+    return Project(rows, names, amounts, [a["id"] for a in told["activities"] if "id" in a])
 
 
 def answer_of(stem):

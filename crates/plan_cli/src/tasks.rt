@@ -116,7 +116,7 @@ pub enum Task<'a> {
         subject: Subject<'a>,
     },
     /// The project file of a planner's list, a CSV table of activities with names, with capacities
-    /// that are given; or the job shop file of a list of orders. Errors: `T1` to `T15`.
+    /// that are given; or the job shop file of a list of orders. Errors: `T1` to `T16`, `T19`.
     Import {
         given: &'a [Override<'a>],
     },

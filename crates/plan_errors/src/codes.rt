@@ -38,6 +38,8 @@ pub enum Code {
     BadCells,
     NoListResource,
     ManySteps,
+    SuccessorColumn,
+    HighNeed,
     NeedsTooMuch,
     UnknownRule,
     MachineClosed,
@@ -119,6 +121,8 @@ impl Code {
             "T13" => Some(Code::BadCells),
             "T14" => Some(Code::NoListResource),
             "T15" => Some(Code::ManySteps),
+            "T16" => Some(Code::SuccessorColumn),
+            "T19" => Some(Code::HighNeed),
             "S1" => Some(Code::NeedsTooMuch),
             "S3" => Some(Code::UnknownRule),
             "S4" => Some(Code::MachineClosed),
@@ -200,6 +204,8 @@ impl Code {
             Code::BadCells => "T13",
             Code::NoListResource => "T14",
             Code::ManySteps => "T15",
+            Code::SuccessorColumn => "T16",
+            Code::HighNeed => "T19",
             Code::NeedsTooMuch => "S1",
             Code::UnknownRule => "S3",
             Code::MachineClosed => "S4",
@@ -280,6 +286,8 @@ impl Code {
             Code::BadCells => "a cell too many, or an open quote",
             Code::NoListResource => "no such resource in the list",
             Code::ManySteps => "an order has too many steps",
+            Code::SuccessorColumn => "a column of successors: give predecessors instead",
+            Code::HighNeed => "a need exceeds the capacity",
             Code::NeedsTooMuch => "a need exceeds the capacity",
             Code::UnknownRule => "no such priority rule",
             Code::MachineClosed => "a machine is closed",
@@ -367,6 +375,8 @@ impl Code {
             Code::BadCells => "T13 line N cells",
             Code::NoListResource => "T14 no resource NAME",
             Code::ManySteps => "T15 steps ORDER",
+            Code::SuccessorColumn => "T16 column NAME",
+            Code::HighNeed => "T19 line N need RESOURCE above CAPACITY",
             Code::NeedsTooMuch => "S1 activity A resource R",
             Code::UnknownRule => "S3 unknown rule",
             Code::MachineClosed => "S4 machine M closed",
@@ -485,6 +495,10 @@ impl Code {
                 "The option --capacity names a resource that no column of the list has."
             }
             Code::ManySteps => "The order has more steps than the list has machines.",
+            Code::SuccessorColumn => "The column gives successors, and a list has predecessors.",
+            Code::HighNeed => {
+                "The activity in line N takes time and needs more of the resource than its capacity, so it can never start."
+            }
             Code::NeedsTooMuch => {
                 "Activity A takes time and needs more of resource R than its capacity, so it can never start. A is the first such activity and R its first such resource."
             }
@@ -629,6 +643,10 @@ impl Code {
             }
             Code::NoListResource => "Correct the name, or delete the option.",
             Code::ManySteps => "Merge steps of the order, or split the order.",
+            Code::SuccessorColumn => {
+                "Give the predecessors of each row instead. If the column is a resource, add its capacity."
+            }
+            Code::HighNeed => "Raise the capacity, or lower the need.",
             Code::NeedsTooMuch => "Raise the capacity, or lower the need.",
             Code::UnknownRule => {
                 "Use lft, slk, spt, mts or num for a project, spt, mwkr or fcfs for a job shop, in lower case."

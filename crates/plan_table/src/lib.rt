@@ -15,6 +15,7 @@ mod kinds;
 mod laws;
 mod listing;
 mod names;
+mod needs;
 mod overrides;
 mod predecessors;
 mod reading;
@@ -36,7 +37,7 @@ pub use kinds::{ListKind, list_kind};
 pub use laws::{
     accepted_lists_stay, limited_columns_stay, names_change_nothing, plan_files_are_no_lists,
 };
-pub use names::{NameLine, activity_names, first_name, resource_names};
+pub use names::{NameLine, activity_ids, activity_names, first_name, resource_names};
 pub use overrides::Override;
 pub use reading::{read_table, read_table_with};
 pub use shop_names::{machine_names, order_names};
