@@ -1,5 +1,5 @@
 -- Texts that are refused as lists.
-use Rattle.std.proofs.Common.{◌≡◌, ◌⊎◌, inl, inr, ℕ, Bool, true, false, List, Result, Ok, Err, refl, sym, ap, ◌∙◌, subst}
+use Rattle.std.proofs.Common.{◌≡◌, ◌⊎◌, inl, inr, ℕ, Bool, true, false, List, Result, Ok, Err, sym, ap, ◌∙◌, subst}
 use Rattle.std.specs.Prelude.{not}
 use Rattle.plan_table.specs.declared.fault.TableCode.{TableCode}
 use Rattle.plan_table.specs.declared.fault.TableCode.TheVariants as code
@@ -62,29 +62,7 @@ decided_yes : (b : Bool) (P : Type 0) → Decides b P → b ≡ true → P
 decided_yes true P is h = is
 decided_yes false P is h = no_so (sym h)
 
-decided_no : (b : Bool) (P : Type 0) → Decides b P → b ≡ false → P → ⊥
-decided_no false P isnt h = isnt
-decided_no true P isnt h = no_so h
-
 -- a project file and a job shop file stay
 pub file_stays : (overrides : List Override) (bytes : List ℕ) (file : Bool) → Decides file (IsPlanFile bytes)
     → file ≡ true → IsReadable overrides bytes
 file_stays overrides bytes file is h = inl (decided_yes file (IsPlanFile bytes) is h)
-
--- a list that isn't refused stays
-pub list_stays : (overrides : List Override) (bytes : List ℕ) (refused : Bool)
-    → (refused ≡ false → IsRefused overrides bytes → ⊥) → not refused ≡ true → IsReadable overrides bytes
-list_stays overrides bytes true no h = no_so (sym h)
-list_stays overrides bytes false no h = inr (no refl)
-
-still_refused : (overrides : List Override) (bytes : List ℕ) (refused : Bool)
-    → (refused ≡ true → IsRefused overrides bytes) → not refused ≡ false → (IsRefused overrides bytes → ⊥) → ⊥
-still_refused overrides bytes true yes h not_so = not_so (yes refl)
-still_refused overrides bytes false yes h not_so = no_so h
-
--- another file doesn't
-pub list_changes : (overrides : List Override) (bytes : List ℕ) (file refused : Bool)
-    → Decides file (IsPlanFile bytes) → file ≡ false
-    → (refused ≡ true → IsRefused overrides bytes) → not refused ≡ false → IsReadable overrides bytes → ⊥
-list_changes overrides bytes file refused is other yes h (inl plan) = decided_no file (IsPlanFile bytes) is other plan
-list_changes overrides bytes file refused is other yes h (inr not_so) = still_refused overrides bytes refused yes h not_so

@@ -32,7 +32,7 @@ stays_if overrides bytes text kind d p has is listed none stays =
 
 text_joined : (new old : Option (Vec ℕ Global)) (bytes : List ℕ)
     → option_map_or (λ t. t.items) (or_else new old) bytes
-      ≡ option_map_or (λ t. t.items) new (option_map_or (λ t. t.items) old bytes)
+    ≡ option_map_or (λ t. t.items) new (option_map_or (λ t. t.items) old bytes)
 text_joined (Some t) old bytes = refl
 text_joined None old bytes = refl
 
@@ -42,10 +42,19 @@ pub becomes_if : (overrides : List Override) (bytes text : List ℕ) (kind : Opt
     → d.encoding ≡ encoding bytes → IsKind text kind → kind ≡ Some k → IsTextOf k overrides text r → p ≡ joined d r
     → IsDecoded overrides bytes p
 becomes_if overrides bytes text kind k d r p has is code listed some becomes made =
-    subst (λ (x : PlainList). IsDecoded overrides bytes x) (sym made)
-    (Some k, subst (λ t. IsKind t (Some k)) (has ∙ is) (subst (λ o. IsKind text o) some listed),
-     (code, (r, subst (λ t. IsTextOf k overrides t r) (has ∙ is) becomes,
-       text_joined r.text d.text bytes ∙ ap (λ t. text_in r t) is, refl)))
+    subst (λ (x : PlainList). IsDecoded overrides bytes x) (sym made) (
+      Some k,
+      subst (λ t. IsKind t (Some k)) (has ∙ is) (subst (λ o. IsKind text o) some listed),
+      (
+        code,
+        (
+          r,
+          subst (λ t. IsTextOf k overrides t r) (has ∙ is) becomes,
+          text_joined r.text d.text bytes ∙ ap (λ t. text_in r t) is,
+          refl,
+        ),
+      ),
+    )
 
 spelt_by : (new : Option (Vec ℕ Global)) (text : List ℕ) (found rows : List Row) → rows_read text ≡ Ok found
     → IfSome new (λ t. Spells t.items rows) → (IsNone new → filled found ≡ rows)

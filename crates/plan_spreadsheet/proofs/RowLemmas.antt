@@ -18,6 +18,7 @@ not_both h = absurd (subst IsYes (sym h) tt)
 
 -- cells that are the same
 pub cells_same : (xs ys : List (List ℕ)) → same_cells xs ys ≡ true → xs ≡ ys
+unfolding same_cells
 cells_same [] [] h = refl
 cells_same [] (y ∷ ys) h = not_both h
 cells_same (x ∷ xs) [] h = not_both h
@@ -35,6 +36,7 @@ row_same x y h =
 
 -- rows that are the same
 pub rows_same : (xs ys : List Row) → same_rows xs ys ≡ true → xs ≡ ys
+unfolding same_rows
 rows_same [] [] h = refl
 rows_same [] (y ∷ ys) h = not_both h
 rows_same (x ∷ xs) [] h = not_both h

@@ -79,7 +79,7 @@ BecomesBy None overrides bytes p = Stays p
 BecomesBy (Some kind) overrides bytes p =
     (p.encoding ≡ encoding bytes)
     × ((r : rewriting.Rewriting) × IsTextOf kind overrides (utf8_of bytes) r
-      × (text_of p bytes ≡ text_in r (utf8_of bytes)) × (p.ignored ≡ r.ignored))
+    × (text_of p bytes ≡ text_in r (utf8_of bytes)) × (p.ignored ≡ r.ignored))
 
 -- what a file becomes that is decoded
 abbrev pub IsDecoded : List Override → List ℕ → declared.PlainList → Type 0
@@ -121,4 +121,4 @@ abbrev pub IsNoPlain : List Override → List ℕ → SpreadsheetFault → Type 
 IsNoPlain overrides bytes fault =
     IsNoText overrides (utf8_of bytes) fault
     ⊎ ((IsReadable overrides bytes → ⊥)
-      × ((book : Workbook) × (workbook bytes ≡ Some book) × (fault ≡ fault_of book)))
+    × ((book : Workbook) × (workbook bytes ≡ Some book) × (fault ≡ fault_of book)))

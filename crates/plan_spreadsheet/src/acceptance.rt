@@ -38,7 +38,7 @@ pub fn is_refused(
 }
 
 /// Whether a file is read as it is: as a project, as a job shop, or as a list.
-#[tactic(auto, using(crate::proofs::AcceptanceLemmas::file_stays, crate::proofs::AcceptanceLemmas::list_stays, crate::proofs::AcceptanceLemmas::list_changes))]
+#[tactic(auto, using(crate::proofs::AcceptanceLemmas::file_stays))]
 pub fn is_readable(
     alloc: Global,
     overrides: &[Override<'_>],

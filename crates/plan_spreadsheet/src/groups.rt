@@ -158,7 +158,7 @@ fn push_row(
 ) -> Result<(), AllocError>
     ensures { OnOk result (map row_of kept.new.items
         ≡ spec.with_row (spec.outline_of outline) (map row_of kept.old.items) (row_of row.now)
-            (map row_of behind.now)) }
+        (map row_of behind.now)) }
 {
     if is_group(outline, row, behind) {
         return Ok(());
@@ -221,7 +221,7 @@ fn under(
 ) -> Result<Vec<Row>, AllocError>
     ensures { IfOk result (λ v. map row_of v.items
         ≡ spec.under_if (map override_of overrides.now) (row_of first.now) (map row_of rows.now)
-            (Ok (map head_of heads.now))) }
+        (Ok (map head_of heads.now))) }
 {
     let settled = settle(alloc, overrides, rows, heads)?;
     let body = Body {
@@ -241,7 +241,7 @@ fn without_groups_behind(
 ) -> Result<Vec<Row>, AllocError>
     ensures { IfOk result (λ v. map row_of v.items
         ≡ spec.without_groups_behind (map override_of overrides.now) (row_of first.now)
-            (map row_of rows.now)) }
+        (map row_of rows.now)) }
 {
     match read_heads(alloc, first.line, &first.cells) {
         Ok(heads) => {

@@ -82,16 +82,21 @@ fn text_of_kind(
 fn joined(decoded: Decoded, rewriting: Rewriting) -> PlainList
     ensures { result ≡ spec.joined decoded rewriting }
 {
-    match rewriting.text {
+    let Rewriting { text, ignored } = rewriting;
+    let Decoded {
+        encoding,
+        text: decoded,
+    } = decoded;
+    match text {
         Some(text) => PlainList {
             text: Some(text),
-            encoding: decoded.encoding,
-            ignored: rewriting.ignored,
+            encoding,
+            ignored,
         },
         None => PlainList {
-            text: decoded.text,
-            encoding: decoded.encoding,
-            ignored: rewriting.ignored,
+            text: decoded,
+            encoding,
+            ignored,
         },
     }
 }
