@@ -242,7 +242,6 @@ SUBJECTS = [
         "orders.csv: this is a list of orders; plan import --shop converts it",
     ),
     ("import --shop list.csv", "T3", "list.csv: this is a list of activities; leave out --shop"),
-    ("import orders.csv", "T3", "orders.csv: this is a list of orders; give the option --shop"),
     ("import p.sm", "T3", "p.sm: a required column is missing"),
     ("import --shop p.sm", "T3", "p.sm: a required column is missing"),
     ("cpm p.sm.old", "I1", "p.sm.old: a file can't be read"),

@@ -1,7 +1,8 @@
 #!/usr/bin/env python3
 """Hands lists in where commands take a project or a job shop file. Each command answers for a list as
 for the file that `plan import` makes of it, with the names; a list that `plan import` refuses is
-refused with the same line. Commands that read no lists refuse them as before.
+refused with the same line. Commands that read no lists refuse them as before. `plan import` recognizes
+a list of orders; `--shop` isn't needed.
 
     tests/trials/lists.py               200 lists; prints nothing on success
     tests/trials/lists.py CASES SEED    so many, drawn from this seed
@@ -194,7 +195,9 @@ def try_list(draw, folder):
         same(f"{what}: solve", (status, output, errors[:1]), (1, b"", b"F"))
         return kind
     is_shop = kind == "orders"
-    answer = plan(folder, "import", *(["--shop"] if is_shop else []), "list.csv")
+    answer = plan(folder, "import", "list.csv")
+    if is_shop:
+        same(f"{what}: import --shop", plan(folder, "import", "--shop", "list.csv"), answer)
     if answer[0]:
         try_refused(what, folder, is_shop, answer)
         return f"refused {kind}"
@@ -208,6 +211,8 @@ def try_capacity_of_orders():
         written(folder, "list.csv", b"order,machine,time\nA,saw,2\n")
         found = plan(folder, "solve", "--capacity", "saw=2", "list.csv")
         same("a capacity for orders", found, (1, b"", b"S8 no resource saw\n"))
+        found = plan(folder, "import", "--capacity", "saw=2", "--capacity", "press=1", "list.csv")
+        same("a capacity for an import of orders", found, (1, b"", b"T14 no resource saw\n"))
 
 
 def try_lists(cases=200, seed=1, is_verbose=False):

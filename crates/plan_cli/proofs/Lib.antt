@@ -1,5 +1,7 @@
 pub mod CapacityLemmas
 pub mod RunLemmas
+pub mod TaskLemmas
+pub mod QuoteLemmas
 pub mod RefusalLemmas
 pub mod RuleLemmas
 pub mod ContentsLemmas

@@ -2,11 +2,8 @@
 use Rattle.std.proofs.Common.{◌≡◌, ◌⊎◌, inl, inr, ℕ, ◌+◌, ◌≤◌, ◌<◌, List, [], ◌∷◌, Option, Some, None, Result, Ok, Err, Vec, length, take, refl, sym, ap, ◌∙◌, subst, arith}
 use Rattle.std.specs.Prelude.{IfOk, IfErr}
 use Rattle.std.specs.Global.{Global}
-use Rattle.std.proofs.lemmas.List.{take_all, take-take}
-use Rattle.plan_psplib.specs.Plain.{longest_text, plain}
-use Rattle.plan_psplib.specs.Project.{Project, SaysProject}
-use Rattle.plan_orlib.specs.Instances.{names_of}
-use Rattle.plan_table.specs.Kinds.{IsKind, IsPlanFile, NamesInstance, kind_of_header, header_cells, header_kind}
+use Rattle.plan_psplib.specs.Plain.{longest_text}
+use Rattle.plan_table.specs.Kinds.{IsKind}
 use Rattle.plan_table.specs.Names.{Name}
 use Rattle.plan_table.specs.declared.kinds.ListKind.{ListKind}
 use Rattle.plan_table.specs.declared.kinds.ListKind.TheVariants as kinds
@@ -19,7 +16,8 @@ use Rattle.plan_cli.specs.Tasks.{IsLineOf, ShowsTask, list_subject, with_subject
 use Rattle.plan_cli.specs.declared.documents.Subject.{Subject}
 use Rattle.plan_cli.specs.declared.tasks.Rows.{Rows}
 use Rattle.plan_cli.specs.declared.tasks.Task.{Task}
-use Rattle.plan_cli.proofs.RunLemmas.{HoldsByFront, refuses_as, shown_front, task_line_front, import_front, no_import_front, shop_import_front, no_shop_import_front, plain_short, project_short, whole_front}
+use Rattle.plan_cli.proofs.RunLemmas.{HoldsByFront, refuses_as}
+use Rattle.plan_cli.proofs.TaskLemmas.{shown_front, task_line_front, import_front, no_import_front, shop_import_front, no_shop_import_front, kind_front}
 
 -- ---- capacities of a list of orders
 
@@ -92,30 +90,6 @@ refused_as of file t u kind s text bytes (Err e) is task same told =
     (subst (λ (w : Task). Refuses (IsLineOf w bytes) e) task told)
 
 -- ---- the first bytes of a file
-
--- a plan file isn't too long
-plan_short : (text : List ℕ) → IsPlanFile text → length text ≤ longest_text
-plan_short text (inl (p, says)) = project_short text p says
-plan_short text (inr (readable, some)) = plain_short text readable
-
--- the front of a plan file is the file
-plan_front : (file : List ℕ) → IsPlanFile file → IsPlanFile (take (longest_text + 1) file)
-plan_front file is =
-    let short = plan_short file is in
-    subst IsPlanFile (sym (take_all (longest_text + 1) file (omega (arith, short)))) is
-
-front_plan : (file : List ℕ) → IsPlanFile (take (longest_text + 1) file) → IsPlanFile file
-front_plan file is = subst IsPlanFile (whole_front file (plan_short (take (longest_text + 1) file) is)) is
-
--- the header in the front of a file is that of the file
-header_front : (file : List ℕ) → header_kind (take (longest_text + 1) file) ≡ header_kind file
-header_front file = ap (λ (text : List ℕ). kind_of_header (header_cells text)) (take-take longest_text (longest_text + 1) file (omega arith))
-
--- the front of a file is a list of the kind that the file is
-kind_front : (file : List ℕ) (kind : Option ListKind) → IsKind (take (longest_text + 1) file) kind → IsKind file kind
-kind_front file None (inl none) = inl (sym (header_front file) ∙ none)
-kind_front file None (inr is) = inr (front_plan file is)
-kind_front file (Some kind) (header, no_plan) = (sym (header_front file) ∙ header, λ is. no_plan (plan_front file is))
 
 made_front : (kind : ListKind) → HoldsByFront (IsMadeOf kind)
 made_front kinds.Activities = import_front []

@@ -1,5 +1,5 @@
 -- The text or line for the first bytes of a file is that for the whole file.
-use Rattle.std.proofs.Common.{◌≡◌, ◌⊎◌, inl, inr, ℕ, ◌+◌, ◌≤◌, ◌<◌, List, [], Option, Some, None, Result, Ok, Err, length, take, map, refl, sym, ap, ◌∙◌, subst, arith}
+use Rattle.std.proofs.Common.{◌≡◌, ◌⊎◌, inl, inr, ℕ, ◌+◌, ◌≤◌, ◌<◌, List, Option, Some, None, Result, Ok, Err, length, take, refl, sym, ap, ◌∙◌, subst, arith}
 use Rattle.std.specs.Prelude.{IfSome, IfOk, IfErr}
 use Rattle.std.specs.Io.KnownBytes.{Consumes}
 use Rattle.std.proofs.lemmas.Bool.{lt-leb, cases_lt}
@@ -20,49 +20,21 @@ use Rattle.plan_gantt.specs.FirstFaults.{TellsFirstFailing, TellsFirstShopFault}
 use Rattle.plan_sgs.specs.Problem.{NeedsFit}
 use Rattle.plan_sgs.specs.Instances.{Planned, problem_of}
 use Rattle.plan_shop.specs.Shop.{JobShop}
-use Rattle.plan_formats.specs.declared.format.Format.{Format}
 use Rattle.plan_cli.specs.Plans.{IsOfProject, RefusesFile, IsOfShop, RefusesShop}
 use Rattle.plan_cli.specs.Documents.{IsOfSubject, RefusesSubject}
-use Rattle.plan_cli.specs.Scheduled.{TellsNoRuleOf, TellsNotMade}
-use Rattle.plan_cli.specs.Tables.{IsTableBy}
-use Rattle.plan_cli.specs.ChartRun.{IsChartFrom}
-use Rattle.plan_cli.specs.DaysRun.{IsDaysFrom, TellsNoDaysFrom}
-use Rattle.plan_cli.specs.SlackRun.{IsSlackOf, TellsNoSlack}
-use Rattle.plan_cli.specs.CompareRun.{IsCompared, TellsNotCompared}
 use Rattle.plan_cli.specs.NamesRun.{AreNamesOf, TellsNotPlain}
-use Rattle.plan_cli.specs.CheckRun.{TellsVerdictOn, TellsBadStarts}
-use Rattle.plan_cli.specs.BestRun.{IsBestOf, TellsNoBestOf}
 use Rattle.plan_cli.specs.ProveRun.{IsProofTableOf, TellsWhyNoProof}
-use Rattle.plan_cli.specs.SolveRun.{IsSolvedBy, TellsNoSolution}
 use Rattle.plan_cli.specs.declared.documents.Plan.{Plan}
 use Rattle.plan_cli.specs.declared.documents.Plan.TheVariants as plan
 use Rattle.plan_cli.specs.declared.documents.Subject.{Subject}
 use Rattle.plan_cli.specs.declared.documents.Subject.TheVariants as subject
 use Rattle.plan_cli.specs.declared.capacities.Capacity.{Capacity}
-use Rattle.plan_table.specs.Entries.{filled_from}
-use Rattle.plan_table.specs.declared.fault.TableCode.TheVariants as table_code
-use Rattle.plan_table.specs.declared.fault.ReadError.{ReadError}
-use Rattle.plan_table.specs.declared.fault.ReadError.TheVariants as errors
-use Rattle.plan_table.specs.Listing.{rows_read, table_in, table_read_with}
-use Rattle.plan_table.specs.Overrides.{Override, override_of}
-use Rattle.plan_table.specs.ShopReading.{shop_in, shop_table_read}
-use Rattle.plan_table.specs.Reading as reads
-use Rattle.plan_table.specs.Refused.{IsRefusedWith}
-use Rattle.plan_cli.specs.ImportRun.{IsImportOf, TellsNoImport, IsShopImportOf, TellsNoShopImport}
-use Rattle.plan_cli.specs.Tasks.{IsTextOf, IsLineOf, ShowsTask}
-use Rattle.plan_cli.specs.declared.tasks.Rows.{Rows}
-use Rattle.plan_cli.specs.declared.tasks.Rows.TheVariants as rows
-use Rattle.plan_cli.specs.declared.tasks.Task.{Task}
-use Rattle.plan_cli.specs.declared.tasks.Task.TheVariants as task
 use Rattle.plan_cli.specs.ScheduleRun.{TellsNeed}
 use Rattle.plan_errors.specs.declared.fault.CliFault.{CliFault}
 use Rattle.plan_errors.specs.declared.fault.CliFault.TheVariants as cli
 use Rattle.plan_errors.specs.Faults.{refusal_line}
 use Rattle.plan_errors.specs.Output.{Writes, Refuses, Sends}
 use Rattle.plan_cli.specs.Run.{IsDateTableOf, JudgesFront, ReadsFront, Tells}
-use Rattle.plan_cli.specs.TaskViews.{IsViewOf}
-use Rattle.plan_cli.specs.Views.{View, plain_text}
-use Rattle.plan_cli.proofs.ViewTextLemmas.{view_text}
 
 -- a refusal by lines of one kind is one by lines of another kind that has them too
 pub refuses_as : (IsLine IsOther : List ℕ → Type 0) (e : CliFault)
@@ -129,10 +101,10 @@ pub project_front : (file : List ℕ) (p : Project) → SaysProject (take (longe
     → SaysProject file p
 project_front file p (d, says, same, project) = (d, says_front file d says, same, project)
 
-table_front : HoldsByFront IsDateTableOf
+pub table_front : HoldsByFront IsDateTableOf
 table_front file text (p, says, table) = (p, project_front file p says, table)
 
-line_front : HoldsByFront TellsFirstFailing
+pub line_front : HoldsByFront TellsFirstFailing
 line_front file line (first, failing, e) = (first, failing_front file first failing, e)
 
 -- the output for the front of a file is the output for the file
@@ -256,12 +228,12 @@ whole_front file few = by_length (cases_lt longest_text (length file))
         absurd (omega (arith, m, few, long))
 
 -- the text for the project in the front of a file is that for the file
-of_project_front : (given : List Capacity) (IsText : Planned → List ℕ → Type 0) → HoldsByFront (IsOfProject given IsText)
+pub of_project_front : (given : List Capacity) (IsText : Planned → List ℕ → Type 0) → HoldsByFront (IsOfProject given IsText)
 of_project_front given IsText file text (p, says, shown) =
     subst (λ (bytes : List ℕ). IsOfProject given IsText bytes text) (whole_front file (project_short (take (longest_text + 1) file) p says)) (p, says, shown)
 
 -- the line that refuses the front of a file is that for the file
-refuses_file_front : (given : List Capacity) (IsLine : Planned → List ℕ → Type 0) → HoldsByFront (RefusesFile given IsLine)
+pub refuses_file_front : (given : List Capacity) (IsLine : Planned → List ℕ → Type 0) → HoldsByFront (RefusesFile given IsLine)
 refuses_file_front given IsLine file line (inl first) = inl (line_front file line first)
 refuses_file_front given IsLine file line (inr (p, says, tells)) =
     subst (λ (bytes : List ℕ). RefusesFile given IsLine bytes line) (whole_front file (project_short (take (longest_text + 1) file) p says)) (inr (p, says, tells))
@@ -318,10 +290,10 @@ says_shop_front instance file doc says = by_length (cases_lt longest_text (lengt
 first_front : (instance : List ℕ) → HoldsByFront (TellsFirstShopFault instance)
 first_front instance file line (first, (failing, none), e) = (first, (sym (front_shop instance file) ∙ failing, none), e)
 
-proof_front : (nodes instance : List ℕ) → HoldsByFront (IsProofTableOf nodes instance)
+pub proof_front : (nodes instance : List ℕ) → HoldsByFront (IsProofTableOf nodes instance)
 proof_front nodes instance file text (doc, says, table) = (doc, says_shop_front instance file doc says, table)
 
-no_proof_front : (nodes instance : List ℕ) → HoldsByFront (TellsWhyNoProof nodes instance)
+pub no_proof_front : (nodes instance : List ℕ) → HoldsByFront (TellsWhyNoProof nodes instance)
 no_proof_front nodes instance file line (inl first) = inl (first_front instance file line first)
 no_proof_front nodes instance file line (inr (doc, says, tells)) = inr (doc, says_shop_front instance file doc says, tells)
 
@@ -333,7 +305,7 @@ told_no_shop instance file first e (inl memory) t = refuses_as (Tells first) (Te
 told_no_shop instance file first e (inr failing) t = refuses_as (Tells first) (TellsFirstShopFault instance file) e (λ line tells. (first, failing, tells.1)) t
 
 -- the names in the front of a file are those in the file
-names_front : HoldsByFront AreNamesOf
+pub names_front : HoldsByFront AreNamesOf
 names_front file text (readable, is) = by_length (cases_lt longest_text (length file))
   where
     by_length : (longest_text < length file) ⊎ (length file ≤ longest_text) → AreNamesOf file text
@@ -354,7 +326,7 @@ plain_front file = by_length (cases_lt longest_text (length file))
         let m = length-take (longest_text + 1) file in
         long_plain (take (longest_text + 1) file) (omega (arith, m, long)) ∙ sym (long_plain file long)
 
-not_plain_front : HoldsByFront TellsNotPlain
+pub not_plain_front : HoldsByFront TellsNotPlain
 not_plain_front file line (first, (failing, none), e) = (first, (sym (plain_front file) ∙ failing, none), e)
 
 -- the reported error is the reason why the file isn't plain
@@ -374,155 +346,13 @@ refuses_shop_front instance IsLine file line (inl first) = inl (first_front inst
 refuses_shop_front instance IsLine file line (inr (doc, says, tells)) = inr (doc, says_shop_front instance file doc says, tells)
 
 -- the text for the project or the job shop in the front of a file is that for the file
-of_subject_front : (subject : Subject) (IsText : Plan → List ℕ → Type 0) → HoldsByFront (IsOfSubject subject IsText)
+pub of_subject_front : (subject : Subject) (IsText : Plan → List ℕ → Type 0) → HoldsByFront (IsOfSubject subject IsText)
 of_subject_front (subject.Project given) IsText =
     of_project_front given.now (λ i text. NeedsFit (problem_of i) × IsText (plan.Project i) text)
 of_subject_front (subject.Shop instance) IsText = of_shop_front instance.now (λ s. IsText (plan.Shop s))
 
 -- the line that refuses the front of a file is that for the file
-refuses_subject_front : (subject : Subject) (IsLine : Plan → List ℕ → Type 0) → HoldsByFront (RefusesSubject subject IsLine)
+pub refuses_subject_front : (subject : Subject) (IsLine : Plan → List ℕ → Type 0) → HoldsByFront (RefusesSubject subject IsLine)
 refuses_subject_front (subject.Project given) IsLine =
     refuses_file_front given.now (λ i line. TellsNeed i line ⊎ (NeedsFit (problem_of i) × IsLine (plan.Project i) line))
 refuses_subject_front (subject.Shop instance) IsLine = refuses_shop_front instance.now (λ s. IsLine (plan.Shop s))
-
--- the records of a text that is too long
-long_rows : (text : List ℕ) → longest_text < length text → rows_read text ≡ reads.fault table_code.TooLong 0 []
-unfolding rows_read
-long_rows text long = rw (lt-leb (length text) longest_text long)
-
--- the records in the front of a file are those in the file
-front_rows : (file : List ℕ) → rows_read (take (longest_text + 1) file) ≡ rows_read file
-front_rows file = by_length (cases_lt longest_text (length file))
-  where
-    by_length : (longest_text < length file) ⊎ (length file ≤ longest_text)
-        → rows_read (take (longest_text + 1) file) ≡ rows_read file
-    by_length (inr short) = ap rows_read (take_all (longest_text + 1) file (omega (arith, short)))
-    by_length (inl long) =
-        let m = length-take (longest_text + 1) file in
-        long_rows (take (longest_text + 1) file) (omega (arith, m, long)) ∙ sym (long_rows file long)
-
--- the table in the front of a file is that in the file
-front_table : (given : List Override) (file : List ℕ) → table_read_with given (take (longest_text + 1) file) ≡ table_read_with given file
-front_table given file =
-    ap (λ rows. reads.◌>>=◌ rows (λ found. table_in given (filled_from found))) (front_rows file)
-
--- the list of orders in the front of a file is that in the file
-front_orders : (file : List ℕ) → shop_table_read (take (longest_text + 1) file) ≡ shop_table_read file
-front_orders file =
-    ap (λ rows. reads.◌>>=◌ rows (λ found. shop_in (filled_from found))) (front_rows file)
-
--- a result that is fine
-abbrev pub IsRead : {A : Type 0} → Result A reads.Fault → Type 0
-IsRead (Ok t) = Unit {0}
-IsRead (Err e) = ⊥
-
--- records that were read aren't too long
-rows_short : (text : List ℕ) → IsRead (rows_read text) → length text ≤ longest_text
-rows_short text read = by_length (cases_lt longest_text (length text))
-  where
-    by_length : (longest_text < length text) ⊎ (length text ≤ longest_text) → length text ≤ longest_text
-    by_length (inr short) = short
-    by_length (inl long) = absurd (subst IsRead (long_rows text long) read)
-
--- if something was read from a result, then the result is fine
-was_read : {A B : Type 0} (r : Result A reads.Fault) (next : A → Result B reads.Fault) (t : B) → reads.◌>>=◌ r next ≡ Ok t → IsRead r
-was_read (Ok x) next t e = tt
-was_read (Err f) next t e = subst IsRead (sym e) tt
-
-pub import_front : (given : List Override) → HoldsByFront (IsImportOf given)
-import_front given file text (t, read, shown) = (t, sym (front_table given file) ∙ read, shown)
-
--- a table of which the front is refused is refused
-refused_front : (given : List Override) (file : List ℕ) (e : ReadError) → IsRefusedWith given (take (longest_text + 1) file) e → IsRefusedWith given file e
-refused_front given file errors.Memory r = tt
-refused_front given file (errors.Fault f) (inl read) = inl (sym (front_table given file) ∙ read)
-refused_front given file (errors.Fault f) (inr (t, read, cycle)) = inr (t, sym (front_table given file) ∙ read, cycle)
-
-pub no_import_front : (given : List Override) → HoldsByFront (TellsNoImport given)
-no_import_front given file line (inl (first, refused, tells)) = inl (first, refused_front given file (errors.Fault first) refused, tells)
-no_import_front given file line (inr (t, read, tells)) = inr (t, sym (front_table given file) ∙ read, tells)
-
-pub shop_import_front : HoldsByFront IsShopImportOf
-shop_import_front file text (t, read, shown) = (t, sym (front_orders file) ∙ read, shown)
-
-pub no_shop_import_front : HoldsByFront TellsNoShopImport
-no_shop_import_front file line (inl (first, refused, tells)) = inl (first, sym (front_orders file) ∙ refused, tells)
-no_shop_import_front file line (inr (t, read, tells)) = inr (t, sym (front_orders file) ∙ read, tells)
-
--- the text of a task for the front of a file is that for the file
-task_front : (task : Task) → HoldsByFront (IsTextOf task)
-task_front task.Dates = table_front
-task_front (task.Schedule rule subject) = of_subject_front subject (IsTableBy rule.now)
-task_front (task.Chart from subject) = of_subject_front subject (IsChartFrom from)
-task_front (task.Days from dates subject) = of_subject_front subject (IsDaysFrom from dates)
-task_front task.Names = names_front
-task_front (task.Check starts subject) = of_subject_front subject (TellsVerdictOn starts.now)
-task_front (task.Slack starts given) = of_project_front given.now (IsSlackOf starts.now)
-task_front (task.Compare starts subject) = of_subject_front subject (IsCompared starts.a.now starts.b.now)
-task_front (task.Best budget subject) = of_subject_front subject (IsBestOf budget.now)
-task_front (task.Prove nodes instance) = proof_front nodes.now instance.now
-task_front (task.Solve conflicts subject) = of_subject_front subject IsSolvedBy
-task_front (task.Import given) = import_front (map override_of given.now)
-task_front task.ImportShop = shop_import_front
-
-pub task_line_front : (task : Task) → HoldsByFront (IsLineOf task)
-task_line_front task.Dates = line_front
-task_line_front (task.Schedule rule subject) = refuses_subject_front subject (TellsNoRuleOf rule.now)
-task_line_front (task.Chart from subject) = refuses_subject_front subject (TellsNotMade from)
-task_line_front (task.Days from dates subject) = refuses_subject_front subject (TellsNoDaysFrom from dates)
-task_line_front task.Names = not_plain_front
-task_line_front (task.Check starts subject) = refuses_subject_front subject (TellsBadStarts starts.now)
-task_line_front (task.Slack starts given) = refuses_file_front given.now (TellsNoSlack starts.now)
-task_line_front (task.Compare starts subject) = refuses_subject_front subject (TellsNotCompared starts.a.now starts.b.now)
-task_line_front (task.Best budget subject) = refuses_subject_front subject (TellsNoBestOf budget.now)
-task_line_front (task.Prove nodes instance) = no_proof_front nodes.now instance.now
-task_line_front (task.Solve conflicts subject) = refuses_subject_front subject TellsNoSolution
-task_line_front (task.Import given) = no_import_front (map override_of given.now)
-task_line_front task.ImportShop = no_shop_import_front
-
--- a file that says a job shop isn't too long
-shop_short : (instance file : List ℕ) (doc : docs.Shop) → ShopSays instance file doc → length file ≤ longest_text
-shop_short instance file doc says = plain_short file says.readable
-
--- a file for which a text of a project or a job shop is written isn't too long
-subject_short : (subject : Subject) (IsText : Plan → List ℕ → Type 0) (file text : List ℕ) → IsOfSubject subject IsText file text → length file ≤ longest_text
-subject_short (subject.Project given) IsText file text (p, says, rest) = project_short file p says
-subject_short (subject.Shop instance) IsText file text (doc, says, rest) = shop_short instance.now file doc says
-
--- a file for which a task writes a text isn't too long
-file_short : (task : Task) (file text : List ℕ) → IsTextOf task file text → length file ≤ longest_text
-file_short task.Dates file text (p, says, rest) = project_short file p says
-file_short (task.Schedule rule subject) file text is = subject_short subject (IsTableBy rule.now) file text is
-file_short (task.Chart from subject) file text is = subject_short subject (IsChartFrom from) file text is
-file_short (task.Days from dates subject) file text is = subject_short subject (IsDaysFrom from dates) file text is
-file_short task.Names file text (readable, is) = plain_short file readable
-file_short (task.Check starts subject) file text is = subject_short subject (TellsVerdictOn starts.now) file text is
-file_short (task.Slack starts given) file text (p, says, rest) = project_short file p says
-file_short (task.Compare starts subject) file text is = subject_short subject (IsCompared starts.a.now starts.b.now) file text is
-file_short (task.Best budget subject) file text is = subject_short subject (IsBestOf budget.now) file text is
-file_short (task.Prove nodes instance) file text (doc, says, rest) = shop_short instance.now file doc says
-file_short (task.Solve conflicts subject) file text is = subject_short subject IsSolvedBy file text is
-file_short (task.Import given) file text (t, read, shown) =
-    rows_short file (was_read (rows_read file) (λ found. table_in (map override_of given.now) (filled_from found)) t read)
-file_short task.ImportShop file text (t, read, shown) =
-    rows_short file (was_read (rows_read file) (λ found. shop_in (filled_from found)) t read)
-
--- a file for which a task shows something isn't too long
-view_short : (task : Task) (file : List ℕ) (view : View) → IsViewOf task file view → length file ≤ longest_text
-view_short task file view is = file_short task file (plain_text view) (view_text task file view is)
-
--- the text of a task with names for the front of a file is that for the file
-named_front : (task : Task) → HoldsByFront (ShowsTask rows.Named task)
-named_front task file text (view, is, named) =
-    subst (λ (bytes : List ℕ). ShowsTask rows.Named task bytes text) (whole_front file (view_short task (take (longest_text + 1) file) view is)) (view, is, named)
-
--- the text of a task in a format for the front of a file is that for the file
-formatted_front : (task : Task) (format : Format) → HoldsByFront (ShowsTask (rows.In format) task)
-formatted_front task format file text (view, is, made) =
-    subst (λ (bytes : List ℕ). ShowsTask (rows.In format) task bytes text) (whole_front file (view_short task (take (longest_text + 1) file) view is)) (view, is, made)
-
--- the text of a task for the front of a file, with these rows, is that for the file
-pub shown_front : (task : Task) (names : Rows) → HoldsByFront (ShowsTask names task)
-shown_front task rows.Plain = task_front task
-shown_front task rows.Named = named_front task
-shown_front task (rows.In format) = formatted_front task format

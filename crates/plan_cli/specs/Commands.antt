@@ -1,4 +1,4 @@
--- What a command shows for a plan, and its lines, for private clauses only.
+-- The values of commands for a plan, and their error lines. Only private clauses use them.
 use Rattle.std.specs.Prelude.{ℕ, List}
 use Rattle.plan_cli.specs.BestRun.{TellsNoBestOf}
 use Rattle.plan_cli.specs.CheckRun.{TellsBadStarts}
@@ -13,7 +13,7 @@ use Rattle.plan_cli.specs.declared.commands.Command.{Command}
 use Rattle.plan_cli.specs.declared.commands.Command.TheVariants as command
 use Rattle.plan_cli.specs.declared.documents.Plan.{Plan}
 
--- what a command shows for a plan
+-- the value of a command for a plan
 abbrev pub IsPlanView : Command → Plan → View → Type 0
 IsPlanView (command.Schedule rule) = IsTableViewBy rule.now
 IsPlanView (command.Chart from) = IsChartViewFrom from
@@ -23,7 +23,7 @@ IsPlanView (command.Compare starts) = IsComparedView starts.a.now starts.b.now
 IsPlanView (command.Best budget) = IsBestViewOf budget.now
 IsPlanView (command.Solve conflicts) = IsSolvedViewBy
 
--- the lines with which a command refuses a plan
+-- the error lines of a command for a plan
 abbrev pub IsPlanLine : Command → Plan → List ℕ → Type 0
 IsPlanLine (command.Schedule rule) = TellsNoRuleOf rule.now
 IsPlanLine (command.Chart from) = TellsNotMade from

@@ -1,9 +1,12 @@
 -- The output of `plan import` for the bytes that it reads (docs/definitions.md, "Runs").
-use Rattle.std.specs.Prelude.{◌≡◌, ◌⊎◌, ◌<◌, ℕ, List, Ok, Err, length, codes}
+use Rattle.std.specs.Prelude.{◌≡◌, ◌⊎◌, ◌<◌, ℕ, List, [], ◌∷◌, Option, Some, Ok, Err, length, codes}
 use Rattle.plan_psplib.specs.Plain.{longest_text}
 use Rattle.plan_psplib.specs.Project.{SaysProject}
 use Rattle.plan_orlib.specs.Says.{Says}
+use Rattle.plan_table.specs.Kinds.{IsKind}
 use Rattle.plan_table.specs.declared.fault.TableFault.{TableFault}
+use Rattle.plan_table.specs.declared.kinds.ListKind.{ListKind}
+use Rattle.plan_table.specs.declared.kinds.ListKind.TheVariants as kinds
 use Rattle.plan_table.specs.declared.fault.ReadError.TheVariants as errors
 use Rattle.plan_table.specs.Jobs.{project_of}
 use Rattle.plan_table.specs.Listing.{table_read_with}
@@ -16,7 +19,7 @@ use Rattle.plan_table.specs.ShopReading.{shop_table_read}
 use Rattle.plan_table.specs.ShopTable.{ShopTable, shop_of}
 use Rattle.plan_table.specs.ShopText.{instance, shop_text}
 use Rattle.plan_table.specs.Table.{Table}
-use Rattle.plan_cli.specs.TableFaultText.{fault_text_of}
+use Rattle.plan_cli.specs.TableFaultText.{TellsNoResource, fault_text_of}
 
 -- a line gives an error of a table
 abbrev pub TellsTable : TableFault → List ℕ → Type 0
@@ -66,3 +69,38 @@ TellsNoOrders file line =
 abbrev pub TellsNoShopImport : List ℕ → List ℕ → Type 0
 TellsNoShopImport file line = TellsNoOrders file line
     ⊎ ((t : ShopTable) × (shop_table_read file ≡ Ok t) × TellsLong (shop_text t) line)
+
+-- A line names the first of the capacities that are given for a list of orders. A job shop has no
+-- resources.
+abbrev pub TellsGiven : List Override → List ℕ → Type 0
+TellsGiven [] line = ⊥
+TellsGiven (first ∷ more) line = TellsNoResource first.resource line
+
+-- a text is the job shop file of the list of orders in a file, without given capacities
+abbrev pub IsOrderImportOf : List Override → List ℕ → List ℕ → Type 0
+IsOrderImportOf given file text = (given ≡ []) × IsShopImportOf file text
+
+-- a line gives the first error of a list of orders, or else that of the given capacities
+abbrev pub TellsNoOrderImport : List Override → List ℕ → List ℕ → Type 0
+TellsNoOrderImport given file line = TellsNoShopImport file line ⊎ TellsGiven given line
+
+-- a text is the file that `plan import` makes of a file of a kind: a job shop file of a list of
+-- orders, a project file of any other file
+abbrev pub IsImportBy : Option ListKind → List Override → List ℕ → List ℕ → Type 0
+IsImportBy (Some kinds.Orders) = IsOrderImportOf
+IsImportBy _ = IsImportOf
+
+-- a line with which `plan import` refuses a file of a kind
+abbrev pub TellsNoImportBy : Option ListKind → List Override → List ℕ → List ℕ → Type 0
+TellsNoImportBy (Some kinds.Orders) = TellsNoOrderImport
+TellsNoImportBy _ = TellsNoImport
+
+-- a text is the file that `plan import` makes of a file, with capacities that are given
+abbrev pub IsImport : List Override → List ℕ → List ℕ → Type 0
+IsImport given file text =
+    (kind : Option ListKind) × IsKind file kind × IsImportBy kind given file text
+
+-- a line with which `plan import` refuses a file
+abbrev pub TellsUnimported : List Override → List ℕ → List ℕ → Type 0
+TellsUnimported given file line =
+    (kind : Option ListKind) × IsKind file kind × TellsNoImportBy kind given file line

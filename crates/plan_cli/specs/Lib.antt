@@ -51,6 +51,7 @@ pub mod CompareRun
 pub mod Views
 pub mod TaskViews
 pub mod ExplainedText
+pub mod Quotes
 pub mod TableFaultText
 pub mod Refusals
 pub mod Contents

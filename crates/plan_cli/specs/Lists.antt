@@ -1,4 +1,4 @@
--- Lists that a command reads as the files that `plan import` makes of them (docs/definitions.md,
+-- Lists, which commands read as the files that `plan import` makes of them (docs/definitions.md,
 -- "Runs").
 use Rattle.std.specs.Prelude.{◌≡◌, ◌⊎◌, ℕ, Bool, true, false, List, [], Option, Some, None}
 use Rattle.std.specs.Prelude.{String, bytes_eq, codes, string_bytes}

@@ -6,6 +6,7 @@ use Rattle.std.specs.Str.Lossy.{utf8_lossy}
 use Rattle.plan_table.specs.declared.fault.TableCode.{TableCode}
 use Rattle.plan_table.specs.declared.fault.TableCode.TheVariants as code
 use Rattle.plan_table.specs.Reading.{Fault}
+use Rattle.plan_cli.specs.Quotes.{quoted}
 use Rattle.plan_errors.specs.declared.fault.CliFault.{CliFault}
 use Rattle.plan_errors.specs.declared.fault.CliFault.TheVariants as fault
 
@@ -41,9 +42,14 @@ line_by code.TooManySteps line word = codes "T15 steps " ++ word
 abbrev pub fault_text_of : Fault → List ℕ
 fault_text_of f = line_by f.code f.line (utf8_lossy f.word)
 
--- the sentence that a word isn't a duration or a time
+-- a line reports that a list has no resource of this name
+abbrev pub TellsNoResource : List ℕ → List ℕ → Type 0
+TellsNoResource name line = line ≡ line_by code.NoResource 0 (utf8_lossy name)
+
+-- the sentence that a word, of which at most 60 bytes are quoted, isn't a duration or a time
 abbrev pub duration_sentence : List ℕ → List ℕ
-duration_sentence word = codes "\"" ++ word ++ codes "\" isn't a whole number of at most 10000"
+duration_sentence word =
+    codes "\"" ++ quoted word ++ codes "\" isn't a whole number of at most 10000"
 
 -- the sentence that quotes a cell without a duration or a time, unless the cell is empty
 abbrev pub quoted_duration : List ℕ → Option (List ℕ)

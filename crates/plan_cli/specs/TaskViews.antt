@@ -1,5 +1,5 @@
--- What each task shows for the bytes that it reads (docs/definitions.md, "Runs"). The texts of
--- these values are those that IsTextOf states.
+-- The value of each task for the bytes that it reads (docs/definitions.md, "Runs"). Its text is
+-- that of IsTextOf.
 use Rattle.std.specs.Prelude.{◌≡◌, ◌≤◌, ℕ, List, Ok, map}
 use Rattle.plan_cpm.specs.Dates.{DateTable, AreDates}
 use Rattle.plan_orlib.specs.Instances.{names_of}
@@ -40,7 +40,7 @@ use Rattle.plan_cli.specs.Calendars.{IsDated}
 use Rattle.plan_cli.specs.CompareRun.{SayPair}
 use Rattle.plan_cli.specs.Documents.{IsOfSubject, problem_of, sheet_of}
 use Rattle.plan_cli.specs.CheckRun.{sentence_of}
-use Rattle.plan_cli.specs.ImportRun.{IsImportOf, IsShopImportOf}
+use Rattle.plan_cli.specs.ImportRun.{IsImport, IsShopImportOf}
 use Rattle.plan_cli.specs.PlanRefs.{viewed}
 use Rattle.plan_cli.specs.Plans.{IsOfProject, IsOfShop}
 use Rattle.plan_cli.specs.Scheduled.{IsByRule, IsScheduleFrom}
@@ -119,7 +119,7 @@ IsComparedView first second p view = SayPair (sheet_of p) first second
     (λ a b. (t : Table) × ComparesIn p a b t × (view ≡ table t))
 
 -- the best schedule of a project that a search within a budget finds: an active one, which has the
--- least makespan of all feasible ones if it is called optimal
+-- least makespan of all feasible ones if the kind is optimal
 pub record IsBestProjectViewBy (budget : ℕ) (i : Planned) (view : View) : Type 0 where
   pub solved : Solved
   pub solution : IsProjectSolution i budget solved
@@ -141,7 +141,7 @@ pub record IsBestShopViewBy (budget : ℕ) (s : JobShop) (view : View) : Type 0 
       ≡ makespan (shops.problem_of s) solved.schedule.starts.items
   pub shown : view ≡ table (best_view_of (shop s) solved)
 
--- the best schedule of a plan within the budget that an argument spells
+-- the best schedule of a plan, if an argument is the budget
 abbrev pub IsBestViewOf : List ℕ → Plan → View → Type 0
 IsBestViewOf argument (plan.Project i) view =
     (budget : ℕ) × IsBudgetText argument budget × IsBestProjectViewBy budget i view
@@ -180,12 +180,12 @@ pub record IsProvedViewOf (nodes : ℕ) (s : JobShop) (view : View) : Type 0 whe
   pub shown : view ≡ table (bounded_of (plan.Shop s) proof.lower proof.schedule.starts.items
       proof.schedule.makespan)
 
--- the same, within the number of nodes that an argument spells
+-- the same, if an argument is the number of nodes
 abbrev pub IsProofViewBy : List ℕ → JobShop → View → Type 0
 IsProofViewBy argument s view =
     (nodes : ℕ) × IsNodesText argument nodes × IsProvedViewOf nodes s view
 
--- the proof for an instance in a file
+-- the schedule and the bound of an instance in a file
 abbrev pub IsProofViewOf : List ℕ → List ℕ → List ℕ → View → Type 0
 IsProofViewOf argument instance file view =
     (doc : docs.Shop) × Says instance file doc × IsProofViewBy argument (shop_of doc) view
@@ -198,7 +198,7 @@ IsNameView file view = (plain file ≡ Ok tt) × (view ≡ table (name_view_of (
 abbrev pub IsTextView : (List ℕ → List ℕ → Type 0) → List ℕ → View → Type 0
 IsTextView IsText file view = (bytes : List ℕ) × IsText file bytes × (view ≡ text bytes)
 
--- what a task shows for a file
+-- the value of a task for a file
 abbrev pub IsViewOf : Task → List ℕ → View → Type 0
 IsViewOf task.Dates = IsDateView
 IsViewOf (task.Schedule rule subject) = IsOfSubject subject (IsTableViewBy rule.now)
@@ -212,5 +212,5 @@ IsViewOf (task.Compare starts subject) =
 IsViewOf (task.Best budget subject) = IsOfSubject subject (IsBestViewOf budget.now)
 IsViewOf (task.Prove nodes instance) = IsProofViewOf nodes.now instance.now
 IsViewOf (task.Solve conflicts subject) = IsOfSubject subject IsSolvedViewBy
-IsViewOf (task.Import given) = IsTextView (IsImportOf (map override_of given.now))
+IsViewOf (task.Import given) = IsTextView (IsImport (map override_of given.now))
 IsViewOf task.ImportShop = IsTextView IsShopImportOf

@@ -19,7 +19,7 @@ use Rattle.plan_cli.specs.CheckRun.{TellsVerdictOn, TellsBadStarts}
 use Rattle.plan_cli.specs.BestRun.{IsBestOf, TellsNoBestOf}
 use Rattle.plan_cli.specs.ProveRun.{IsProofTableOf, TellsWhyNoProof}
 use Rattle.plan_cli.specs.SolveRun.{IsSolvedBy, TellsNoSolution}
-use Rattle.plan_cli.specs.ImportRun.{IsImportOf, TellsNoImport, IsShopImportOf, TellsNoShopImport}
+use Rattle.plan_cli.specs.ImportRun.{IsImport, TellsUnimported, IsShopImportOf, TellsNoShopImport}
 use Rattle.plan_cli.specs.Lists.{ReadsAs, RefusesAs}
 use Rattle.plan_cli.specs.TaskViews.{IsViewOf}
 use Rattle.plan_cli.specs.Views.{View, named_text, text_in}
@@ -51,7 +51,7 @@ IsTextOf (task.Compare starts subject) =
 IsTextOf (task.Best budget subject) = IsOfSubject subject (IsBestOf budget.now)
 IsTextOf (task.Prove nodes instance) = IsProofTableOf nodes.now instance.now
 IsTextOf (task.Solve conflicts subject) = IsOfSubject subject IsSolvedBy
-IsTextOf (task.Import given) = IsImportOf (map override_of given.now)
+IsTextOf (task.Import given) = IsImport (map override_of given.now)
 IsTextOf task.ImportShop = IsShopImportOf
 
 -- the lines with which a task refuses a file
@@ -68,7 +68,7 @@ IsLineOf (task.Compare starts subject) =
 IsLineOf (task.Best budget subject) = RefusesSubject subject (TellsNoBestOf budget.now)
 IsLineOf (task.Prove nodes instance) = TellsWhyNoProof nodes.now instance.now
 IsLineOf (task.Solve conflicts subject) = RefusesSubject subject TellsNoSolution
-IsLineOf (task.Import given) = TellsNoImport (map override_of given.now)
+IsLineOf (task.Import given) = TellsUnimported (map override_of given.now)
 IsLineOf task.ImportShop = TellsNoShopImport
 
 -- The names of the rows that a task writes for a file. The rows are those of activities in a

@@ -1,4 +1,4 @@
--- What a task shows, and its texts (docs/definitions.md, "Runs").
+-- The values of tasks, and their texts (docs/definitions.md, "Runs").
 use Rattle.std.specs.Prelude.{ℕ, List, [], ◌∷◌, Result, IfOk, map, string_bytes}
 use Rattle.plan_table.specs.Names.{Name}
 use Rattle.plan_formats.specs.CsvText.{csv_text_of, records_of}
@@ -22,7 +22,7 @@ pub data View : Type 0 where
   chart : Chart → View
   text : List ℕ → View
 
--- what a task shows, as the program keeps it
+-- the value of a task, as the program represents it
 abbrev pub view_of : declared.View → View
 view_of (kept.Table t) = table (table_of t)
 view_of (kept.Chart c) = chart (chart_of c)
@@ -30,7 +30,7 @@ view_of (kept.Verdict sentence) = table (verdict_view_of (string_bytes sentence)
 view_of (kept.Names names) = table (name_view_of (map (λ name. name.items) names.items))
 view_of (kept.Text t) = text t.items
 
--- a call that makes a value makes one of this kind
+-- a successful call returns such a value
 abbrev pub IfView : Result declared.View CliFault → (View → Type 0) → Type 0
 IfView result IsValue = IfOk result (λ view. IsValue (view_of view))
 
@@ -51,7 +51,7 @@ abbrev pub with_any_names : List Name → Table → Table
 with_any_names [] t = t
 with_any_names (name ∷ names) t = with_names (name ∷ names) t
 
--- a chart in a format: its bars as CSV, its value as JSON
+-- a chart in a format: CSV has its bars, JSON its value
 abbrev pub chart_text : Format → List Name → Chart → List ℕ
 chart_text format.Csv names c = csv_text_of (records_of (with_any_names names (bars_of c)))
 chart_text format.Json names c = json_text_of (chart_data names c)

@@ -1,4 +1,4 @@
-//! `plan import`: the project file of a planner's list, a CSV table of activities, and the job shop
+//! `plan import`: the project file of a planner's list, a CSV table of activities, or the job shop
 //! file of a list of orders.
 
 ghost use Rattle.std.specs.Prelude.{◌≡◌, Ok, map, IfOk, IfErr, codes};
@@ -11,11 +11,11 @@ ghost use Rattle.plan_errors.specs.Output.{Refuses};
 ghost use Rattle.plan_cli.specs.Run.{IfText};
 ghost use Rattle.plan_cli.specs.ImportRun as spec;
 
-use crate::table_faults::table_refusal;
+use crate::table_faults::{resource_refusal, table_refusal};
 use plan_errors::{About, CliFault, Code, refuse_words};
 use plan_table::{
-    Override, ReadError, ShopTable, Table, TextFault, project_text, read_shop_table,
-    read_table_with, shop_text,
+    ListKind, Override, ReadError, ShopTable, Table, TextFault, list_kind, project_text,
+    read_shop_table, read_table_with, shop_text,
 };
 use std::alloc::Global;
 
@@ -99,4 +99,54 @@ pub(crate) fn shop_import_text(alloc: Global, file: &[u8]) -> Result<String, Cli
 {
     let table = orders_of(alloc, file)?;
     orders_text(alloc, &table)
+}
+
+// Returns the job shop file of a list of orders, unless capacities are given: a job shop has no
+// resources.
+fn order_import_text(
+    alloc: Global,
+    given: &[Override<'_>],
+    file: &[u8],
+) -> Result<String, CliFault>
+    ensures made { IfText result (spec.IsOrderImportOf (map override_of given.now) file.now) }
+    ensures refused { IfErr result (Refuses
+        (spec.TellsNoOrderImport (map override_of given.now) file.now)) }
+{
+    let text = shop_import_text(alloc, file)?;
+    match given {
+        [] => Ok(text),
+        [first, ..] => Err(resource_refusal(alloc, first.resource, file)),
+    }
+}
+
+// Returns the file that `plan import` makes of a file of this kind.
+fn text_by(
+    alloc: Global,
+    kind: Option<ListKind>,
+    given: &[Override<'_>],
+    file: &[u8],
+) -> Result<String, CliFault>
+    ensures made { IfText result (spec.IsImportBy kind (map override_of given.now) file.now) }
+    ensures refused { IfErr result (Refuses
+        (spec.TellsNoImportBy kind (map override_of given.now) file.now)) }
+{
+    match kind {
+        Some(ListKind::Orders) => order_import_text(alloc, given, file),
+        Some(ListKind::Activities) | None => import_text(alloc, given, file),
+    }
+}
+
+/// Returns the job shop file of a list of orders, and the project file of the table in any other
+/// file, with capacities that are given.
+pub(crate) fn file_import_text(
+    alloc: Global,
+    given: &[Override<'_>],
+    file: &[u8],
+) -> Result<String, CliFault>
+    ensures made { IfText result (spec.IsImport (map override_of given.now) file.now) }
+    ensures refused { IfErr result (Refuses
+        (spec.TellsUnimported (map override_of given.now) file.now)) }
+{
+    let kind = list_kind(alloc, file)?;
+    text_by(alloc, kind, given, file)
 }

@@ -23,6 +23,7 @@ mod origins;
 mod plan_refs;
 mod projects;
 mod proof;
+mod quotes;
 mod refusals;
 mod runs;
 mod schedules;

@@ -1,4 +1,4 @@
-//! Lists that a command reads as the files that `plan import` makes of them.
+//! Lists, which commands read as the files that `plan import` makes of them.
 
 ghost use Rattle.std.specs.Prelude.{◌≡◌, Some, [], IfOk, IfErr};
 ghost use Rattle.plan_table.specs.Kinds.{IsKind};
@@ -14,8 +14,8 @@ use plan_errors::CliFault;
 use plan_table::{ListKind, list_kind};
 use std::alloc::Global;
 
-/// What a command reads: the project or the job shop in its file, or that of the file which
-/// `plan import` makes of a list.
+/// The project or the job shop that a command reads, in its file or in the file that `plan import`
+/// makes of a list.
 #[derive(Drop)]
 pub struct Reading<'a> {
     /// The kind of the list, if the file is one.
@@ -106,7 +106,7 @@ fn subject_on<'a>(
     }
 }
 
-// Returns what a command reads of a list.
+// Reads a list for a command.
 fn readable_list<'a>(
     alloc: Global,
     kind: ListKind,
@@ -127,7 +127,7 @@ fn readable_list<'a>(
     })
 }
 
-/// Returns what a command reads in a file. A list is read as the file that `plan import` makes of
+/// Reads a file for a command. A list is read as the file that `plan import` makes of
 /// it. A list of orders has one instance, which needs no name or has the name `-`. Errors of a list
 /// are those of `plan import`, then `S8` (a capacity for a list of orders).
 pub fn readable<'a>(

@@ -13,6 +13,7 @@ ghost use Rattle.plan_cli.specs.Refusals.{table_code, table_subject};
 ghost use Rattle.plan_cli.specs.TableFaultText as spec;
 
 use crate::contents::contents_of;
+use crate::quotes::quoted;
 use plan_errors::{About, CliFault, Code, Key, Part, refuse};
 use plan_table::{TableCode, TableFault};
 use std::alloc::{AllocError, Global};
@@ -178,10 +179,12 @@ fn fault_parts(alloc: Global, fault: &TableFault) -> Result<Vec<Part>, AllocErro
     parts_by(alloc, fault.code, fault.line, word.as_str())
 }
 
-// Returns the sentence that a word isn't a duration or a time.
+// Returns the sentence that a word, of which at most 60 bytes are quoted, isn't a duration or a time.
 fn duration_sentence(alloc: Global, word: &str) -> Result<String, AllocError>
     ensures { IfOk result (λ text. string_bytes text ≡ spec.duration_sentence word.now) }
 {
+    let word = quoted(alloc, word)?;
+    let word = word.as_str();
     let mut text = String::new(alloc);
     write!(text, "\"{word}\" isn't a whole number of at most 10000")?;
     Ok(text)
@@ -257,4 +260,19 @@ pub(crate) fn table_refusal(alloc: Global, fault: &TableFault, file: &[u8]) -> C
         Ok(detail) => known_refusal(alloc, fault, file).with_detail(detail),
         Err(_) => CliFault::Memory,
     }
+}
+
+/// Returns the error that a list has no resource of this name.
+pub(crate) fn resource_refusal(alloc: Global, resource: &[u8], file: &[u8]) -> CliFault
+    ensures { Refuses (spec.TellsNoResource resource.now) result }
+{
+    let Ok(word) = resource.to_vec(alloc) else {
+        return CliFault::Memory;
+    };
+    let fault = TableFault {
+        code: TableCode::NoResource,
+        line: 0,
+        word,
+    };
+    table_refusal(alloc, &fault, file)
 }

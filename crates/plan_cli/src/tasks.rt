@@ -14,7 +14,7 @@ use crate::capacities::Capacity;
 use crate::commands::{Command, subject_view};
 use crate::comparisons::Pair;
 use crate::documents::{Subject, names_of_lines, names_of_rows};
-use crate::imports::{import_text, shop_import_text};
+use crate::imports::{file_import_text, shop_import_text};
 use crate::lists::readable;
 use crate::names::names_in;
 use crate::origins::Origin;
@@ -116,7 +116,7 @@ pub enum Task<'a> {
         subject: Subject<'a>,
     },
     /// The project file of a planner's list, a CSV table of activities with names, with capacities
-    /// that are given. Errors: `T1` to `T14`.
+    /// that are given; or the job shop file of a list of orders. Errors: `T1` to `T15`.
     Import {
         given: &'a [Override<'a>],
     },
@@ -152,7 +152,10 @@ fn view_of<V: ProofWatcher + SolveWatcher, L: Log>(
         Task::Names => names_in(alloc, file),
         Task::Slack { starts, capacities } => slacks_of(alloc, starts, capacities, file),
         Task::Prove { nodes, instance } => proof_view(alloc, nodes, instance, file, watcher),
-        Task::Import { given } => Ok(View::Text(import_text(alloc, given, file)?.into_bytes())),
+        Task::Import { given } => {
+            let text = file_import_text(alloc, given, file)?;
+            Ok(View::Text(text.into_bytes()))
+        }
         Task::ImportShop => Ok(View::Text(shop_import_text(alloc, file)?.into_bytes())),
         Task::Schedule { rule, subject } => {
             let command = Command::Schedule(rule);

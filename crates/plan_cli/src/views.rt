@@ -1,4 +1,4 @@
-//! What a task shows, and its texts.
+//! The values of tasks, and their texts.
 
 ghost use Rattle.std.specs.Prelude.{◌≡◌, [], map, IfOk};
 ghost use Rattle.plan_table.specs.Names.{name_of};
@@ -14,7 +14,7 @@ use plan_table::NameLine;
 use plan_views::{Chart, chart_bars, chart_json, chart_text, name_view, verdict_view};
 use std::alloc::{AllocError, Global};
 
-/// What a task shows.
+/// The value of a task.
 #[derive(Drop)]
 pub(crate) enum View {
     Table(Table<'static>),
@@ -88,7 +88,7 @@ fn chart_in(
     }
 }
 
-/// Returns the text of what a task shows, without names.
+/// Returns the text of a value, without names.
 pub(crate) fn plain_text(alloc: Global, view: View) -> Result<Vec<u8>, AllocError>
     ensures { IfOk result (λ text. text.items ≡ spec.plain_text (spec.view_of view)) }
 {
@@ -107,7 +107,7 @@ pub(crate) fn plain_text(alloc: Global, view: View) -> Result<Vec<u8>, AllocErro
     }
 }
 
-/// Returns the text of what a task shows, each row with its name.
+/// Returns the text of a value, each row with its name.
 pub(crate) fn named_text(
     alloc: Global,
     view: View,
@@ -125,7 +125,7 @@ pub(crate) fn named_text(
     }
 }
 
-/// Returns what a task shows in a format, with the names of the rows.
+/// Returns the text of a value in a format, with the names of the rows.
 pub(crate) fn text_in(
     alloc: Global,
     format: Format,
