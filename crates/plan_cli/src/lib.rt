@@ -32,6 +32,7 @@ mod shops;
 mod slacks;
 mod solutions;
 mod solver;
+mod spreadsheets;
 mod starts;
 mod table_faults;
 mod tables;
