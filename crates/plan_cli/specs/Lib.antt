@@ -53,6 +53,7 @@ pub mod TaskViews
 pub mod ExplainedText
 pub mod Quotes
 pub mod Spreadsheets
+pub mod Notes
 pub mod TableFaultText
 pub mod Refusals
 pub mod Contents
