@@ -26,15 +26,15 @@ pub struct Body<'a> {
     pub place: Option<usize>,
 }
 
-// The cell of column `k` in a row, without the blanks at its ends.
-fn cell_of(row: &Row, k: usize) -> &[u8]
+/// The cell of column `k` in a row, without the blanks at its ends.
+pub fn cell_of(row: &Row, k: usize) -> &[u8]
     ensures { result.now ≡ spec.cell_of k (row_of row.now) }
 {
     trim(cell_at(&row.cells, k))
 }
 
-// Whether a row is that of the capacities.
-fn is_capacities(place: Option<usize>, row: &Row) -> bool
+/// Whether a row is that of the capacities.
+pub fn is_capacities(place: Option<usize>, row: &Row) -> bool
     ensures { result ≡ spec.is_capacities place (row_of row.now) }
 {
     match place {
@@ -43,8 +43,8 @@ fn is_capacities(place: Option<usize>, row: &Row) -> bool
     }
 }
 
-// Whether a row is that of the capacities, and has one for column `k`.
-fn gives_capacity(place: Option<usize>, row: &Row, k: usize) -> bool
+/// Whether a row is that of the capacities, and has one for column `k`.
+pub fn gives_capacity(place: Option<usize>, row: &Row, k: usize) -> bool
     ensures { result ≡ spec.gives_capacity place k (row_of row.now) }
 {
     !cell_of(row, k).is_empty() && is_capacities(place, row)
@@ -79,8 +79,8 @@ fn is_given(overrides: &[Override<'_>], head: &Head) -> bool
     given(overrides, head.name.as_bytes()).is_some()
 }
 
-// Whether column `k` has a capacity.
-fn has_capacity(body: &Body<'_>, k: usize, head: &Head) -> bool
+/// Whether column `k` has a capacity.
+pub fn has_capacity(body: &Body<'_>, k: usize, head: &Head) -> bool
     ensures { result ≡ spec.has_capacity (spec.body_of body.now) k (head_of head.now) }
 {
     is_given(body.overrides, head)
@@ -109,8 +109,8 @@ fn ids_from(overrides: &[Override<'_>], heads: &[Head]) -> Option<usize>
     None
 }
 
-// Where the ids are: in the column `id`, or else in the first one that can have them.
-fn ids_place(overrides: &[Override<'_>], heads: &[Head]) -> Option<usize>
+/// Where the ids are: in the column `id`, or else in the first one that can have them.
+pub fn ids_place(overrides: &[Override<'_>], heads: &[Head]) -> Option<usize>
     ensures { result ≡ spec.ids_place (map override_of overrides.now) (map head_of heads.now) }
 {
     match id_place(heads) {
@@ -189,8 +189,8 @@ fn settle_heads(alloc: Global, body: &Body<'_>, heads: &[Head]) -> Result<Vec<He
     Ok(settled)
 }
 
-// The columns of rows, with given capacities.
-fn settle(
+/// The columns of rows, with given capacities.
+pub fn settle(
     alloc: Global,
     overrides: &[Override<'_>],
     rows: &[Row],

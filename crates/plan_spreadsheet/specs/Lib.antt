@@ -1,0 +1,4 @@
+pub mod Rows
+pub mod Notes
+pub mod PlainRows
+pub mod PlainLists
