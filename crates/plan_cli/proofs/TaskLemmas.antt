@@ -131,13 +131,13 @@ no_shop_import_front file line (inl (first, refused, tells)) = inl (first, sym (
 no_shop_import_front file line (inr (t, read, tells)) = inr (t, sym (front_orders file) ∙ read, tells)
 
 import_by_front : (given : List Override) (kind : Option ListKind) → HoldsByFront (IsImportBy kind given)
-import_by_front given None = import_front given
-import_by_front given (Some kinds.Activities) = import_front given
+import_by_front given None file text made = import_front given file text made
+import_by_front given (Some kinds.Activities) file text made = import_front given file text made
 import_by_front given (Some kinds.Orders) file text (none, made) = (none, shop_import_front file text made)
 
 no_import_by_front : (given : List Override) (kind : Option ListKind) → HoldsByFront (TellsNoImportBy kind given)
-no_import_by_front given None = no_import_front given
-no_import_by_front given (Some kinds.Activities) = no_import_front given
+no_import_by_front given None file line tells = no_import_front given file line tells
+no_import_by_front given (Some kinds.Activities) file line tells = no_import_front given file line tells
 no_import_by_front given (Some kinds.Orders) file line (inl tells) = inl (no_shop_import_front file line tells)
 no_import_by_front given (Some kinds.Orders) file line (inr tells) = inr tells
 
@@ -199,8 +199,8 @@ orders_short file text (t, read, shown) =
 
 import_by_short : (given : List Override) (kind : Option ListKind) (file text : List ℕ) → IsImportBy kind given file text
     → length file ≤ longest_text
-import_by_short given None = activities_short given
-import_by_short given (Some kinds.Activities) = activities_short given
+import_by_short given None file text made = activities_short given file text made
+import_by_short given (Some kinds.Activities) file text made = activities_short given file text made
 import_by_short given (Some kinds.Orders) file text (none, made) = orders_short file text made
 
 -- a file for which a task writes a text isn't too long
