@@ -1,8 +1,8 @@
 #!/usr/bin/env python3
 """Hands lists in where commands take a project or a job shop file. Each command answers for a list as
 for the file that `plan import` makes of it, with the names; a list that `plan import` refuses is
-refused with the same line. Commands that read no lists refuse them as before. `plan import` recognizes
-a list of orders; `--shop` isn't needed.
+refused with the same line. Commands that read no lists refuse them as before. `plan import` needs no
+`--shop` for a list of orders.
 
     tests/trials/lists.py               200 lists; prints nothing on success
     tests/trials/lists.py CASES SEED    so many, drawn from this seed

@@ -11,18 +11,18 @@ IsLastBoundary text most end =
 -- the first byte of a character isn't inside one
 first_byte : (byte : ℕ) → (128 ≤ byte → 192 ≤ byte) → is_inner byte ≡ false
 first_byte byte first = elim (cases_lt byte 128) [
-    inl low ↦ rw (lt-leb 128 byte low) refl
+  | inl low ↦ rw (lt-leb 128 byte low) refl
   | inr high ↦ rw (le-leb 128 byte high, le-ltb byte 192 (first high)) refl
 ]
 
 -- any other byte is
 inner_byte : (byte : ℕ) → ((128 ≤ byte → 192 ≤ byte) → ⊥) → is_inner byte ≡ true
 inner_byte byte inner = elim (cases_lt byte 128) [
-    inl low ↦ absurd (inner (λ high. omega arith))
+  | inl low ↦ absurd (inner (λ high. omega arith))
   | inr high ↦ elim (cases_lt byte 192) [
-        inl below ↦ rw (le-leb 128 byte high, lt-ltb byte 192 below) refl
-      | inr first ↦ absurd (inner (λ _. first))
-    ]
+    | inl below ↦ rw (le-leb 128 byte high, lt-ltb byte 192 below) refl
+    | inr first ↦ absurd (inner (λ _. first))
+  ]
 ]
 
 -- the facts about an end determine it
@@ -30,10 +30,10 @@ pub last_is : (text : List ℕ) (most end : ℕ) → most < length text → IsLa
 unfolding last_boundary
 last_is text zero end long last = omega arith
 last_is text (suc n) end long last = elim (cases_lt end (suc n)) [
-    inl before ↦ rw (inner_byte (slice_index text (suc n)) (λ first. last.2 (suc n) before (omega arith) (omega arith, λ _. first)))
-    (last_is text n end (omega arith) (omega arith, last.1, λ i above within. last.2 i above (omega arith)))
+  | inl before ↦ rw (inner_byte (slice_index text (suc n)) (λ first. last.2 (suc n) before (omega arith) (omega arith, λ _. first)))
+      (last_is text n end (omega arith) (omega arith, last.1, λ i above within. last.2 i above (omega arith)))
   | inr beyond ↦ let same : end ≡ suc n = omega arith in
-    rw (first_byte (slice_index text (suc n)) ((subst (IsCharBoundary text) same last.1).1 long)) (sym same)
+      rw (first_byte (slice_index text (suc n)) ((subst (IsCharBoundary text) same last.1).1 long)) (sym same)
 ]
 
 -- a text that isn't long is quoted whole

@@ -46,7 +46,7 @@ fault_text_of f = line_by f.code f.line (utf8_lossy f.word)
 abbrev pub TellsNoResource : List ℕ → List ℕ → Type 0
 TellsNoResource name line = line ≡ line_by code.NoResource 0 (utf8_lossy name)
 
--- the sentence that a word, of which at most 60 bytes are quoted, isn't a duration or a time
+-- the sentence that a word isn't a duration or a time, with at most 60 bytes of the word
 abbrev pub duration_sentence : List ℕ → List ℕ
 duration_sentence word =
     codes "\"" ++ quoted word ++ codes "\" isn't a whole number of at most 10000"

@@ -104,11 +104,7 @@ pub(crate) fn shop_import_text(alloc: Global, file: &[u8]) -> Result<String, Cli
 
 // Returns the job shop file of a list of orders, unless capacities are given: a job shop has no
 // resources.
-fn order_import_text(
-    alloc: Global,
-    given: &[Override<'_>],
-    file: &[u8],
-) -> Result<String, CliFault>
+fn order_import_text(alloc: Global, given: &[Override<'_>], file: &[u8]) -> Result<String, CliFault>
     ensures made { IfText result (spec.IsOrderImportOf (map override_of given.now) file.now) }
     ensures refused { IfErr result (Refuses
         (spec.TellsNoOrderImport (map override_of given.now) file.now)) }

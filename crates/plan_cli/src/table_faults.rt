@@ -179,7 +179,7 @@ fn fault_parts(alloc: Global, fault: &TableFault) -> Result<Vec<Part>, AllocErro
     parts_by(alloc, fault.code, fault.line, word.as_str())
 }
 
-// Returns the sentence that a word, of which at most 60 bytes are quoted, isn't a duration or a time.
+// Returns the sentence that a word isn't a duration or a time. It quotes at most 60 bytes.
 fn duration_sentence(alloc: Global, word: &str) -> Result<String, AllocError>
     ensures { IfOk result (λ text. string_bytes text ≡ spec.duration_sentence word.now) }
 {

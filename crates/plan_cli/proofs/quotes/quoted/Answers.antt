@@ -9,6 +9,6 @@ pub returns : goal.returns
 returns c =
     let end = c.floor_char_boundary-end in
     let front : c.range.result.now ≡ take end.result c.args.text.now =
-        c.range.ensures.value ∙ ap (λ n. take n c.args.text.now) (omega arith) in
+    c.range.ensures.value ∙ ap (λ n. take n c.args.text.now) (omega arith) in
     rw (long c.args.text.now end.result c.if-text-le-MOST_QUOTED.false (end.ensures.bound, end.ensures.boundary, end.ensures.nearest), ← front, ← c.in_ok-made.ensures.ok)
     c.in_ok-push_str.ensures.bytes
