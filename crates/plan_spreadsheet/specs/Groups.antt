@@ -1,6 +1,5 @@
 -- Groups: rows with deeper rows below them, which stand for these rows and are no activities.
-use Rattle.std.specs.Prelude.{ℕ, ◌+◌, ◌==◌, ◌&&◌, ◌||◌, Bool, true, false, if◌then◌else◌, List, [], ◌∷◌, Option, Some, None, Result, Ok, Err, codes, count_by, is_some, length, map, nat_lt, not}
-use Rattle.std.specs.List.{list_any}
+use Rattle.std.specs.Prelude.{ℕ, ◌+◌, ◌==◌, ◌&&◌, ◌||◌, Bool, true, false, if◌then◌else◌, List, [], ◌∷◌, ◌++◌, Option, Some, None, Result, Ok, Err, codes, count_by, is_some, length, map, nat_lt, not}
 use Rattle.plan_psplib.specs.Numbers.{number}
 use Rattle.plan_table.specs.declared.header.Column.TheVariants as columns
 use Rattle.plan_table.specs.Cells.{same_name}
@@ -27,11 +26,14 @@ is_outline body k head =
     same_kind columns.Resource head.column && (is_level_word head.key || is_outline_word head.key)
     && not (has_capacity body k head)
 
--- which of the columns from column k on tell how deep the rows are
-unfoldable pub outlines_from : Body → ℕ → List Head → List ℕ
-outlines_from body k [] = []
-outlines_from body k (head ∷ heads) =
-    if is_outline body k head then k ∷ outlines_from body (k + 1) heads else outlines_from body (k + 1) heads
+-- these columns so far, with column k if it is one
+abbrev pub with_outline : Body → List ℕ → ℕ → Head → List ℕ
+with_outline body before k head = if is_outline body k head then before ++ k ∷ [] else before
+
+-- which of the columns from column k on tell how deep the rows are, behind others
+unfoldable pub outlines_from : Body → List ℕ → ℕ → List Head → List ℕ
+outlines_from body before k [] = before
+outlines_from body before k (head ∷ heads) = outlines_from body (with_outline body before k head) (k + 1) heads
 
 -- a column that tells how deep the rows are: by levels, or by numbers such as 1.2
 pub record Outline : Type 0 where
@@ -78,15 +80,19 @@ is_below (Some n) next = deeper_than n next
 abbrev pub is_group : Outline → Row → List Row → Bool
 is_group o row rows = is_below (depth o row) (next_depth o rows)
 
--- the rows without groups
-unfoldable pub ungrouped : Outline → List Row → List Row
-ungrouped o [] = []
-ungrouped o (row ∷ rows) = if is_group o row rows then ungrouped o rows else row ∷ ungrouped o rows
+-- the rows that are kept so far, with one more if it is no group
+abbrev pub with_row : Outline → List Row → Row → List Row → List Row
+with_row o before row rows = if is_group o row rows then before else before ++ row ∷ []
+
+-- the rows without groups, behind others
+unfoldable pub ungrouped : Outline → List Row → List Row → List Row
+ungrouped o before [] = before
+ungrouped o before (row ∷ rows) = ungrouped o (with_row o before row rows) rows
 
 -- the rows without groups, if a column tells which they are
 abbrev pub ungrouped_by : Option Outline → List Row → List Row
 ungrouped_by None rows = rows
-ungrouped_by (Some o) rows = ungrouped o rows
+ungrouped_by (Some o) rows = ungrouped o [] rows
 
 -- the rows behind the header without groups. Without a column of ids a row has its number as its
 -- id, and no row can be left out
@@ -96,17 +102,20 @@ ungrouped_under body heads =
 
 -- a list without groups, and without the columns that tell which they are
 abbrev pub under : Body → List Head → Row → List Row
-under body heads first = map (emptied (outlines_from body 0 heads)) (first ∷ ungrouped_under body heads)
+under body heads first = map (emptied (outlines_from body [] 0 heads)) (first ∷ ungrouped_under body heads)
 
-abbrev pub body : List Override → List Row → List Head → Body
-body overrides rows heads = record { overrides = overrides; rows = rows; place = ids_place overrides heads }
+abbrev pub body_in : List Override → List Row → List Head → Body
+body_in overrides rows heads = record { overrides = overrides; rows = rows; place = ids_place overrides heads }
 
 -- a list whose header can't be read stays
 abbrev pub under_if : List Override → Row → List Row → Result (List Head) Fault → List Row
 under_if overrides first rows (Err fault) = first ∷ rows
-under_if overrides first rows (Ok heads) = under (body overrides rows heads) (settled overrides rows heads) first
+under_if overrides first rows (Ok heads) = under (body_in overrides rows heads) (settled overrides rows heads) first
+
+abbrev pub without_groups_behind : List Override → Row → List Row → List Row
+without_groups_behind overrides first rows = under_if overrides first rows (heads_at first.line [] first.cells)
 
 -- a list without its groups; the first row is the header
 abbrev pub without_groups : List Override → List Row → List Row
 without_groups overrides [] = []
-without_groups overrides (first ∷ rows) = under_if overrides first rows (heads_at first.line [] first.cells)
+without_groups overrides (first ∷ rows) = without_groups_behind overrides first rows

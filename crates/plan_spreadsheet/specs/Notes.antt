@@ -1,5 +1,5 @@
 -- Notes: columns that a plan doesn't use. They contain text, and have no capacity.
-use Rattle.std.specs.Prelude.{ℕ, ◌+◌, ◌==◌, ◌&&◌, Bool, if◌then◌else◌, List, [], ◌∷◌, Result, Ok, Err, length, map, not, is_none}
+use Rattle.std.specs.Prelude.{ℕ, ◌+◌, ◌==◌, ◌&&◌, Bool, if◌then◌else◌, List, [], ◌∷◌, ◌++◌, Result, Ok, Err, length, map, not, is_none}
 use Rattle.std.specs.List.{list_any}
 use Rattle.plan_psplib.specs.Numbers.{number}
 use Rattle.plan_table.specs.declared.header.Column.TheVariants as columns
@@ -22,16 +22,19 @@ abbrev pub is_note : Body → ℕ → Head → Bool
 is_note body k head =
     same_kind columns.Resource head.column && not (has_capacity body k head) && has_text body.rows k
 
--- which of the columns from column k on are notes
-unfoldable pub notes_from : Body → ℕ → List Head → List ℕ
-notes_from body k [] = []
-notes_from body k (head ∷ heads) =
-    if is_note body k head then k ∷ notes_from body (k + 1) heads else notes_from body (k + 1) heads
+-- the notes so far, with column k if it is one
+abbrev pub with_note : Body → List ℕ → ℕ → Head → List ℕ
+with_note body before k head = if is_note body k head then before ++ k ∷ [] else before
+
+-- which of the columns from column k on are notes, behind others
+unfoldable pub notes_from : Body → List ℕ → ℕ → List Head → List ℕ
+notes_from body before k [] = before
+notes_from body before k (head ∷ heads) = notes_from body (with_note body before k head) (k + 1) heads
 
 -- the notes of a list with these columns
 abbrev pub notes_under : List Override → List Row → List Head → List ℕ
 notes_under overrides rows heads =
-    notes_from (record { overrides = overrides; rows = rows; place = ids_place overrides heads }) 0
+    notes_from (record { overrides = overrides; rows = rows; place = ids_place overrides heads }) [] 0
     (settled overrides rows heads)
 
 -- the same; a list whose header can't be read has none

@@ -17,6 +17,7 @@ use Rattle.plan_table.specs.Kinds.{IsKind, IsPlanFile}
 use Rattle.plan_table.specs.Listing.{rows_read, table_read_with}
 use Rattle.plan_table.specs.Overrides.{Override}
 use Rattle.plan_table.specs.Reading.{Fault}
+use Rattle.plan_table.specs.Table.{Table}
 use Rattle.plan_spreadsheet.specs.declared.fault.SpreadsheetFault.{SpreadsheetFault}
 use Rattle.plan_spreadsheet.specs.declared.fault.SpreadsheetFault.TheVariants as faults
 use Rattle.plan_spreadsheet.specs.declared.list.PlainList as declared
@@ -91,6 +92,14 @@ IsPlain overrides bytes p =
     (IsReadable overrides bytes × Stays p)
     ⊎ ((IsReadable overrides bytes → ⊥) × (workbook bytes ≡ None) × IsDecoded overrides bytes p)
 
+-- a list that plan_table accepts stays
+abbrev pub KeepsAccepted : List Override → List ℕ → declared.PlainList → Type 0
+KeepsAccepted overrides bytes p = (t : Table) → table_read_with overrides bytes ≡ Ok t → IsNone p.text
+
+-- a project file and a job shop file stay
+abbrev pub KeepsFiles : List ℕ → declared.PlainList → Type 0
+KeepsFiles bytes p = IsPlanFile bytes → IsNone p.text
+
 -- the error of a workbook
 abbrev pub fault_of : Workbook → SpreadsheetFault
 fault_of books.Excel = faults.Excel
@@ -98,7 +107,11 @@ fault_of books.OldExcel = faults.OldExcel
 fault_of books.OpenDocument = faults.OpenDocument
 fault_of books.Project = faults.Project
 
--- out of memory may come at any time; only a list that is refused can become too long
+-- the errors of writing a list: out of memory may come at any time
+abbrev pub IsWant : SpreadsheetFault → Type 0
+IsWant fault = (fault ≡ faults.Memory) ⊎ (fault ≡ faults.TooLong)
+
+-- only a list that is refused can become too long
 abbrev pub IsNoText : List Override → List ℕ → SpreadsheetFault → Type 0
 IsNoText overrides text fault =
     (fault ≡ faults.Memory) ⊎ ((fault ≡ faults.TooLong) × IsRefused overrides text)

@@ -3,6 +3,7 @@ use Rattle.std.specs.Prelude.{ℕ, List, [], ◌∷◌, map}
 use Rattle.std.specs.Str.Lossy.{utf8_lossy}
 use Rattle.plan_table.specs.Csv.{Row}
 use Rattle.plan_table.specs.Overrides.{Override}
+use Rattle.plan_spreadsheet.specs.Groups.{without_groups}
 use Rattle.plan_spreadsheet.specs.Notes.{headers, notes}
 use Rattle.plan_spreadsheet.specs.Rows.{emptied, filled}
 
@@ -18,8 +19,8 @@ ignored_in overrides (first ∷ rows) = map utf8_lossy (headers first (notes ove
 
 -- the rows of the plain list
 unfoldable pub plain_rows : List Override → List Row → List Row
-plain_rows overrides rows = filled (without_notes overrides (filled rows))
+plain_rows overrides rows = filled (without_notes overrides (without_groups overrides (filled rows)))
 
 -- the headers of the columns that the plain list doesn't have
 unfoldable pub ignored_headers : List Override → List Row → List (List ℕ)
-ignored_headers overrides rows = ignored_in overrides (filled rows)
+ignored_headers overrides rows = ignored_in overrides (without_groups overrides (filled rows))

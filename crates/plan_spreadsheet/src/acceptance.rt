@@ -1,6 +1,6 @@
 //! Files that are read as they are.
 
-ghost use Rattle.std.specs.Prelude.{◌≡◌, map, IfOk};
+ghost use Rattle.std.specs.Prelude.{◌≡◌, map, IfOk, IsFalse, IsTrue};
 ghost use Rattle.plan_table.specs.Kinds.{Decides};
 ghost use Rattle.plan_table.specs.Overrides.{override_of};
 ghost use Rattle.plan_spreadsheet.specs.PlainLists as spec;
@@ -19,13 +19,16 @@ fn is_cycle(fault: &TableFault) -> bool
 }
 
 /// Whether a text is refused as a list, and not for a cycle.
+#[tactic(auto, using(crate::proofs::AcceptanceLemmas::not_refused, crate::proofs::AcceptanceLemmas::refused_yes, crate::proofs::AcceptanceLemmas::refused_no))]
 pub fn is_refused(
     alloc: Global,
     overrides: &[Override<'_>],
     text: &[u8],
 ) -> Result<bool, AllocError>
-    ensures { IfOk result (λ is. Decides is
-        (spec.IsRefused (map override_of overrides.now) text.now)) }
+    ensures yes { IfOk result (λ is. IsTrue is
+        → spec.IsRefused (map override_of overrides.now) text.now) }
+    ensures no { IfOk result (λ is. IsFalse is
+        → spec.IsRefused (map override_of overrides.now) text.now → ⊥) }
 {
     match read_table_with(alloc, overrides, text) {
         Ok(_) => Ok(false),
@@ -35,16 +38,21 @@ pub fn is_refused(
 }
 
 /// Whether a file is read as it is: as a project, as a job shop, or as a list.
+#[tactic(auto, using(crate::proofs::AcceptanceLemmas::file_stays, crate::proofs::AcceptanceLemmas::list_stays, crate::proofs::AcceptanceLemmas::list_changes))]
 pub fn is_readable(
     alloc: Global,
     overrides: &[Override<'_>],
     bytes: &[u8],
 ) -> Result<bool, AllocError>
-    ensures { IfOk result (λ is. Decides is
-        (spec.IsReadable (map override_of overrides.now) bytes.now)) }
+    ensures yes { IfOk result (λ is. IsTrue is
+        → spec.IsReadable (map override_of overrides.now) bytes.now) }
+    ensures no { IfOk result (λ is. IsFalse is
+        → spec.IsReadable (map override_of overrides.now) bytes.now → ⊥) }
 {
-    if is_plan_file(alloc, bytes)? {
+    let is_file = is_plan_file(alloc, bytes)?;
+    if is_file {
         return Ok(true);
     }
-    Ok(!is_refused(alloc, overrides, bytes)?)
+    let refused = is_refused(alloc, overrides, bytes)?;
+    Ok(!refused)
 }

@@ -1,7 +1,8 @@
 //! The text of rows: a CSV table with tabs, which plan_table reads as these rows.
 
-ghost use Rattle.std.specs.Prelude.{map, IfOk, IsTrue};
+ghost use Rattle.std.specs.Prelude.{map, IfErr, IfOk, IsTrue};
 ghost use Rattle.plan_table.specs.Csv.{row_of};
+ghost use Rattle.plan_spreadsheet.specs.PlainLists.{IsWant};
 ghost use Rattle.plan_spreadsheet.specs.Rows.{Spells};
 
 use crate::fault::SpreadsheetFault;
@@ -60,11 +61,15 @@ fn text_of(alloc: Global, rows: &[Row]) -> Result<Vec<u8>, AllocError> {
 }
 
 // Whether a text is read as these rows.
+#[tactic(auto, using(crate::proofs::RowLemmas::spelt))]
 fn spells(alloc: Global, text: &[u8], rows: &[Row]) -> Result<bool, AllocError>
     ensures { IfOk result (λ is. IsTrue is → Spells text.now (map row_of rows.now)) }
 {
     match read_rows_of(alloc, text) {
-        Ok(found) => Ok(same_rows(&filled(alloc, &found)?, rows)),
+        Ok(found) => {
+            let found = filled(alloc, &found)?;
+            Ok(same_rows(&found, rows))
+        }
         Err(ReadError::Memory) => Err(AllocError),
         Err(ReadError::Fault(_)) => Ok(false),
     }
@@ -72,10 +77,12 @@ fn spells(alloc: Global, text: &[u8], rows: &[Row]) -> Result<bool, AllocError>
 
 /// Writes rows as a text. The text is read again before it is returned.
 pub fn write_rows(alloc: Global, rows: &[Row]) -> Result<Vec<u8>, SpreadsheetFault>
-    ensures { IfOk result (λ text. Spells text.items (map row_of rows.now)) }
+    ensures text { IfOk result (λ text. Spells text.items (map row_of rows.now)) }
+    ensures errors { IfErr result IsWant }
 {
     let text = text_of(alloc, rows)?;
-    if !spells(alloc, &text, rows)? {
+    let right = spells(alloc, &text, rows)?;
+    if !right {
         return Err(SpreadsheetFault::TooLong);
     }
     Ok(text)

@@ -1,6 +1,6 @@
 //! Groups: rows with deeper rows below them, which stand for these rows and are no activities.
 
-ghost use Rattle.std.specs.Prelude.{◌≡◌, Ok, map, IfOk};
+ghost use Rattle.std.specs.Prelude.{◌≡◌, [], Ok, map, IfOk, OnOk};
 ghost use Rattle.plan_table.specs.Csv.{row_of};
 ghost use Rattle.plan_table.specs.Header.{head_of};
 ghost use Rattle.plan_table.specs.Overrides.{override_of};
@@ -49,17 +49,31 @@ fn is_outline(body: &Body<'_>, k: usize, head: &Head) -> bool
         && !has_capacity(body, k, head)
 }
 
+// Puts the number of column `k` behind others, if it tells how deep the rows are.
+fn push_outline(
+    body: &Body<'_>,
+    places: &mut Vec<usize>,
+    k: usize,
+    head: &Head,
+) -> Result<(), AllocError>
+    ensures { OnOk result (places.new.items
+        ≡ spec.with_outline (body_of body.now) places.old.items k (head_of head.now)) }
+{
+    if is_outline(body, k, head) {
+        places.push(k)?;
+    }
+    Ok(())
+}
+
 // The numbers of the columns that tell how deep the rows are.
 #[tactic(auto, unfolding(crate::specs::Groups::outlines_from))]
 fn outlines(alloc: Global, body: &Body<'_>, heads: &[Head]) -> Result<Vec<usize>, AllocError>
     ensures { IfOk result (λ v. v.items
-        ≡ spec.outlines_from (body_of body.now) 0 (map head_of heads.now)) }
+        ≡ spec.outlines_from (body_of body.now) [] 0 (map head_of heads.now)) }
 {
     let mut places = Vec::new(alloc);
     for (k, head) in heads.iter().enumerate() {
-        if is_outline(body, k, head) {
-            places.push(k)?;
-        }
+        push_outline(body, &mut places, k, head)?;
     }
     Ok(places)
 }
@@ -113,29 +127,56 @@ fn next_depth(outline: Outline, rows: &[Row]) -> Option<u64>
     }
 }
 
+// Whether a depth is below depth `n`.
+fn is_deeper(n: u64, next: Option<u64>) -> bool
+    ensures { result ≡ spec.deeper_than n next }
+{
+    match next {
+        Some(m) => n < m,
+        None => false,
+    }
+}
+
 // Whether a row is a group.
 fn is_group(outline: Outline, row: &Row, behind: &[Row]) -> bool
     ensures { result ≡ spec.is_group (spec.outline_of outline) (row_of row.now)
         (map row_of behind.now) }
 {
-    match (depth(outline, row), next_depth(outline, behind)) {
-        (Some(n), Some(m)) => n < m,
-        _ => false,
+    match depth(outline, row) {
+        Some(n) => is_deeper(n, next_depth(outline, behind)),
+        None => false,
     }
+}
+
+// Puts a copy of a row behind others, if it is no group.
+fn push_row(
+    alloc: Global,
+    outline: Outline,
+    kept: &mut Vec<Row>,
+    row: &Row,
+    behind: &[Row],
+) -> Result<(), AllocError>
+    ensures { OnOk result (map row_of kept.new.items
+        ≡ spec.with_row (spec.outline_of outline) (map row_of kept.old.items) (row_of row.now)
+            (map row_of behind.now)) }
+{
+    if is_group(outline, row, behind) {
+        return Ok(());
+    }
+    let copy = copy_row(alloc, row)?;
+    kept.push(copy)?;
+    Ok(())
 }
 
 // The rows without groups.
 #[tactic(auto, unfolding(crate::specs::Groups::ungrouped))]
 fn ungrouped(alloc: Global, outline: Outline, rows: &[Row]) -> Result<Vec<Row>, AllocError>
     ensures { IfOk result (λ v. map row_of v.items
-        ≡ spec.ungrouped (spec.outline_of outline) (map row_of rows.now)) }
+        ≡ spec.ungrouped (spec.outline_of outline) [] (map row_of rows.now)) }
 {
     let mut kept = Vec::new(alloc);
     for (k, row) in rows.iter().enumerate() {
-        if !is_group(outline, row, &rows[k + 1..]) {
-            let copy = copy_row(alloc, row)?;
-            kept.push(copy)?;
-        }
+        push_row(alloc, outline, &mut kept, row, &rows[k + 1..])?;
     }
     Ok(kept)
 }
@@ -145,9 +186,12 @@ fn ungrouped_under(alloc: Global, body: &Body<'_>, heads: &[Head]) -> Result<Vec
     ensures { IfOk result (λ v. map row_of v.items
         ≡ spec.ungrouped_under (body_of body.now) (map head_of heads.now)) }
 {
+    if body.place.is_none() {
+        return copy_rows(alloc, body.rows);
+    }
     match first_outline(body, heads) {
-        Some(outline) if body.place.is_some() => ungrouped(alloc, outline, body.rows),
-        _ => copy_rows(alloc, body.rows),
+        Some(outline) => ungrouped(alloc, outline, body.rows),
+        None => copy_rows(alloc, body.rows),
     }
 }
 
@@ -188,6 +232,30 @@ fn under(
     without_groups_under(alloc, &body, &settled, first)
 }
 
+// A list without groups: its header, and the rows behind it.
+fn without_groups_behind(
+    alloc: Global,
+    overrides: &[Override<'_>],
+    first: &Row,
+    rows: &[Row],
+) -> Result<Vec<Row>, AllocError>
+    ensures { IfOk result (λ v. map row_of v.items
+        ≡ spec.without_groups_behind (map override_of overrides.now) (row_of first.now)
+            (map row_of rows.now)) }
+{
+    match read_heads(alloc, first.line, &first.cells) {
+        Ok(heads) => {
+            let list = under(alloc, overrides, &heads, first, rows)?;
+            Ok(list)
+        }
+        Err(ReadError::Memory) => Err(AllocError),
+        Err(ReadError::Fault(_)) => {
+            let copies = copy_rows(alloc, rows)?;
+            with_first(alloc, first, copies)
+        }
+    }
+}
+
 /// Returns a list without its groups and the columns that tell which they are. The first row is the
 /// header.
 pub fn without_groups(
@@ -198,12 +266,8 @@ pub fn without_groups(
     ensures { IfOk result (λ v. map row_of v.items
         ≡ spec.without_groups (map override_of overrides.now) (map row_of rows.now)) }
 {
-    let [first, rest @ ..] = rows else {
-        return Ok(Vec::new(alloc));
-    };
-    match read_heads(alloc, first.line, &first.cells) {
-        Ok(heads) => under(alloc, overrides, &heads, first, rest),
-        Err(ReadError::Memory) => Err(AllocError),
-        Err(ReadError::Fault(_)) => copy_rows(alloc, rows),
+    match rows {
+        [first, rest @ ..] => without_groups_behind(alloc, overrides, first, rest),
+        [] => Ok(Vec::new(alloc)),
     }
 }

@@ -5,6 +5,7 @@
 mod acceptance;
 mod fault;
 mod grid;
+mod groups;
 mod list;
 mod notes;
 mod rewriting;

@@ -26,7 +26,7 @@ pub struct PlainList {
 
 impl PlainList {
     /// Returns the text that is read: the plain list, or `bytes`, which are those of the file.
-    pub fn text<'a>(&'a self, bytes: &'a [u8]) -> &'a [u8]
+    pub fn utf8<'a>(&'a self, bytes: &'a [u8]) -> &'a [u8]
         ensures { result.now ≡ spec.text_of self.now bytes.now }
     {
         match &self.text {
@@ -67,10 +67,13 @@ fn text_of_kind(
     text: &[u8],
 ) -> Result<Rewriting, SpreadsheetFault>
     ensures text { IfOk result (spec.IsTextOf kind (map override_of overrides.now) text.now) }
-    ensures fault { IfErr result (spec.IsNoText (map override_of overrides.now) text.now) }
+    ensures refused { IfErr result (spec.IsNoText (map override_of overrides.now) text.now) }
 {
     match kind {
-        ListKind::Activities => plain_text(alloc, overrides, text),
+        ListKind::Activities => {
+            let rewriting = plain_text(alloc, overrides, text)?;
+            Ok(rewriting)
+        }
         ListKind::Orders => Ok(unchanged(alloc)),
     }
 }
@@ -79,56 +82,73 @@ fn text_of_kind(
 fn joined(decoded: Decoded, rewriting: Rewriting) -> PlainList
     ensures { result ≡ spec.joined decoded rewriting }
 {
-    let text = match rewriting.text {
-        Some(text) => Some(text),
-        None => decoded.text,
-    };
-    PlainList {
-        text,
-        encoding: decoded.encoding,
-        ignored: rewriting.ignored,
+    match rewriting.text {
+        Some(text) => PlainList {
+            text: Some(text),
+            encoding: decoded.encoding,
+            ignored: rewriting.ignored,
+        },
+        None => PlainList {
+            text: decoded.text,
+            encoding: decoded.encoding,
+            ignored: rewriting.ignored,
+        },
     }
 }
 
 // What becomes of a file that is no workbook, and can't be read as it is.
+#[tactic(auto, using(crate::proofs::ListLemmas::stays_if, crate::proofs::ListLemmas::becomes_if, crate::proofs::ListLemmas::no_text_of))]
 fn decoded_list(
     alloc: Global,
     overrides: &[Override<'_>],
     bytes: &[u8],
 ) -> Result<PlainList, SpreadsheetFault>
     ensures list { IfOk result (spec.IsDecoded (map override_of overrides.now) bytes.now) }
-    ensures fault { IfErr result
+    ensures refused { IfErr result
         (spec.IsNoText (map override_of overrides.now) (utf8_of bytes.now)) }
 {
     let decoded = utf8_text(alloc, bytes)?;
     let text = decoded.utf8(bytes);
-    let Some(kind) = list_kind(alloc, text)? else {
-        return Ok(staying(alloc));
-    };
-    let rewriting = text_of_kind(alloc, kind, overrides, text)?;
-    Ok(joined(decoded, rewriting))
+    match list_kind(alloc, text)? {
+        Some(kind) => {
+            let rewriting = text_of_kind(alloc, kind, overrides, text)?;
+            Ok(joined(decoded, rewriting))
+        }
+        None => Ok(staying(alloc)),
+    }
 }
 
 /// Returns the plain list that a file becomes, with given capacities.
 ///
 /// A project file, a job shop file, and a list that plan_table reads stay as they are. A workbook is
 /// refused (T18). Another file is decoded. If it is no list then, its bytes stay. A list of
-/// activities that plan_table still refuses is rewritten without its notes; T1 if the plain list has
-/// more than 1,048,576 bytes. Errors of the list itself are left to plan_table: each row keeps its
-/// line.
+/// activities that plan_table still refuses is rewritten without its groups and notes; T1 if the
+/// plain list has more than 1,048,576 bytes. Errors of the list itself are left to plan_table: each
+/// row keeps its line.
+#[tactic(auto, using(crate::proofs::ListLemmas::plain_stays, crate::proofs::ListLemmas::plain_decoded, crate::proofs::ListLemmas::keeps_accepted, crate::proofs::ListLemmas::keeps_files, crate::proofs::ListLemmas::no_plain_book, crate::proofs::ListLemmas::no_plain_text))]
 pub fn plain_list(
     alloc: Global,
     overrides: &[Override<'_>],
     bytes: &[u8],
 ) -> Result<PlainList, SpreadsheetFault>
+    // What the text becomes, and that a file that can be read stays.
     ensures plain { IfOk result (spec.IsPlain (map override_of overrides.now) bytes.now) }
+    // A list that plan_table accepts means the same.
+    ensures accepted { IfOk result
+        (spec.KeepsAccepted (map override_of overrides.now) bytes.now) }
+    ensures files { IfOk result (spec.KeepsFiles bytes.now) }
+    // Only a workbook is refused, and a list that becomes too long.
     ensures refused { IfErr result (spec.IsNoPlain (map override_of overrides.now) bytes.now) }
 {
-    if is_readable(alloc, overrides, bytes)? {
+    let readable = is_readable(alloc, overrides, bytes)?;
+    if readable {
         return Ok(staying(alloc));
     }
     match workbook_of(bytes) {
         Some(book) => Err(workbook_fault(book)),
-        None => decoded_list(alloc, overrides, bytes),
+        None => {
+            let list = decoded_list(alloc, overrides, bytes)?;
+            Ok(list)
+        }
     }
 }

@@ -1,6 +1,6 @@
 //! Notes: columns that a plan doesn't use.
 
-ghost use Rattle.std.specs.Prelude.{◌≡◌, map, IfOk};
+ghost use Rattle.std.specs.Prelude.{◌≡◌, [], map, IfOk, OnOk};
 ghost use Rattle.plan_table.specs.Csv.{row_of};
 ghost use Rattle.plan_table.specs.Header.{head_of};
 ghost use Rattle.plan_table.specs.Overrides.{override_of};
@@ -44,17 +44,31 @@ fn is_note(body: &Body<'_>, k: usize, head: &Head) -> bool
         && has_text(body.rows, k)
 }
 
+// Puts the number of column `k` behind others, if it is a note.
+fn push_note(
+    body: &Body<'_>,
+    places: &mut Vec<usize>,
+    k: usize,
+    head: &Head,
+) -> Result<(), AllocError>
+    ensures { OnOk result (places.new.items
+        ≡ spec.with_note (body_of body.now) places.old.items k (head_of head.now)) }
+{
+    if is_note(body, k, head) {
+        places.push(k)?;
+    }
+    Ok(())
+}
+
 // The numbers of the columns that are notes.
 #[tactic(auto, unfolding(crate::specs::Notes::notes_from))]
 fn note_places(alloc: Global, body: &Body<'_>, heads: &[Head]) -> Result<Vec<usize>, AllocError>
     ensures { IfOk result (λ v. v.items
-        ≡ spec.notes_from (body_of body.now) 0 (map head_of heads.now)) }
+        ≡ spec.notes_from (body_of body.now) [] 0 (map head_of heads.now)) }
 {
     let mut places = Vec::new(alloc);
     for (k, head) in heads.iter().enumerate() {
-        if is_note(body, k, head) {
-            places.push(k)?;
-        }
+        push_note(body, &mut places, k, head)?;
     }
     Ok(places)
 }
@@ -90,7 +104,10 @@ pub fn notes(
         (row_of first.now) (map row_of rows.now)) }
 {
     match read_heads(alloc, first.line, &first.cells) {
-        Ok(heads) => notes_under(alloc, overrides, rows, &heads),
+        Ok(heads) => {
+            let places = notes_under(alloc, overrides, rows, &heads)?;
+            Ok(places)
+        }
         Err(ReadError::Memory) => Err(AllocError),
         Err(ReadError::Fault(_)) => Ok(Vec::new(alloc)),
     }

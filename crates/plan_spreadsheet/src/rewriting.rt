@@ -12,6 +12,7 @@ ghost use Rattle.plan_spreadsheet.specs.Rows.{Spells, filled as filled_rows};
 use crate::acceptance::is_refused;
 use crate::fault::SpreadsheetFault;
 use crate::grid::write_rows;
+use crate::groups::without_groups;
 use crate::notes::{headers, notes};
 use crate::rows::{all_emptied, filled, same_rows};
 use plan_table::{Override, ReadError, Row, read_rows_of};
@@ -70,6 +71,7 @@ fn without_notes(
 }
 
 // Writes plain rows, unless the list has these rows already.
+#[tactic(auto, using(crate::proofs::RowLemmas::rows_same))]
 fn write_plain(
     alloc: Global,
     before: &[Row],
@@ -79,11 +81,13 @@ fn write_plain(
         Spells text.items (map row_of rows.now))) }
     ensures none { IfOk result (λ text. IsNone text → (map row_of before.now
         ≡ map row_of rows.now)) }
+    ensures errors { IfErr result lists.IsWant }
 {
     if same_rows(before, rows) {
         return Ok(None);
     }
-    Ok(Some(write_rows(alloc, rows)?))
+    let text = write_rows(alloc, rows)?;
+    Ok(Some(text))
 }
 
 // Rewrites a list with these rows.
@@ -99,10 +103,13 @@ fn rewrite_rows(
         ≡ spec.plain_rows (map override_of overrides.now) (map row_of rows.now))) }
     ensures ignored { IfOk result (λ r. map string_bytes r.ignored.items
         ≡ spec.ignored_headers (map override_of overrides.now) (map row_of rows.now)) }
+    ensures errors { IfErr result lists.IsWant }
 {
     let before = filled(alloc, rows)?;
-    let plain = without_notes(alloc, overrides, &before)?;
-    let text = write_plain(alloc, &before, &filled(alloc, &plain.rows)?)?;
+    let ungrouped = without_groups(alloc, overrides, &before)?;
+    let plain = without_notes(alloc, overrides, &ungrouped)?;
+    let plain_rows = filled(alloc, &plain.rows)?;
+    let text = write_plain(alloc, &before, &plain_rows)?;
     Ok(Rewriting {
         text,
         ignored: plain.ignored,
@@ -110,32 +117,40 @@ fn rewrite_rows(
 }
 
 // Rewrites a list of activities that is refused.
+#[tactic(auto, using(crate::proofs::ListLemmas::rewritten, crate::proofs::ListLemmas::unread))]
 fn rewrite(
     alloc: Global,
     overrides: &[Override<'_>],
     text: &[u8],
 ) -> Result<Rewriting, SpreadsheetFault>
-    ensures { IfOk result (lists.IsRewritten (map override_of overrides.now) text.now
+    ensures text { IfOk result (lists.IsRewritten (map override_of overrides.now) text.now
         (rows_read text.now)) }
+    ensures errors { IfErr result lists.IsWant }
 {
     match read_rows_of(alloc, text) {
-        Ok(rows) => rewrite_rows(alloc, overrides, &rows),
+        Ok(rows) => {
+            let rewriting = rewrite_rows(alloc, overrides, &rows)?;
+            Ok(rewriting)
+        }
         Err(ReadError::Memory) => Err(SpreadsheetFault::Memory),
         Err(ReadError::Fault(_)) => Ok(unchanged(alloc)),
     }
 }
 
 /// Returns what becomes of a list of activities: if it is refused, its plain rows.
+#[tactic(auto, using(crate::proofs::ListLemmas::no_text))]
 pub fn plain_text(
     alloc: Global,
     overrides: &[Override<'_>],
     text: &[u8],
 ) -> Result<Rewriting, SpreadsheetFault>
     ensures text { IfOk result (lists.IsPlainText (map override_of overrides.now) text.now) }
-    ensures fault { IfErr result (lists.IsNoText (map override_of overrides.now) text.now) }
+    ensures refused { IfErr result (lists.IsNoText (map override_of overrides.now) text.now) }
 {
-    if !is_refused(alloc, overrides, text)? {
+    let refused = is_refused(alloc, overrides, text)?;
+    if !refused {
         return Ok(unchanged(alloc));
     }
-    rewrite(alloc, overrides, text)
+    let rewriting = rewrite(alloc, overrides, text)?;
+    Ok(rewriting)
 }

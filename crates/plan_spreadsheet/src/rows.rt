@@ -1,6 +1,6 @@
 //! Rows of a list.
 
-ghost use Rattle.std.specs.Prelude.{◌≡◌, ◌∷◌, map, IfOk, IsTrue, OnOk};
+ghost use Rattle.std.specs.Prelude.{◌≡◌, [], ◌∷◌, map, IfOk, OnOk};
 ghost use Rattle.plan_table.specs.Csv.{row_of};
 ghost use Rattle.plan_spreadsheet.specs.Rows as spec;
 
@@ -37,7 +37,7 @@ fn emptied_cells(
     cells: &[Vec<u8>],
 ) -> Result<Vec<Vec<u8>>, AllocError>
     ensures { IfOk result (λ v. map (λ cell. cell.items) v.items
-        ≡ spec.emptied_from places.now 0 (map (λ cell. cell.items) cells.now)) }
+        ≡ spec.emptied_from places.now [] 0 (map (λ cell. cell.items) cells.now)) }
 {
     let mut copies = Vec::new(alloc);
     for (k, cell) in cells.iter().enumerate() {
@@ -140,31 +140,55 @@ pub fn filled(alloc: Global, rows: &[Row]) -> Result<Vec<Row>, AllocError>
 }
 
 // Whether cells are the same.
+#[tactic(auto, unfolding(crate::specs::Rows::same_cells))]
 fn same_cells(a: &[Vec<u8>], b: &[Vec<u8>]) -> bool
-    ensures { IsTrue result → (map (λ cell. cell.items) a.now ≡ map (λ cell. cell.items) b.now) }
+    ensures { result ≡ spec.same_cells (map (λ cell. cell.items) a.now)
+        (map (λ cell. cell.items) b.now) }
 {
-    if a.len() != b.len() {
-        return false;
-    }
-    for (k, cell) in a.iter().enumerate() {
-        if cell.as_slice() != b[k].as_slice() {
-            return false;
+    let mut rest = b;
+    for cell in a {
+        match rest {
+            [other, others @ ..] => {
+                if cell.as_slice() != other.as_slice() {
+                    return false;
+                }
+                rest = others;
+            }
+            [] => return false,
         }
     }
-    true
+    match rest {
+        [] => true,
+        [_, ..] => false,
+    }
 }
 
-/// Whether rows are the same, as far as it can be seen: if so, they are.
-pub fn same_rows(a: &[Row], b: &[Row]) -> bool
-    ensures { IsTrue result → (map row_of a.now ≡ map row_of b.now) }
+// Whether two rows are the same.
+fn same_row(a: &Row, b: &Row) -> bool
+    ensures { result ≡ spec.same_row (row_of a.now) (row_of b.now) }
 {
-    if a.len() != b.len() {
-        return false;
-    }
-    for (k, row) in a.iter().enumerate() {
-        if row.line != b[k].line || !same_cells(&row.cells, &b[k].cells) {
-            return false;
+    a.line == b.line && same_cells(&a.cells, &b.cells)
+}
+
+/// Whether rows are the same.
+#[tactic(auto, unfolding(crate::specs::Rows::same_rows))]
+pub fn same_rows(a: &[Row], b: &[Row]) -> bool
+    ensures { result ≡ spec.same_rows (map row_of a.now) (map row_of b.now) }
+{
+    let mut rest = b;
+    for row in a {
+        match rest {
+            [other, others @ ..] => {
+                if !same_row(row, other) {
+                    return false;
+                }
+                rest = others;
+            }
+            [] => return false,
         }
     }
-    true
+    match rest {
+        [] => true,
+        [_, ..] => false,
+    }
 }
