@@ -159,7 +159,7 @@ pub(crate) fn file_import_text(
         (spec.TellsUnimported (map override_of given.now) file.now)) }
 {
     let plain = plain_of(alloc, given, file)?;
-    list_import_text(alloc, given, plain.text(file))
+    list_import_text(alloc, given, plain.utf8(file))
 }
 
 /// Returns the job shop file of the list of orders in a file, which is read as its plain list.
@@ -168,5 +168,5 @@ pub(crate) fn file_shop_text(alloc: Global, file: &[u8]) -> Result<String, CliFa
     ensures refused { IfErr result (Refuses (spec.TellsNoShop file.now)) }
 {
     let plain = plain_of(alloc, &[], file)?;
-    shop_import_text(alloc, plain.text(file))
+    shop_import_text(alloc, plain.utf8(file))
 }

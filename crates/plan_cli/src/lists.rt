@@ -166,7 +166,7 @@ pub fn readable<'a>(
     ensures refused { IfErr result (Refuses (spec.RefusesReading subject.entry file.now)) }
 {
     let plain = plain_of(alloc, &[], file)?;
-    let list = plain.text(file);
+    let list = plain.utf8(file);
     let kind = list_kind(alloc, list)?;
     read_by(alloc, kind, subject, list)
 }
