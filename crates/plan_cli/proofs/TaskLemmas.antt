@@ -315,9 +315,12 @@ of_list_short given file Holds (list, is, holds) short = by_length (cases_lt lon
         let same : list ≡ file = stays_list given file list long is in
         subst (λ (l : List ℕ). length l ≤ longest_text) same (short list holds)
 
+import_in_short : (given : List Override) (list text : List ℕ) → IsImportIn given list text → length list ≤ longest_text
+import_in_short given list text (kind, is, made) = import_by_short given kind list text made
+
 import_short : (given : List Override) (file text : List ℕ) → IsImport given file text → length file ≤ longest_text
 import_short given file text is =
-    of_list_short given file (λ list. IsImportIn given list text) is (λ list (kind, is_kind, made). import_by_short given kind list text made)
+    of_list_short given file (λ list. IsImportIn given list text) is (λ list made. import_in_short given list text made)
 
 -- a file for which a task writes a text isn't too long
 file_short : (task : Task) (file text : List ℕ) → IsTextOf task file text → length file ≤ longest_text
