@@ -102,6 +102,9 @@ FILES = {
     "bad.csv": "id,name,duration\nA,Dig,4 weeks\n",
     "bad.orders.csv": "order,machine,time\nA,saw,x\n",
     "empty.csv": "id,name,duration\nA,Dig,\n",
+    # 60 bytes, and 59 bytes before a character of two
+    "sixty.csv": f"id,name,duration\nA,Dig,{'x' * 58}ä\n",
+    "long.csv": f"id,name,duration\nA,Dig,{'x' * 59}ä{'x' * 300_000}\n",
     "needy.sm": NEEDY,
     "named.sm": NEEDY + "PROJECT INFORMATION:\nname 2 Dig \x07 deep\nresource 1 crew\n",
     "shops.txt": "2 2\n0 4 1 1\n0 1 1 3\n",
@@ -235,6 +238,17 @@ SUBJECTS = [
         "bad.orders.csv: \"x\" isn't a whole number of at most 10000",
     ),
     ("import empty.csv", "T5", "empty.csv: a duration isn't a number"),
+    (
+        "import sixty.csv",
+        "T5",
+        f"sixty.csv: \"{'x' * 58}ä\" isn't a whole number of at most 10000",
+    ),
+    (
+        "import long.csv",
+        "T5",
+        f"long.csv: \"{'x' * 59}..\" isn't a whole number of at most 10000",
+    ),
+    ("import --capacity saw=1 orders.csv", "T14", "--capacity: no such resource in the list"),
     ("cpm list.csv", "F3", "list.csv: this is a list of activities; plan import converts it"),
     (
         "shop spt orders.csv -",
