@@ -52,6 +52,8 @@ pub mod Views
 pub mod TaskViews
 pub mod ExplainedText
 pub mod Quotes
+pub mod Spreadsheets
+pub mod Notes
 pub mod TableFaultText
 pub mod Refusals
 pub mod Contents

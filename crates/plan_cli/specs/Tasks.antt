@@ -19,7 +19,7 @@ use Rattle.plan_cli.specs.CheckRun.{TellsVerdictOn, TellsBadStarts}
 use Rattle.plan_cli.specs.BestRun.{IsBestOf, TellsNoBestOf}
 use Rattle.plan_cli.specs.ProveRun.{IsProofTableOf, TellsWhyNoProof}
 use Rattle.plan_cli.specs.SolveRun.{IsSolvedBy, TellsNoSolution}
-use Rattle.plan_cli.specs.ImportRun.{IsImport, TellsUnimported, IsShopImportOf, TellsNoShopImport}
+use Rattle.plan_cli.specs.ImportRun.{IsImport, TellsUnimported, IsShopImport, TellsNoShop}
 use Rattle.plan_cli.specs.Lists.{ReadsAs, RefusesAs}
 use Rattle.plan_cli.specs.TaskViews.{IsViewOf}
 use Rattle.plan_cli.specs.Views.{View, named_text, text_in}
@@ -52,7 +52,7 @@ IsTextOf (task.Best budget subject) = IsOfSubject subject (IsBestOf budget.now)
 IsTextOf (task.Prove nodes instance) = IsProofTableOf nodes.now instance.now
 IsTextOf (task.Solve conflicts subject) = IsOfSubject subject IsSolvedBy
 IsTextOf (task.Import given) = IsImport (map override_of given.now)
-IsTextOf task.ImportShop = IsShopImportOf
+IsTextOf task.ImportShop = IsShopImport
 
 -- the lines with which a task refuses a file
 abbrev pub IsLineOf : Task → List ℕ → List ℕ → Type 0
@@ -69,7 +69,7 @@ IsLineOf (task.Best budget subject) = RefusesSubject subject (TellsNoBestOf budg
 IsLineOf (task.Prove nodes instance) = TellsWhyNoProof nodes.now instance.now
 IsLineOf (task.Solve conflicts subject) = RefusesSubject subject TellsNoSolution
 IsLineOf (task.Import given) = TellsUnimported (map override_of given.now)
-IsLineOf task.ImportShop = TellsNoShopImport
+IsLineOf task.ImportShop = TellsNoShop
 
 -- The names of the rows that a task writes for a file. The rows are those of activities in a
 -- project, of orders in a job shop, and of machines in its chart. Other rows have no names.

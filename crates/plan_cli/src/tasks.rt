@@ -14,7 +14,7 @@ use crate::capacities::Capacity;
 use crate::commands::{Command, subject_view};
 use crate::comparisons::Pair;
 use crate::documents::{Subject, names_of_lines, names_of_rows};
-use crate::imports::{file_import_text, shop_import_text};
+use crate::imports::{file_import_text, file_shop_text};
 use crate::lists::readable;
 use crate::names::names_in;
 use crate::origins::Origin;
@@ -116,12 +116,12 @@ pub enum Task<'a> {
         subject: Subject<'a>,
     },
     /// The project file of a planner's list, a CSV table of activities with names, with capacities
-    /// that are given; or the job shop file of a list of orders. Errors: `T1` to `T16`, `T19`.
+    /// that are given; or the job shop file of a list of orders. Errors: `T1` to `T19`.
     Import {
         given: &'a [Override<'a>],
     },
     /// The job shop file of a list of orders, a CSV table of steps. Errors: `T1` to `T3`, `T5`,
-    /// `T6`, `T12`, `T13`, `T15`.
+    /// `T6`, `T12`, `T13`, `T15`, `T18`.
     ImportShop,
 }
 
@@ -156,7 +156,7 @@ fn view_of<V: ProofWatcher + SolveWatcher, L: Log>(
             let text = file_import_text(alloc, given, file)?;
             Ok(View::Text(text.into_bytes()))
         }
-        Task::ImportShop => Ok(View::Text(shop_import_text(alloc, file)?.into_bytes())),
+        Task::ImportShop => Ok(View::Text(file_shop_text(alloc, file)?.into_bytes())),
         Task::Schedule { rule, subject } => {
             let command = Command::Schedule(rule);
             subject_view(alloc, command, subject, file, watcher, log)
