@@ -2,6 +2,7 @@ pub mod Capacities
 pub mod Run
 pub mod Plans
 pub mod Documents
+pub mod Links
 pub mod PlanRefs
 pub mod Lists
 pub mod ScheduleRun

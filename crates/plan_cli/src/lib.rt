@@ -16,6 +16,7 @@ mod files;
 mod imports;
 mod infeasible;
 mod inputs;
+mod links;
 mod lists;
 mod named_texts;
 mod names;
