@@ -12,9 +12,8 @@ use Rattle.plan_cli.specs.declared.documents.Subject.TheVariants as subject
 -- those of the project in a file, with given capacities, by the names of the resources and the ids
 -- of the activities
 abbrev pub AreFileLinks : List Name → List Capacity → List ℕ → List Links → Type 0
-AreFileLinks ids given file links =
-    IsOfProject given (λ (i : Planned) (made : List Links). made ≡ project_links i (resources_in file) ids)
-    file links
+AreFileLinks ids given file links = IsOfProject given
+    (λ (i : Planned) (made : List Links). made ≡ project_links i (resources_in file) ids) file links
 
 -- the same, if the activities have ids
 abbrev pub AreProjectLinks : List Name → List Capacity → List ℕ → List Links → Type 0

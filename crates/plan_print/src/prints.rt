@@ -195,8 +195,8 @@ fn print_by<I: Inputs, W: Sink, V: ProofWatcher + SolveWatcher + NoteWatcher>(
 
 /// Prints a sheet. The file of the holidays is read first, then that of the starts, then that of
 /// the project or the job shop. A list is read as the file that `plan import` makes of it. The
-/// watcher is called during a search, and can stop it; it is told the notes on a list. A file that can't be opened or read is
-/// [`CliFault::Input`] of its argument.
+/// watcher is called during a search, and can stop it; it is told the notes on a list. A file that
+/// can't be opened or read is [`CliFault::Input`] of its argument.
 ///
 /// Nothing is written unless the whole sheet was made. If several errors apply, that of the file
 /// comes first, then those of the capacities, of the schedule, of the calendar, and of a day after
