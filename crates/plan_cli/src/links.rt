@@ -1,10 +1,9 @@
 //! The resources and the predecessors of the activities in a project file.
 
-ghost use Rattle.std.specs.Prelude.{◌≡◌, map, IfOk};
+ghost use Rattle.std.specs.Prelude.{map, IfOk};
 ghost use Rattle.plan_table.specs.Names.{name_of};
-ghost use Rattle.plan_views.specs.LinkColumns.{links_of, project_links};
+ghost use Rattle.plan_views.specs.LinkColumns.{links_of};
 ghost use Rattle.plan_cli.specs.Links as spec;
-ghost use Rattle.plan_cli.specs.Plans.{IsOfProject, resources_in};
 
 use crate::capacities::{Capacity, replaced};
 use crate::documents::Subject;
@@ -16,6 +15,7 @@ use std::alloc::{AllocError, Global};
 
 // Returns the resources and the predecessors of the activities in a project file, with the given
 // capacities in place of those of the file.
+#[tactic(auto, using(crate::proofs::LinkLemmas::links_are))]
 fn file_links(
     alloc: Global,
     given: &[Capacity<'_>],
