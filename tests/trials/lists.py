@@ -26,7 +26,7 @@ from answers import plan, same, written
 from drawing import Draw
 from drawing.words import PROJECT_RULES, SHOP_RULES
 from holidays import MARKS, STARTS
-from tables import BLANKS, COLUMNS, KINDS, damaged, drawn_table, lower, records
+from tables import damaged, drawn_table, is_utf8, kind_in, windows_1252
 
 # The commands that need the file of a project or of a job shop.
 PLAIN = (["cpm"], ["schedule", "lft"], ["best-project", "100"])
@@ -47,7 +47,7 @@ LINES = {
 
 # Lists with notes, each with its line of notes.
 NOTED = {
-    "duration,Owner\n2,Ann\n1,\n": b"ignored columns: Owner\n",
+    "duration,Boss\n2,Ann\n1,\n": b"ignored columns: Boss\n",
     "id;Dauer;Zust\u00e4ndig\nA;2;Bj\u00f6rn\n": "ignored columns: Zust\u00e4ndig\n".encode(),
     "duration\tSite, old\tcrew\n1\tnorth\t\n2\t\ttwo\n": b"ignored columns: Site, old, crew\n",
 }
@@ -87,45 +87,10 @@ def drawn_list(draw, is_shop):
 # ---- the kind of a list, by its header
 
 
-def delimiter_of(text):
-    """The delimiter of a text: the first of tab, semicolon and comma in its first line with content."""
-    for line in text.split("\n"):
-        if line.strip(BLANKS):
-            return next((mark for mark in "\t;" if mark in line), ",")
-    return ","
-
-
-def windows_1252(data):
-    """The text of bytes in Windows-1252; the bytes that it lacks are controls (WHATWG)."""
-    return "".join(bytes([byte]).decode("cp1252", "ignore") or chr(byte) for byte in data)
-
-
-def is_utf8(data):
-    try:
-        return bool(data.decode()) or True
-    except UnicodeDecodeError:
-        return False
-
-
 def kind_of(data):
     """The kind of list that a file is by its header, in UTF-8, or else perhaps in Windows-1252."""
     found = "none" if is_utf8(data) else kind_in(windows_1252(data).encode())
     return kind_in(data) if found == "none" else found
-
-
-def kind_in(data):
-    """The kind of list that a text is by its header: `activities`, `orders` or none. Of a header in
-    which a quote isn't closed it is unknown."""
-    text = data.removeprefix(b"\xef\xbb\xbf").decode("latin-1")
-    for _, cells in records(text, delimiter_of(text)):
-        if cells is None:
-            return "unknown"
-        keys = [lower(cell.strip(BLANKS).encode("latin-1").decode("utf-8", "replace")) for cell in cells]
-        if any(keys):
-            if "duration" in [COLUMNS.get(key, KINDS.get(key)) for key in keys]:
-                return "activities"
-            return "orders" if {"order", "machine"} <= set(keys) else "none"
-    return "none"
 
 
 # ---- commands
@@ -261,6 +226,8 @@ def try_list(draw, folder):
 def try_encodings(draw, folder):
     """That a list has the same answer in UTF-8, in UTF-16 and in Windows-1252."""
     text = drawn_table(draw.random)[0].removeprefix("\ufeff")
+    if kind_in(text.encode()) != "activities":
+        return
     written(folder, "list.csv", text.encode())
     wanted = plan(folder, "import", "list.csv")
     for encoding in ("utf-16", "utf-16-be", "cp1252"):
