@@ -7,7 +7,7 @@ use Rattle.plan_table.specs.Csv.{Row}
 use Rattle.plan_table.specs.Header.{Head, heads_at, same_kind}
 use Rattle.plan_table.specs.Overrides.{Override}
 use Rattle.plan_table.specs.Reading.{Fault}
-use Rattle.plan_table.specs.Settlement.{Body, cell_of, has_capacity, ids_place, settled}
+use Rattle.plan_table.specs.Settlement.{Body, cell_of, gives_successors, has_capacity, ids_place, settled}
 
 -- a cell contains text: it is neither empty nor a number
 abbrev pub is_text : List ℕ → Bool
@@ -17,10 +17,12 @@ is_text cell = not (length cell == 0) && is_none (number cell)
 abbrev pub has_text : List Row → ℕ → Bool
 has_text rows k = list_any (λ row. is_text (cell_of k row)) rows
 
--- column k is a note: its header alone would make it a resource, but it has text and no capacity
+-- column k is a note: its header alone would make it a resource, but it has text and no capacity, and
+-- isn't a column of successors
 abbrev pub is_note : Body → ℕ → Head → Bool
 is_note body k head =
-    same_kind columns.Resource head.column && not (has_capacity body k head) && has_text body.rows k
+    same_kind columns.Resource head.column && not (has_capacity body k head)
+    && not (gives_successors body k head) && has_text body.rows k
 
 -- the notes so far, with column k if it is one
 abbrev pub with_note : Body → List ℕ → ℕ → Head → List ℕ

@@ -11,8 +11,8 @@ ghost use Rattle.plan_spreadsheet.specs.Notes as spec;
 
 use plan_psplib::number;
 use plan_table::{
-    Body, Column, Head, Override, ReadError, Row, cell_of, has_capacity, ids_place, read_heads,
-    same_kind, settle,
+    Body, Column, Head, Override, ReadError, Row, cell_of, gives_successors, has_capacity,
+    ids_place, read_heads, same_kind, settle,
 };
 use std::alloc::{AllocError, Global};
 
@@ -41,6 +41,7 @@ fn is_note(body: &Body<'_>, k: usize, head: &Head) -> bool
 {
     same_kind(Column::Resource, head.column)
         && !has_capacity(body, k, head)
+        && !gives_successors(body, k, head)
         && has_text(body.rows, k)
 }
 
@@ -93,7 +94,7 @@ fn notes_under(
 }
 
 /// Returns the numbers of the columns that are notes: they would be resources by their headers
-/// alone, but contain text and have no capacity.
+/// alone, but contain text and have no capacity. Columns of successors aren't notes.
 pub fn notes(
     alloc: Global,
     overrides: &[Override<'_>],

@@ -47,7 +47,7 @@ pub use predecessors::{Label, number_by};
 pub use reading::{read_table, read_table_with};
 pub use records::Row;
 pub use settlement::{
-    Body, cell_of, gives_capacity, has_capacity, ids_place, is_capacities, settle,
+    Body, cell_of, gives_capacity, gives_successors, has_capacity, ids_place, is_capacities, settle,
 };
 pub use shop_names::{machine_names, order_names};
 pub use shop_reading::read_shop_table;

@@ -207,8 +207,8 @@ pub fn settle(
     settle_heads(alloc, &body, heads)
 }
 
-// Whether column `k` is one of successors, without a capacity.
-fn gives_successors(body: &Body<'_>, k: usize, head: &Head) -> bool
+/// Whether column `k` is one of successors, without a capacity.
+pub fn gives_successors(body: &Body<'_>, k: usize, head: &Head) -> bool
     ensures { result ≡ spec.gives_successors (spec.body_of body.now) k (head_of head.now) }
 {
     match head.column {
