@@ -1,5 +1,5 @@
 -- The text of a list for a command, and the first bytes of a file.
-use Rattle.std.proofs.Common.{◌≡◌, String, inl, inr, ℕ, ◌+◌, List, [], ◌∷◌, Option, Some, None, Result, Ok, Err, take, refl, subst, arith}
+use Rattle.std.proofs.Common.{◌≡◌, String, inl, inr, ℕ, ◌+◌, List, [], ◌∷◌, Option, Some, None, Result, Ok, Err, take, refl, sym, subst, arith}
 use Rattle.std.specs.Prelude.{IfOk, IfErr}
 use Rattle.std.specs.Global.{Global}
 use Rattle.plan_psplib.specs.Plain.{longest_text}
@@ -15,9 +15,10 @@ use Rattle.plan_cli.specs.Lists.{IsMadeBy, IsMadeOf, RefusesIn, RefusesKind, Ref
 use Rattle.plan_cli.specs.Spreadsheets.{IsListOf, OfList, TellsNoList}
 use Rattle.plan_cli.specs.Tasks.{IsLineOf, ShowsTask, list_subject, with_subject, rows_on, ShowsOn, ShowsRead, RefusesOn, RefusesRead}
 use Rattle.plan_cli.specs.declared.documents.Subject.{Subject}
+use Rattle.plan_cli.specs.declared.lists.Reading.{Reading}
 use Rattle.plan_cli.specs.declared.tasks.Rows.{Rows}
 use Rattle.plan_cli.specs.declared.tasks.Task.{Task}
-use Rattle.plan_cli.proofs.RunLemmas.{HoldsByFront, refuses_as}
+use Rattle.plan_cli.proofs.RunLemmas.{HoldsByFront, refuses_as, if_err_weaker}
 use Rattle.plan_cli.proofs.TaskLemmas.{shown_front, task_line_front, import_front, no_import_front, shop_import_front, no_shop_import_front, kind_front, list_front, refuses_list_front}
 
 -- ---- capacities of a list of orders
@@ -57,6 +58,21 @@ read_is of file list None s None is is_kind same = record { list = list; list_is
 read_is of file list None s (Some made) is is_kind no = absurd no
 read_is of file list (Some kind) s None is is_kind no = absurd no
 read_is of file list (Some kind) s (Some made) is is_kind by = record { list = list; list_is = is; kind_is = is_kind; read = by }
+
+-- the same for the value of a call
+pub readable_is : (of : Subject) (file list : List ℕ) (kind : Option ListKind) (r : Result Reading CliFault) → IsListOf [] file list → IsKind list kind
+    → IfOk r (λ read. read.kind ≡ kind) → IfOk r (λ read. IsMadeBy kind of list read.subject read.made)
+    → IfOk r (λ read. IsReadAs of file read.kind read.subject (text_of read.made file))
+readable_is of file list kind (Err e) is is_kind same made = tt
+readable_is of file list kind (Ok read) is is_kind same made =
+    subst (λ (k : Option ListKind). IsReadAs of file k read.subject (text_of read.made file)) (sym same)
+    (read_is of file list kind read.subject read.made is is_kind made)
+
+-- the error of the plain list of a file is that of the file
+pub readable_refused : (of : Subject) (file list : List ℕ) (kind : Option ListKind) (r : Result Reading CliFault) → IsListOf [] file list → IsKind list kind
+    → IfErr r (Refuses (RefusesKind kind of list)) → IfErr r (Refuses (RefusesReading of file))
+readable_refused of file list kind r is is_kind told = if_err_weaker r (Refuses (RefusesKind kind of list)) (Refuses (RefusesReading of file))
+    (λ e refused. kind_refused of file list kind e is is_kind refused) told
 
 -- the error of a list comes before those of the command
 pub reading_refused : (of : Subject) (file : List ℕ) (IsLine : Subject → List ℕ → List ℕ → Type 0) (e : CliFault)

@@ -78,7 +78,7 @@ fn encoding_note(alloc: Global, encoding: Encoding) -> Result<Option<String>, Al
 // Returns two notes in one line.
 fn joined(first: String, second: &str) -> Result<String, AllocError>
     ensures { IfOk result (λ text. string_bytes text
-        ≡ spec.joined_text (string_bytes first.entry) second.now) }
+        ≡ spec.joined_text (string_bytes first) second.now) }
 {
     let mut text = first;
     text.push_str("; ")?;
@@ -92,7 +92,7 @@ fn joined_notes(
     second: Option<String>,
 ) -> Result<Option<String>, AllocError>
     ensures { IfOk result (λ note. option_map string_bytes note ≡ spec.joined_notes
-        (option_map string_bytes first.entry) (option_map string_bytes second.entry)) }
+        (option_map string_bytes first) (option_map string_bytes second)) }
 {
     match (first, second) {
         (None, second) => Ok(second),
