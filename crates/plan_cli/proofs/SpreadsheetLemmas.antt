@@ -1,19 +1,17 @@
 -- Files that become no plain list.
-use Rattle.std.proofs.Common.{◌≡◌, ◌≤◌, ◌<◌, inl, inr, ℕ, Bool, true, false, List, Some, Result, Ok, Err, String, length, take, sym, subst}
+use Rattle.std.proofs.Common.{◌≡◌, inl, inr, ℕ, List, Some, Result, Ok, Err, String, take, true}
 use Rattle.std.specs.Global.{Global}
-use Rattle.std.specs.Prelude.{IfErr, IfOk, string_bytes}
-use Rattle.std.proofs.lemmas.Bool.{le-leb, lt-leb}
+use Rattle.std.specs.Prelude.{IfErr}
 use Rattle.plan_psplib.specs.Plain.{longest_text}
 use Rattle.plan_encoding.specs.Workbooks.{workbook}
 use Rattle.plan_encoding.specs.declared.workbook.Workbook.{Workbook}
 use Rattle.plan_table.specs.Overrides.{Override}
-use Rattle.plan_spreadsheet.specs.PlainLists.{IsNoPlain, IsPlain, fault_of}
+use Rattle.plan_spreadsheet.specs.PlainLists.{IsNoPlain, fault_of}
 use Rattle.plan_spreadsheet.specs.declared.fault.SpreadsheetFault.{SpreadsheetFault}
-use Rattle.plan_spreadsheet.specs.declared.list.PlainList.{PlainList}
 use Rattle.plan_errors.specs.declared.fault.CliFault.{CliFault}
 use Rattle.plan_errors.specs.Output.{Refuses}
 use Rattle.plan_cli.specs.Run.{IfText}
-use Rattle.plan_cli.specs.Spreadsheets.{IsListOf, IsLong, IsPlainIf, IsPlainOf, OfList, RefusesOfList, TellsBook, TellsFault, TellsNoList, TellsNoListIf}
+use Rattle.plan_cli.specs.Spreadsheets.{IsListOf, OfList, RefusesOfList, TellsBook, TellsFault, TellsNoList, TellsNoListIf}
 use Rattle.plan_cli.proofs.RunLemmas.{refuses_as, if_err_weaker}
 
 -- the error of a file that becomes no plain list refuses it
@@ -37,26 +35,6 @@ pub list_told : (given : List Override) (file list : List ℕ) (IsLine : List �
     → IsListOf given file list → Refuses (IsLine list) e → Refuses (RefusesOfList given IsLine file) e
 list_told given file list IsLine e is told =
     refuses_as (IsLine list) (RefusesOfList given IsLine file) e (λ line tells. inr (list, is, tells)) told
-
--- the plain list of a file, by its length
-pub short_plain : (given : List Override) (file : List ℕ) (r : Result PlainList CliFault) → length file ≤ longest_text
-    → IfOk r (IsPlain given file) → IfOk r (IsPlainOf given file)
-short_plain given file r few is = subst (λ (b : Bool). IfOk r (IsPlainIf b given file)) (sym (le-leb (length file) longest_text few)) is
-
-pub long_plain : (given : List Override) (file : List ℕ) (r : Result PlainList CliFault) → longest_text < length file
-    → IfOk r (IsLong file) → IfOk r (IsPlainOf given file)
-long_plain given file r long is = subst (λ (b : Bool). IfOk r (IsPlainIf b given file)) (sym (lt-leb (length file) longest_text long)) is
-
--- the line for a file that becomes no plain list, by its length
-pub short_told : (given : List Override) (file : List ℕ) (r : Result PlainList CliFault) → length file ≤ longest_text
-    → IfErr r (Refuses (TellsNoListIf true given file)) → IfErr r (Refuses (TellsNoList given file))
-short_told given file r few told =
-    subst (λ (b : Bool). IfErr r (Refuses (TellsNoListIf b given file))) (sym (le-leb (length file) longest_text few)) told
-
-pub long_told : (given : List Override) (file : List ℕ) (r : Result PlainList CliFault) → longest_text < length file
-    → IfErr r (Refuses (TellsBook file)) → IfErr r (Refuses (TellsNoList given file))
-long_told given file r long told =
-    subst (λ (b : Bool). IfErr r (Refuses (TellsNoListIf b given file))) (sym (lt-leb (length file) longest_text long)) told
 
 -- a text that is made of the plain list of a file is made of the file
 pub made_of_list : (given : List Override) (file list : List ℕ) (Holds : List ℕ → List ℕ → Type 0) (r : Result (String Global) CliFault)

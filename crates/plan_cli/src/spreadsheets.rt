@@ -110,7 +110,6 @@ fn short_list(
 
 /// Returns the plain list of a file, with capacities that are given. A file that is longer than the
 /// longest text stays as it is. Errors: `T1`, `T18`.
-#[tactic(auto, using(crate::proofs::SpreadsheetLemmas::short_plain, crate::proofs::SpreadsheetLemmas::long_plain, crate::proofs::SpreadsheetLemmas::short_told, crate::proofs::SpreadsheetLemmas::long_told))]
 pub(crate) fn plain_of(
     alloc: Global,
     given: &[Override<'_>],
