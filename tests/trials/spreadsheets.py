@@ -174,21 +174,27 @@ def project_of(text):
 
 def numbers_in(cell, line, numbers, waits):
     """The numbers of the predecessors in a cell. A wait is an activity behind all others."""
-    found, behind = [], False
-    for word in filter(None, re.split(r"[\s,;]+", cell)):
-        wait = WAIT.fullmatch(word)
-        if named(word, numbers):
-            found.append(named(word, numbers))
-        elif behind and UNIT.fullmatch(word):
+    found = []
+    for part in re.split(r"[,;\n]", cell):
+        behind = False
+        for word in part.split():
+            if named(word, numbers):
+                found.append(named(word, numbers))
+            elif not (behind and UNIT.fullmatch(word)):
+                found.append(wait_number(word, line, numbers, waits))
+                behind = True
+                continue
             behind = False
-            continue
-        elif wait and named(wait[1], numbers):
-            waits.append((named(wait[1], numbers), int(wait[2])))
-            found.append(len(numbers) + 1 + len(waits))
-        else:
-            raise Line(f"T8 line {line} predecessor {word}")
-        behind = not named(word, numbers)
     return found
+
+
+def wait_number(word, line, numbers, waits):
+    """The number of the activity that stands for a wait."""
+    wait = WAIT.fullmatch(word)
+    if not wait or not named(wait[1], numbers):
+        raise Line(f"T8 line {line} predecessor {word}")
+    waits.append((named(wait[1], numbers), int(wait[2])))
+    return len(numbers) + 1 + len(waits)
 
 
 def named(word, numbers):

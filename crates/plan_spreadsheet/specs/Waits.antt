@@ -1,4 +1,5 @@
--- Waits: predecessors with a lag, such as `12FS+2d`. A waiting row stands between the two activities.
+-- Waits: predecessors with a lag, such as `12FS+2d`. A waiting row stands between the two
+-- activities.
 use Rattle.std.specs.Prelude.{ℕ, ◌+◌, ◌-◌, ◌==◌, ◌&&◌, ◌||◌, Bool, true, false, if◌then◌else◌, List, [], ◌∷◌, ◌++◌, Option, Some, None, Result, Ok, Err, codes, count_by, drop, is_some, length, map, min, nat_le, not, take}
 use Rattle.std.specs.Fmt.{decimal}
 use Rattle.std.specs.List.{list_any, position}
@@ -6,7 +7,7 @@ use Rattle.plan_psplib.specs.Lines.{words}
 use Rattle.plan_psplib.specs.Sections.{begins_with}
 use Rattle.plan_table.specs.declared.header.Column.{Column}
 use Rattle.plan_table.specs.declared.header.Column.TheVariants as columns
-use Rattle.plan_table.specs.Cells.{as_blank, same}
+use Rattle.plan_table.specs.Cells.{is_separator, same}
 use Rattle.plan_table.specs.Csv.{Row, row_of}
 use Rattle.plan_table.specs.Durations.{is_unit}
 use Rattle.plan_table.specs.Entries.{place_from}
@@ -35,7 +36,8 @@ wait_of w = record { predecessor = w.predecessor.items; lag = w.lag.items }
 -- a word without the link type `FS` at its end names an activity
 abbrev pub is_linked : List Label → List ℕ → Bool
 is_linked labels word =
-    same (drop (length word - 2) word) (codes "FS") && is_some (number_by labels (take (length word - 2) word))
+    same (drop (length word - 2) word) (codes "FS")
+    && is_some (number_by labels (take (length word - 2) word))
 
 -- a word names an activity
 abbrev pub is_named : List Label → List ℕ → Bool
@@ -48,12 +50,14 @@ name_in (Some k) row = cell_of k row
 -- labels with that of a row, if it is one of an activity
 abbrev pub with_label : ℕ → Option ℕ → List Label → Row → List Label
 with_label ids names before row =
-    if is_capacities (Some ids) row then before else before ++ record { id = cell_of ids row; name = name_in names row } ∷ []
+    if is_capacities (Some ids) row then before
+    else before ++ record { id = cell_of ids row; name = name_in names row } ∷ []
 
 -- the labels of rows, behind others
 unfoldable pub labels_from : ℕ → Option ℕ → List Label → List Row → List Label
 labels_from ids names before [] = before
-labels_from ids names before (row ∷ rows) = labels_from ids names (with_label ids names before row) rows
+labels_from ids names before (row ∷ rows) =
+    labels_from ids names (with_label ids names before row) rows
 
 -- the id of a waiting row
 abbrev pub wait_id : ℕ → List ℕ
@@ -69,7 +73,8 @@ can_wait labels = nat_le (length labels) most_rows && not (list_any is_taken lab
 
 -- ---- the words of a cell
 
--- the words so far, each with a space behind it, all waits so far, and whether a wait is the last word
+-- the words so far, each with a space behind it, all waits so far, and whether a wait is the last
+-- word
 pub record Links : Type 0 where
   pub text : List ℕ
   pub waits : List Wait
@@ -94,7 +99,8 @@ with_wait l predecessor lag =
 
 -- a plus sign stands between the two parts of a wait
 abbrev pub is_wait : List Label → List ℕ → List ℕ → Bool
-is_wait labels predecessor lag = is_named labels predecessor && is_lag lag
+is_wait labels predecessor lag =
+    not (length predecessor == 0) && is_named labels predecessor && is_lag lag
 
 abbrev pub plus_in : List ℕ → Option ℕ
 plus_in word = position (λ byte. byte == 43) word
@@ -106,18 +112,24 @@ with_parts labels l word predecessor lag =
 -- with a word that names no activity
 abbrev pub with_unknown : List Label → Links → List ℕ → Option ℕ → Links
 with_unknown labels l word None = with_text l word
-with_unknown labels l word (Some plus) = with_parts labels l word (take plus word) (drop 1 (drop plus word))
+with_unknown labels l word (Some plus) =
+    with_parts labels l word (take plus word) (drop 1 (drop plus word))
 
 -- without a word for days
 abbrev pub without_unit : Links → Links
 without_unit l = record { text = l.text; waits = l.waits; behind = false }
 
--- with one more word. A word for days behind a wait belongs to its lag
-unfoldable pub with_word : List Label → Links → List ℕ → Links
-with_word labels l word =
+-- with one more word that is no separator. A word for days behind a wait belongs to its lag
+unfoldable pub with_content : List Label → Links → List ℕ → Links
+with_content labels l word =
     if is_named labels word then with_text l word
     else if l.behind && is_unit word then without_unit l
     else with_unknown labels l word (plus_in word)
+
+-- with one more word; a separator ends a wait
+unfoldable pub with_word : List Label → Links → List ℕ → Links
+with_word labels l word =
+    if same word (codes ",") then without_unit l else with_content labels l word
 
 unfoldable pub with_words : List Label → Links → List (List ℕ) → Links
 with_words labels l [] = l
@@ -125,11 +137,22 @@ with_words labels l (word ∷ words) = with_words labels (with_word labels l wor
 
 -- the words of a text, behind the waits of earlier cells
 abbrev pub with_all : List Label → List Wait → List ℕ → Links
-with_all labels waits text = with_words labels (record { text = []; waits = waits; behind = false }) (words text)
+with_all labels waits text =
+    with_words labels (record { text = []; waits = waits; behind = false }) (words text)
+
+-- a text with one more byte; a separator becomes a word
+abbrev pub with_byte : List ℕ → ℕ → List ℕ
+with_byte before byte =
+    if is_separator byte then ((before ++ 32 ∷ []) ++ 44 ∷ []) ++ 32 ∷ [] else before ++ byte ∷ []
+
+-- the bytes of a cell behind others, where separators are words
+unfoldable pub spaced_from : List ℕ → List ℕ → List ℕ
+spaced_from before [] = before
+spaced_from before (byte ∷ bytes) = spaced_from (with_byte before byte) bytes
 
 -- the words of a cell
 abbrev pub with_cell : List Label → List Wait → List ℕ → Links
-with_cell labels waits cell = with_all labels waits (map as_blank cell)
+with_cell labels waits cell = with_all labels waits (spaced_from [] cell)
 
 -- ---- the rows of activities
 
@@ -143,7 +166,8 @@ replaced_from place text before k (cell ∷ cells) =
     replaced_from place text (before ++ cell_or_text place text k cell ∷ []) (k + 1) cells
 
 abbrev pub replaced : ℕ → List ℕ → Row → Row
-replaced place text row = record { line = row.line; cells = replaced_from place text [] 0 row.cells }
+replaced place text row =
+    record { line = row.line; cells = replaced_from place text [] 0 row.cells }
 
 -- the predecessors in a row; that of the capacities has none
 abbrev pub predecessors_in : ℕ → ℕ → Row → List ℕ
@@ -164,15 +188,18 @@ linked_of l = record { rows = map row_of l.rows.items; waits = map wait_of l.wai
 
 -- with one more row
 abbrev pub with_links : ℕ → ℕ → List Row → Row → Links → Linked
-with_links after before all row l = record { rows = all ++ row_with after before l row ∷ []; waits = l.waits }
+with_links after before all row l =
+    record { rows = all ++ row_with after before l row ∷ []; waits = l.waits }
 
 abbrev pub with_row : ℕ → ℕ → List Label → Linked → Row → Linked
 with_row ids after labels l row =
-    with_links after (length l.waits) l.rows row (with_cell labels l.waits (predecessors_in ids after row))
+    with_links after (length l.waits) l.rows row
+    (with_cell labels l.waits (predecessors_in ids after row))
 
 unfoldable pub linked_from : ℕ → ℕ → List Label → Linked → List Row → Linked
 linked_from ids after labels l [] = l
-linked_from ids after labels l (row ∷ rows) = linked_from ids after labels (with_row ids after labels l row) rows
+linked_from ids after labels l (row ∷ rows) =
+    linked_from ids after labels (with_row ids after labels l row) rows
 
 abbrev pub no_rows : Linked
 no_rows = record { rows = []; waits = [] }
@@ -208,7 +235,8 @@ lines_behind line n = min (line + n) 18446744073709551615
 -- the line in which cells end that begin in a line
 unfoldable pub line_behind : ℕ → List (List ℕ) → ℕ
 line_behind line [] = line
-line_behind line (cell ∷ cells) = line_behind (lines_behind line (count_by (λ byte. byte == 10) cell)) cells
+line_behind line (cell ∷ cells) =
+    line_behind (lines_behind line (count_by (λ byte. byte == 10) cell)) cells
 
 -- the line in which the last row ends
 unfoldable pub last_line : ℕ → List Row → ℕ
@@ -222,7 +250,9 @@ with_waiting heads line l = waiting_from heads line l.rows 0 l.waits
 
 abbrev pub waiting_if : List Head → ℕ → ℕ → List Label → List Row → List Row
 waiting_if heads ids after labels rows =
-    if can_wait labels then with_waiting heads (last_line 1 rows) (linked_from ids after labels no_rows rows) else rows
+    if can_wait labels
+    then with_waiting heads (last_line 1 rows) (linked_from ids after labels no_rows rows)
+    else rows
 
 -- the rows behind the header, with waiting rows; without ids or predecessors they stay
 abbrev pub waiting_at : List Head → Option ℕ → Option ℕ → List Row → List Row

@@ -1,7 +1,7 @@
 //! Predecessors with a lag, such as `12FS+2d`: the cell names a waiting row in their place.
 
-ghost use Rattle.std.specs.Prelude.{◌≡◌, ◌≤◌, drop, length, map, IfOk, OnOk};
-ghost use Rattle.plan_table.specs.Cells.{as_blank};
+ghost use Rattle.std.specs.Prelude.{◌≡◌, ◌≤◌, [], drop, length, map, IfOk, OnOk};
+ghost use Rattle.plan_table.specs.Cells as cells;
 ghost use Rattle.plan_table.specs.Limits.{most_rows};
 ghost use Rattle.plan_table.specs.Predecessors.{label_of};
 ghost use Rattle.plan_spreadsheet.specs.Waits as spec;
@@ -107,7 +107,7 @@ fn is_wait(labels: &[Label], predecessor: &[u8], lag: &[u8]) -> bool
     requires { length labels.now ≤ most_rows }
     ensures { result ≡ spec.is_wait (map label_of labels.now) predecessor.now lag.now }
 {
-    is_named(labels, predecessor) && is_lag(lag)
+    !predecessor.is_empty() && is_named(labels, predecessor) && is_lag(lag)
 }
 
 // Adds a word that has two parts with a plus sign between them.
@@ -154,17 +154,17 @@ fn push_unknown(
     }
 }
 
-// Adds a word. A word for days behind a wait belongs to its lag.
-#[tactic(auto, unfolding(crate::specs::Waits::with_word))]
-fn push_word(
+// Adds a word that is no separator. A word for days behind a wait belongs to its lag.
+#[tactic(auto, unfolding(crate::specs::Waits::with_content))]
+fn push_content(
     alloc: Global,
     labels: &[Label],
     links: &mut Links,
     word: &[u8],
 ) -> Result<(), AllocError>
     requires { length labels.now ≤ most_rows }
-    ensures { OnOk result (spec.links_of links.new ≡ spec.with_word (map label_of labels.now)
-        (spec.links_of links.old) word.now) }
+    ensures { OnOk result (spec.links_of links.new ≡ spec.with_content
+        (map label_of labels.now) (spec.links_of links.old) word.now) }
 {
     if is_named(labels, word) {
         return push_text(links, word);
@@ -176,23 +176,54 @@ fn push_word(
     push_unknown(alloc, labels, links, word)
 }
 
-// A space in place of what stands between predecessors.
-fn blank_for(byte: u8) -> u8
-    ensures { result ≡ as_blank byte }
+// Adds a word.
+#[tactic(auto, unfolding(crate::specs::Waits::with_word))]
+fn push_word(
+    alloc: Global,
+    labels: &[Label],
+    links: &mut Links,
+    word: &[u8],
+) -> Result<(), AllocError>
+    requires { length labels.now ≤ most_rows }
+    ensures { OnOk result (spec.links_of links.new ≡ spec.with_word (map label_of labels.now)
+        (spec.links_of links.old) word.now) }
 {
-    match byte {
-        b',' | b';' | b'\n' => b' ',
-        other => other,
+    if same(word, b",") {
+        links.behind = false;
+        return Ok(());
     }
+    push_content(alloc, labels, links, word)
 }
 
-// A cell with spaces in place of what stands between predecessors.
-fn with_blanks(alloc: Global, cell: &[u8]) -> Result<Vec<u8>, AllocError>
-    ensures { IfOk result (λ v. v.items ≡ map as_blank cell.now) }
+// Whether a byte stands between predecessors.
+fn is_separator(byte: u8) -> bool
+    ensures { result ≡ cells.is_separator byte }
+{
+    byte == b',' || byte == b';' || byte == b'\n'
+}
+
+// Adds a byte; one that stands between predecessors becomes a word of its own.
+fn push_byte(text: &mut Vec<u8>, byte: u8) -> Result<(), AllocError>
+    ensures { OnOk result (text.new.items ≡ spec.with_byte text.old.items byte) }
+{
+    if !is_separator(byte) {
+        text.push(byte)?;
+        return Ok(());
+    }
+    text.push(b' ')?;
+    text.push(b',')?;
+    text.push(b' ')?;
+    Ok(())
+}
+
+// A cell in which each separator is a word.
+#[tactic(auto, unfolding(crate::specs::Waits::spaced_from))]
+fn spaced(alloc: Global, cell: &[u8]) -> Result<Vec<u8>, AllocError>
+    ensures { IfOk result (λ v. v.items ≡ spec.spaced_from [] cell.now) }
 {
     let mut text = Vec::new(alloc);
     for &byte in cell {
-        text.push(blank_for(byte))?;
+        push_byte(&mut text, byte)?;
     }
     Ok(text)
 }
@@ -232,6 +263,6 @@ pub fn link_cell(
     ensures { IfOk result (λ l. spec.links_of l ≡ spec.with_cell (map label_of labels.now)
         (map spec.wait_of waits.items) cell.now) }
 {
-    let text = with_blanks(alloc, cell)?;
+    let text = spaced(alloc, cell)?;
     push_words(alloc, labels, waits, &text)
 }
