@@ -34,6 +34,8 @@ NOTES = set(
 )
 OUTLINES = {"outline level", "gliederungsebene", "outline number", "gliederungsnummer", "wbs", "psp-code"}
 DAYS = re.compile(r"(\d{1,9})(?:[.,]0)?\s*(?:d|days?|tage?|jours?|días?)?", re.IGNORECASE)
+WAIT = re.compile(r"([^+]*)\+(\d{1,9})(?:d|days?|tage?|jours?|días?)?", re.IGNORECASE)
+UNIT = re.compile(r"d|days?|tage?|jours?|días?", re.IGNORECASE)
 
 
 class Line(Exception):
@@ -167,7 +169,10 @@ def project_of(text):
     named = [cells[ids] if ids is not None else str(k + 1) for k, (_, cells) in enumerate(rows)]
     activities = [(name, row) for name, row in zip(named, rows) if name.lower() != "capacity"]
     numbers = {name: k + 2 for k, (name, _) in enumerate(activities)}
-    found = [activity_of(numbers, name, *row, places, resources) for name, row in activities]
+    waits = []
+    found = [activity_of(numbers, name, *row, places, resources, waits) for name, row in activities]
+    for number, days in waits:
+        found.append((len(found) + 2, "", days, [number], [0] * len(resources)))
     for _, name, most in resources:
         if not most:
             raise Line(f"T10 no capacity {name}")
@@ -182,7 +187,37 @@ def ids_of(text):
     return [name for name in found if name.lower() != "capacity"]
 
 
-def activity_of(numbers, own, line, cells, places, resources):
+def numbers_in(cell, line, numbers, waits):
+    """The numbers of the predecessors in a cell. A wait is an activity behind all others."""
+    found = []
+    for part in re.split(r"[,;\n]", cell):
+        behind = False
+        for word in part.split():
+            if named(word, numbers):
+                found.append(named(word, numbers))
+            elif not (behind and UNIT.fullmatch(word)):
+                found.append(wait_number(word, line, numbers, waits))
+                behind = True
+                continue
+            behind = False
+    return found
+
+
+def wait_number(word, line, numbers, waits):
+    """The number of the activity that stands for a wait."""
+    wait = WAIT.fullmatch(word)
+    if not wait or not named(wait[1], numbers):
+        raise Line(f"T8 line {line} predecessor {word}")
+    waits.append((named(wait[1], numbers), int(wait[2])))
+    return len(numbers) + 1 + len(waits)
+
+
+def named(word, numbers):
+    """The number of the activity that a word names, perhaps with FS behind it."""
+    return numbers.get(word) or numbers.get(word.removesuffix("FS"))
+
+
+def activity_of(numbers, own, line, cells, places, resources, waits):
     def cell(place):
         return cells[place] if place is not None and place < len(cells) else ""
 
@@ -190,12 +225,9 @@ def activity_of(numbers, own, line, cells, places, resources):
     if "\n" in name:
         raise Line(f"T2 not text line {line}")
     days = days_of(cell(places["duration"]), line)
-    before = re.split(r"[\s,;]+", cell(places.get("predecessors")))
-    for word in before:
-        if word and word not in numbers:
-            raise Line(f"T8 line {line} predecessor {word}")
+    before = numbers_in(cell(places.get("predecessors")), line, numbers, waits)
     needs = [int(cell(place) or 0) for place, _, _ in resources]
-    return numbers[own], name, days, [numbers[word] for word in before if word], needs
+    return numbers[own], name, days, before, needs
 
 
 def shortest(activities, resources):

@@ -6,6 +6,7 @@ use Rattle.plan_table.specs.Overrides.{Override}
 use Rattle.plan_spreadsheet.specs.Groups.{without_groups}
 use Rattle.plan_spreadsheet.specs.Notes.{headers, notes}
 use Rattle.plan_spreadsheet.specs.Rows.{emptied, filled}
+use Rattle.plan_spreadsheet.specs.Waits.{with_waits}
 
 -- the rows without the cells and the headers of notes; the first row is the header
 abbrev pub without_notes : List Override → List Row → List Row
@@ -19,7 +20,8 @@ ignored_in overrides (first ∷ rows) = map utf8_lossy (headers first (notes ove
 
 -- the rows of the plain list
 unfoldable pub plain_rows : List Override → List Row → List Row
-plain_rows overrides rows = filled (without_notes overrides (without_groups overrides (filled rows)))
+plain_rows overrides rows =
+    filled (with_waits overrides (without_notes overrides (without_groups overrides (filled rows))))
 
 -- the headers of the columns that the plain list doesn't have
 unfoldable pub ignored_headers : List Override → List Row → List (List ℕ)

@@ -6,10 +6,13 @@ mod acceptance;
 mod fault;
 mod grid;
 mod groups;
+mod lags;
 mod list;
 mod notes;
 mod rewriting;
 mod rows;
+mod waiting;
+mod waits;
 
 pub use fault::SpreadsheetFault;
 pub use list::{PlainList, plain_list};

@@ -15,6 +15,7 @@ use crate::grid::write_rows;
 use crate::groups::without_groups;
 use crate::notes::{headers, notes};
 use crate::rows::{all_emptied, filled, same_rows};
+use crate::waiting::with_waits;
 use plan_table::{Override, ReadError, Row, read_rows_of};
 use std::alloc::{AllocError, Global};
 
@@ -108,7 +109,8 @@ fn rewrite_rows(
     let before = filled(alloc, rows)?;
     let ungrouped = without_groups(alloc, overrides, &before)?;
     let plain = without_notes(alloc, overrides, &ungrouped)?;
-    let plain_rows = filled(alloc, &plain.rows)?;
+    let waiting = with_waits(alloc, overrides, &plain.rows)?;
+    let plain_rows = filled(alloc, &waiting)?;
     let text = write_plain(alloc, &before, &plain_rows)?;
     Ok(Rewriting {
         text,
