@@ -40,6 +40,7 @@ fn numbers(alloc: Global, line: &str) -> Result<Vec<u32>, AllocError> {
     Ok(list)
 }
 
+#[derive(Drop)]
 struct Reader {
     list: Vec<u32>,
     place: usize,

@@ -13,7 +13,7 @@ use crate::running::next_clash;
 use crate::search::Search;
 use crate::solving::check;
 use crate::watcher::{Unwatched, Watcher};
-use plan_kernel::{Input, Kernel, LIMIT, Reason, with_orders};
+use plan_kernel::{Absence, Input, Kernel, LIMIT, Reason, with_orders};
 use std::alloc::{AllocError, Global};
 
 /// After how many conflicts the bounds are compared, and a watcher is asked whether the search should
@@ -101,6 +101,37 @@ fn refute_starts(alloc: Global, prover: &mut Prover) -> Result<(), AllocError>
     Ok(())
 }
 
+// Refutes all plans if more of a resource is absent than there is where an absence begins.
+fn refute_absence(alloc: Global, prover: &mut Prover, place: usize) -> Result<(), AllocError>
+    ensures { prover.new.kernel.known.input ≡ prover.old.kernel.known.input }
+{
+    let absences = &prover.kernel.input().absences;
+    if place >= absences.len() {
+        return Ok(());
+    }
+    let Absence { resource, from, .. } = absences[place];
+    let reason = Reason::Energy {
+        resource,
+        from,
+        until: from.saturating_add(1),
+        members: &[],
+    };
+    if prover.begin(reason)? {
+        let _ = prover.keep(alloc)?;
+    }
+    Ok(())
+}
+
+// Refutes all plans if more of some resource is absent than there is.
+fn refute_absences(alloc: Global, prover: &mut Prover) -> Result<(), AllocError>
+    ensures { prover.new.kernel.known.input ≡ prover.old.kernel.known.input }
+{
+    for place in 0..prover.kernel.input().absences.len() {
+        refute_absence(alloc, prover, place)?;
+    }
+    Ok(())
+}
+
 // Whether no plan costs less than the upper bound.
 fn is_met(kernel: &Kernel) -> bool {
     kernel.lower_bound() >= kernel.upper()
@@ -122,6 +153,7 @@ fn search_of(
     let _ = kernel.lower(proposal);
     let mut prover = prover_of(alloc, kernel, false)?;
     refute_starts(alloc, &mut prover)?;
+    refute_absences(alloc, &mut prover)?;
     Search::new(alloc, prover)
 }
 
