@@ -1,5 +1,5 @@
 -- What a watcher hears in several calls, and that it is true of a problem.
-use Rattle.std.proofs.Common.{◌≡◌, ◌∙◌, ◌≤◌, ℕ, inl, inr, List, sym, subst, arith}
+use Rattle.std.proofs.Common.{◌≡◌, ◌∙◌, ◌≤◌, ℕ, inl, inr, max, List, sym, subst, arith}
 use Rattle.plan_sgs.specs.Problem.{Problem}
 use Rattle.plan_kernel.specs.declared.input.Input.{Input}
 use Rattle.plan_kernel.specs.Plans as plans
@@ -19,9 +19,11 @@ truth_twice s allowed before between after first second p was = elim (second p w
 pub truth_then_nothing : (s : Problem) (allowed : ℕ) (before between after : Progress → Type 0) → HearsTruth s allowed before between → HearsNothing between after → HearsTruth s allowed before after
 truth_then_nothing s allowed before between after first second p was = first p (second p was)
 
--- the lower bound of a kernel is one of all makespans
-pub kernel_lower : (input : Input) (p : Problem) (lower : ℕ) → plans.IsPlain input p → plans.IsLowerBound input lower → IsLowerBound p lower
-kernel_lower input p lower plain bound = plain_lower input p lower plain bound
+-- the greater of a lower bound and that of a kernel is a lower bound of all makespans
+pub greater_lower : (input : Input) (p : Problem) (simple lower greater : ℕ) → plans.IsPlain input p → IsLowerBound p simple → plans.IsLowerBound input lower
+    → greater ≡ max simple lower → IsLowerBound p greater
+greater_lower input p simple lower greater plain one other greatest starts feasible =
+    omega (arith, greatest, one starts feasible, plain_lower input p lower plain other starts feasible)
 
 -- what is heard of the best list of a kernel is true
 pub heard_of_best : (input : Input) (p : Problem) (starts : List ℕ) (upper lower conflicts : ℕ) (before after : Progress → Type 0) → plans.IsPlain input p

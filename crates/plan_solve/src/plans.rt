@@ -224,8 +224,9 @@ fn solved_plan<W: Watcher>(
 /// cost no more than a horizon, and what it proves of all plans.
 ///
 /// `proposal` is a first plan: a start for each activity. If it isn't a plan within the horizon, it
-/// is left out. The orders of the input are replaced by those that the search needs. A search beyond 1,000,000,000 or with more than 4,000,000 cells (horizon times
-/// resources) isn't made.
+/// is left out. The orders of the input are replaced by those that the search needs. There is no
+/// search beyond a cost of 1,000,000,000 or with more than 4,000,000 cells (horizon times
+/// resources).
 ///
 /// Refused with [`SolveFault::BadConflicts`] if the number of conflicts is not from 1 to
 /// 1,000,000,000. Out of memory can replace any result.

@@ -65,7 +65,7 @@ fn kernel_of<S: Solvable>(alloc: Global, source: &S, starts: &[u64]) -> Result<K
 }
 
 // The greater of two lower bounds: a simple one and the kernel's.
-#[tactic(auto, using(crate::proofs::ProgressLemmas::kernel_lower))]
+#[tactic(auto, using(crate::proofs::ProgressLemmas::greater_lower))]
 fn lower_bound<S: Solvable>(source: &S, kernel: &Kernel, simple: u64) -> u64
     requires problem { IsPlain kernel.now.known.input (S.problem source.now) }
     requires simple { IsLowerBound (S.problem source.now) simple }
@@ -76,7 +76,6 @@ fn lower_bound<S: Solvable>(source: &S, kernel: &Kernel, simple: u64) -> u64
 }
 
 // Tells a watcher how far a search is. Returns whether the watcher ends the search.
-#[tactic(auto, using(crate::proofs::ProgressLemmas::heard_of_best))]
 fn tell<S: Solvable, W: Watcher>(
     watcher: &mut W,
     source: &S,
@@ -121,7 +120,8 @@ fn log_bound(prover: &mut Prover) -> Result<(), AllocError>
     Ok(())
 }
 
-/// Searches until a clause is false. `None` if nothing is left to search for, or the watcher ends it.
+/// Searches until a clause is false. `None` if nothing is left to search for, or the watcher ends
+/// it.
 pub fn next_clash<W: Watcher>(
     alloc: Global,
     search: &mut Search,
