@@ -6,4 +6,6 @@ pub mod AxisLemmas
 pub mod MarkupLemmas
 pub mod PieceLemmas
 pub mod UseLemmas
+pub mod ChangeLemmas
+pub mod CutLemmas
 pub mod ReportMarkupLemmas

@@ -5,10 +5,13 @@ pub mod Place
 pub mod Bars
 pub mod Axis
 pub mod Days
+pub mod DayLabels
 pub mod Marks
 pub mod Titles
+pub mod Cuts
 pub mod Chart
 pub mod Uses
+pub mod Changes
 pub mod Usage
 pub mod Table
 pub mod Page

@@ -13,7 +13,14 @@ use Rattle.plan_sheet.specs.Feed.{IsIcsText, HasEventBeyond}
 -- end
 abbrev pub bars_svg : List ℕ → List Name → List Name → List Bar → ℕ → ℕ → List ℕ
 bars_svg title rows names bars first count =
-    svg_chart title (record { span = greatest_end bars; days = []; rows = rows; names = names; bars = bars }) first count
+    svg_chart title (record {
+      span = greatest_end bars;
+      days = [];
+      rows = rows;
+      names = names;
+      bars = bars;
+      slacks = [];
+    }) first count
 
 -- the chart of a project: a line for each activity, with its bar
 abbrev pub project_svg : List ℕ → List Name → Net → List ℕ → List ℕ

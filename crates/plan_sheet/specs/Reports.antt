@@ -16,22 +16,23 @@ use Rattle.plan_sheet.specs.Plans.{shop_lines}
 use Rattle.plan_sheet.specs.Table.{Table}
 use Rattle.plan_sheet.specs.Usage.{use_section}
 
--- the chart of a project with these days
-abbrev pub project_chart : List Name → Planned → List ℕ → List Date → Chart
-project_chart names i starts days =
+-- the chart of a project with these days and slacks
+abbrev pub project_chart : List Name → Planned → List ℕ → List Date → List ℕ → Chart
+project_chart names i starts days slacks =
     record {
       span = axis_to days (greatest_end (activity_bars i.project.network starts));
       days = days;
       rows = names;
       names = names;
       bars = activity_bars i.project.network starts;
+      slacks = slacks;
     }
 
 -- the table of a project, perhaps with columns for days
 abbrev pub project_table : List Name → Planned → List ℕ → Bool → List Date → List ℕ → List ℕ → Table
 project_table names i starts dated days floats slacks =
     record {
-      chart = project_chart names i starts days;
+      chart = project_chart names i starts days slacks;
       dated = dated;
       shop = false;
       machines = [];
@@ -47,7 +48,8 @@ project_page title lower names resources i starts dated days floats slacks =
     page title lower (greatest_end (activity_bars i.project.network starts))
     (project_table names i starts dated days floats slacks) 1
     (count_of i.project.network)
-    (use_section (project_chart names i starts days) resources i starts (greatest_end (activity_bars i.project.network starts)))
+    (use_section (project_chart names i starts days slacks) resources i starts
+    (greatest_end (activity_bars i.project.network starts)))
 
 -- the chart of a job shop with these days, a line for each job or for each machine
 abbrev pub shop_chart : List Name → List Name → JobShop → List ℕ → Bool → List Date → Chart
@@ -58,6 +60,7 @@ shop_chart machines orders s starts by_job days =
       rows = if by_job then orders else machines;
       names = orders;
       bars = step_bars s starts by_job;
+      slacks = [];
     }
 
 -- the table of a job shop, perhaps with columns for days

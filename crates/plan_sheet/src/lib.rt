@@ -4,7 +4,10 @@
 
 mod axis;
 mod bars;
+mod changes;
 mod chart;
+mod cuts;
+mod day_labels;
 mod days;
 mod escape;
 mod feed;

@@ -65,6 +65,7 @@ pub fn project_svg(
         rows: &*names,
         names: &*names,
         bars: &bars,
+        slacks: &[],
     };
     safe_svg(alloc, title, &chart, 1, network.len() as u32)
 }
@@ -111,6 +112,7 @@ pub fn shop_svg<'a>(
         rows: if by_job { orders } else { machines },
         names: orders,
         bars: &bars,
+        slacks: &[],
     };
     let (first, count) = shop_lines(shop, by_job);
     safe_svg(alloc, title, &chart, first, count)

@@ -67,6 +67,7 @@ fn project_page(
         rows: names.activities,
         names: names.activities,
         bars: &bars,
+        slacks: margins.slacks,
     };
     let section = use_section(alloc, &chart, names.resources, instance, starts, makespan)?;
     let table = Table {
@@ -187,6 +188,7 @@ fn shop_page<'a>(
         rows: if by_job { orders } else { machines },
         names: orders,
         bars: &bars,
+        slacks: &[],
     };
     let table = Table {
         chart: &chart,
