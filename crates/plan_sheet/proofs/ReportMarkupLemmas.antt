@@ -4,20 +4,19 @@ use Rattle.std.specs.List.{range_with_len}
 use Rattle.std.specs.Int.{div_ceil}
 use Rattle.std.specs.Prelude.{slice_index}
 use Rattle.jiff_core.specs.declared.civil.date.Date.{Date}
-use Rattle.plan_net.specs.Network.{count_of}
 use Rattle.plan_sgs.specs.Instances.{Planned}
-use Rattle.plan_shop.specs.Shop.{JobShop}
 use Rattle.plan_table.specs.Names.{Name}
-use Rattle.plan_sheet.specs.Bars.{activity_bars, step_bars, greatest_end}
-use Rattle.plan_sheet.specs.Chart.{Chart, renamed, image_head, image_of}
+use Rattle.plan_sheet.specs.Bars.{greatest_end}
+use Rattle.plan_sheet.specs.Chart.{Chart, renamed, image_head, image_of, styled_opening}
 use Rattle.plan_sheet.specs.Cuts.{cut}
 use Rattle.plan_sheet.specs.Escape.{markup_of, escaped}
+use Rattle.plan_sheet.specs.Layouts.{Layout, activities, steps, bars_of, bar_names, lines_of, machine_names, row_names}
 use Rattle.plan_sheet.specs.Marks.{marks}
 use Rattle.plan_sheet.specs.Names.{label, name_text}
 use Rattle.plan_sheet.specs.Page.{note_of, styles, headings, front, figure, figures, back, page}
 use Rattle.plan_sheet.specs.Pieces.{counted}
-use Rattle.plan_sheet.specs.Plans.{shop_lines}
-use Rattle.plan_sheet.specs.Reports.{project_chart, project_table, project_page, shop_table, shop_page}
+use Rattle.plan_sheet.specs.Plans.{layout_svg}
+use Rattle.plan_sheet.specs.Reports.{layout_chart, layout_table, layout_page, section_of}
 use Rattle.plan_sheet.specs.Table.{Table, text_if, last_heads, heads, number_text, first_cells, name_cell, machine_cell, time_cells, last_cells, row_front, row_of, rows_of, table_text}
 use Rattle.plan_sheet.specs.Usage.{use_area, use_labels, use_image, use_figure, use_figures, use_room, use_section, resource_count}
 use Rattle.plan_sheet.specs.Uses.{uses_of}
@@ -188,25 +187,31 @@ same_page a b lower makespan table rows names machines first count section other
     (same_append (front (escaped a) note) key (front (escaped b) note) key (same_front a b note) refl)
     (same_figures table.chart rows names first count)) same) (same_back table rows names machines)
 
--- the report of a project has the same markup whatever its title and its names are
-pub same_project : (title : List ℕ) (lower : Option ℕ) (names resources : List Name) (i : Planned) (starts : List ℕ) (dated : Bool) (days : List Date) (floats slacks : List ℕ) →
-    markup_of (project_page title lower names resources i starts dated days floats slacks)
-    ≡ markup_of (project_page [] lower [] [] i starts dated days floats slacks)
-unfolding project_page
-same_project title lower names resources i starts dated days floats slacks =
-    let makespan = greatest_end (activity_bars i.project.network starts) in
-    let chart = project_chart names i starts days slacks in
-    same_page title [] lower makespan (project_table names i starts dated days floats slacks) [] [] [] 1 (count_of i.project.network)
-    (use_section chart resources i starts makespan) (use_section (renamed chart [] []) [] i starts makespan)
-    (same_use_section chart [] [] resources [] i starts makespan)
+same_section : (l : Layout) (chart : Chart) (rows names legend others : List Name) (starts : List ℕ) (makespan : ℕ) →
+    markup_of (section_of l chart legend starts makespan) ≡ markup_of (section_of l (renamed chart rows names) others starts makespan)
+same_section (activities i) chart rows names legend others starts makespan = same_use_section chart rows names legend others i starts makespan
+same_section (steps s by_job) chart rows names legend others starts makespan = refl
 
--- the report of a job shop has the same markup whatever its title and its names are
-pub same_shop : (title : List ℕ) (lower : Option ℕ) (machines orders : List Name) (s : JobShop) (starts : List ℕ) (by_job dated : Bool) (days : List Date) →
-    markup_of (shop_page title lower machines orders s starts by_job dated days) ≡ markup_of (shop_page [] lower [] [] s starts by_job dated days)
-unfolding shop_page
-same_shop title lower machines orders s starts true dated days =
-    same_page title [] lower (greatest_end (step_bars s starts true)) (shop_table machines orders s starts true dated days) [] [] []
-    (shop_lines s true).0 (shop_lines s true).1 [] [] refl
-same_shop title lower machines orders s starts false dated days =
-    same_page title [] lower (greatest_end (step_bars s starts false)) (shop_table machines orders s starts false dated days) [] [] []
-    (shop_lines s false).0 (shop_lines s false).1 [] [] refl
+-- the report of a schedule has the same markup whatever its title and its names are
+pub same_layout : (title : List ℕ) (lower : Option ℕ) (lines legend : List Name) (l : Layout) (starts : List ℕ) (dated : Bool) (days : List Date) (floats slacks : List ℕ) →
+    markup_of (layout_page title lower lines legend l starts dated days floats slacks)
+    ≡ markup_of (layout_page [] lower [] [] l starts dated days floats slacks)
+unfolding layout_page
+same_layout title lower lines legend l starts dated days floats slacks =
+    let makespan = greatest_end (bars_of l starts) in
+    let one = layout_chart lines legend l starts days slacks in
+    let two = layout_chart [] [] l starts days slacks in
+    let rows = row_names l [] [] in
+    let names = bar_names l [] [] in
+    same_page title [] lower makespan (layout_table lines legend l starts dated days floats slacks) rows names (machine_names l [])
+    (lines_of l).0 (lines_of l).1 (section_of l one legend starts makespan) (section_of l two [] starts makespan)
+    (same_section l one rows names legend [] starts makespan)
+
+-- the chart of a schedule has the same markup whatever its title and its names are
+pub same_svg : (title : List ℕ) (lines legend : List Name) (l : Layout) (starts : List ℕ) →
+    markup_of (layout_svg title lines legend l starts) ≡ markup_of (layout_svg [] [] [] l starts)
+same_svg title lines legend l starts =
+    let bars = bars_of l starts in
+    same_image styled_opening title []
+    (record { span = greatest_end bars; days = []; rows = row_names l lines legend; names = bar_names l lines legend; bars = bars; slacks = [] })
+    (row_names l [] []) (bar_names l [] []) (lines_of l).0 (lines_of l).1

@@ -3,6 +3,7 @@ pub mod Names
 pub mod Pieces
 pub mod Place
 pub mod Bars
+pub mod Layouts
 pub mod Axis
 pub mod Days
 pub mod DayLabels

@@ -2,7 +2,7 @@ use Rattle.std.proofs.Common.{ap, subst, ◌∙◌}
 use Rattle.std.specs.Prelude.{IfOk}
 use Rattle.plan_sheet.specs.Bars.{greatest_end}
 use Rattle.plan_sheet.specs.Days.{AreDays, HasDayBeyond}
-use Rattle.plan_sheet.proofs.reports.shop_days.Goals as goal
+use Rattle.plan_sheet.proofs.reports.schedule_days.Goals as goal
 
 pub returns-clause-days : goal.returns-clause-days
 returns-clause-days c =
