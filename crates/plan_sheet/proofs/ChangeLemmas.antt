@@ -2,39 +2,63 @@
 use Rattle.std.proofs.Common.{◌≡◌, ◌≢◌, ℕ, zero, suc, ◌+◌, ◌-◌, ◌<◌, ◌≤◌, Bool, true, false, ◌&&◌, ◌==◌, if◌then◌else◌, nat_le, nat_lt, List, [], ◌∷◌, ◌++◌, length, take, get_or, min, flat_map, refl, sym, ap, ap₂, ◌∙◌, subst, arith, append-nil}
 use Rattle.std.specs.List.{All, range_with_len, sum_by}
 use Rattle.std.proofs.lemmas.Bool.Decides.{nat_tests}
-use Rattle.std.proofs.lemmas.List.{flat_map_more, take_more}
-use Rattle.std.proofs.lemmas.List.Elements.{All-head, All-tail, All-push}
+use Rattle.std.proofs.lemmas.List.{flat_map_more}
+use Rattle.std.proofs.lemmas.List.Elements.{All-nil, All-cons, All-head, All-tail}
+use Rattle.std.proofs.lemmas.List.Sums.{sum_by-cons}
 use Rattle.jiff_core.specs.declared.civil.date.Date.{Date}
-use Rattle.plan_sheet.specs.Changes.{IsQuiet, earlier}
-use Rattle.plan_sheet.specs.Usage.{step_at}
+use Rattle.plan_sheet.specs.Axis.{axis_from}
+use Rattle.plan_sheet.specs.Changes.{IsQuiet, change_after, earlier, least_after}
+use Rattle.plan_sheet.specs.Place.{place}
+use Rattle.plan_sheet.specs.Usage.{level, step, step_at}
 use Rattle.plan_sheet.specs.Uses.{amount_at, used_at, used_before}
 use Rattle.plan_sheet.specs.declared.uses.Use.{Use}
 use Rattle.plan_sheet.proofs.NumberedLemmas.{range_more}
 
--- the lesser instant is after t, at most the one before, and no later instant is between
-pub earlier_later : (t at next : ℕ) → t < next → t < earlier t at next
-unfolding earlier
-earlier_later t at next late = grind (arith, nat_tests)
+-- an instant that is not before the lesser one is no end
+least_later : (t at next : ℕ) → t < next → t < least_after t at next
+least_later t at next late = grind (arith, nat_tests)
 
-pub earlier_most : (t at next : ℕ) → earlier t at next ≤ next
-unfolding earlier
-earlier_most t at next = grind (arith, nat_tests)
+least_most : (t at next : ℕ) → least_after t at next ≤ next
+least_most t at next = grind (arith, nat_tests)
 
-earlier_quiet : (t at next u : ℕ) → t < u → u < earlier t at next → at ≢ u
-unfolding earlier
-earlier_quiet t at next u late before = grind (arith, nat_tests)
+least_quiet : (t at next u : ℕ) → t < u → u < least_after t at next → at ≢ u
+least_quiet t at next u late before = grind (arith, nat_tests)
 
--- one more use
-pub quiet_more : (uses : List Use) (k t next u : ℕ) (one : Use) → k < length uses → one ≡ get_or uses k one → t < u →
-    u < earlier t one.to (earlier t one.from next) → (u < next → IsQuiet (take k uses) u) → IsQuiet (take (k + 1) uses) u
-quiet_more uses k t next u one below is late before so_far =
-    let first = earlier t one.from next in
-    let within : u < first = omega (arith, before, earlier_most t one.to first) in
+earlier_later : (t next : ℕ) (one : Use) → t < next → t < earlier t one next
+unfolding earlier
+earlier_later t next one late = least_later t one.to (least_after t one.from next) (least_later t one.from next late)
+
+earlier_most : (t next : ℕ) (one : Use) → earlier t one next ≤ next
+unfolding earlier
+earlier_most t next one =
+    omega (arith, least_most t one.to (least_after t one.from next), least_most t one.from next)
+
+earlier_quiet : (t next u : ℕ) (one : Use) → t < u → u < earlier t one next → (one.from ≢ u) × (one.to ≢ u)
+unfolding earlier
+earlier_quiet t next u one late before =
+    let first = least_after t one.from next in (
+      least_quiet t one.from next u late (omega (arith, before, least_most t one.to first)),
+      least_quiet t one.to first u late before,
+    )
+
+-- the first change is after t, and at most the last instant
+pub change_later : (uses : List Use) (t last : ℕ) → t < last → t < change_after t last uses
+change_later [] t last late = late
+change_later (one ∷ uses) t last late = change_later uses t (earlier t one last) (earlier_later t last one late)
+
+pub change_most : (uses : List Use) (t last : ℕ) → change_after t last uses ≤ last
+change_most [] t last = omega arith
+change_most (one ∷ uses) t last =
+    omega (arith, change_most uses t (earlier t one last), earlier_most t last one)
+
+-- no use begins or ends between t and the first change
+pub change_quiet : (uses : List Use) (t last u : ℕ) → t < u → u < change_after t last uses → IsQuiet uses u
+change_quiet [] t last u late before = All-nil _
+change_quiet (one ∷ uses) t last u late before =
     let P : Use → Type 0 = λ x. (x.from ≢ u) × (x.to ≢ u) in
-    let more : take (k + 1) uses ≡ take k uses ++ one ∷ [] = take_more uses k one below ∙ ap (λ x. take k uses ++ x ∷ []) (sym is) in
-    subst (λ xs. All P xs) (sym more)
-    (All-push P (take k uses) one (so_far (omega (arith, within, earlier_most t one.from next)))
-    (earlier_quiet t one.from next u late within, earlier_quiet t one.to first u late before))
+    let next = earlier t one last in
+    let within : u < next = omega (arith, before, change_most uses t next) in
+    All-cons P one uses (earlier_quiet t last u one late within) (change_quiet uses t next u late before)
 
 le_same : (a t : ℕ) → a ≢ t + 1 → nat_le a (t + 1) ≡ nat_le a t
 le_same a t other = grind (arith, nat_tests)
@@ -53,20 +77,32 @@ sum_same [] t quiet = refl
 sum_same (one ∷ uses) t quiet =
     let P : Use → Type 0 = λ x. (x.from ≢ t + 1) × (x.to ≢ t + 1) in
     let this = All-head P one uses quiet in
-    ap₂ (λ x y. x + y) (amount_same t one this.0 this.1) (sum_same uses t (All-tail P one uses quiet))
+    sum_by-cons (amount_at (t + 1)) one uses
+    ∙ ap₂ (λ x y. x + y) (amount_same t one this.0 this.1) (sum_same uses t (All-tail P one uses quiet))
+    ∙ sym (sum_by-cons (amount_at t) one uses)
 
 before_same : (uses : List Use) (t : ℕ) → IsQuiet uses (t + 1) → used_at uses (t + 1) ≡ used_before uses (t + 1)
 unfolding used_before
-before_same uses t quiet = ap (λ n. min n 4294967295) (sum_same uses t quiet)
+before_same uses t quiet =
+    let same : used_at uses (t + 1) ≡ used_at uses t = ap (λ n. min n 4294967295) (sum_same uses t quiet) in
+    let later : nat_lt (t + 1) 1 ≡ false = grind (arith, nat_tests) in
+    let back : t + 1 - 1 ≡ t = omega arith in
+    same ∙ sym (ap (λ b. if b then 0 else used_at uses (t + 1 - 1)) later ∙ ap (λ n. used_at uses n) back)
 
 same_test : (a b : ℕ) → a ≡ b → (a == b) ≡ true
 same_test a b same = grind (arith, nat_tests)
 
+quiet_next : (span : ℕ) (days : List Date) (capacity : ℕ) (uses : List Use) (t : ℕ) → IsQuiet uses (t + 1) → step_at span days capacity uses (t + 1) ≡ []
+quiet_next span days capacity uses t quiet =
+    ap (λ (b : Bool). if b then [] else step (place span (axis_from days (t + 1))) (level capacity (used_at uses (t + 1))))
+    (same_test (used_at uses (t + 1)) (used_before uses (t + 1)) (before_same uses t quiet))
+
 -- no step at a quiet instant
 pub quiet_step : (span : ℕ) (days : List Date) (capacity : ℕ) (uses : List Use) (t u : ℕ) → t < u → IsQuiet uses u → step_at span days capacity uses u ≡ []
-quiet_step span days capacity uses t zero late quiet = absurd (omega (arith, late))
-quiet_step span days capacity uses t (suc u) late quiet =
-    rw (same_test (used_at uses (u + 1)) (used_before uses (u + 1)) (before_same uses u quiet)) refl
+quiet_step span days capacity uses t u late quiet =
+    let is : u - 1 + 1 ≡ u = omega (arith, late) in
+    subst (λ n. step_at span days capacity uses n ≡ []) is
+    (quiet_next span days capacity uses (u - 1) (subst (λ n. IsQuiet uses n) (sym is) quiet))
 
 -- numbers that add nothing
 skip : (f : ℕ → List ℕ) (before : List ℕ) (n k m : ℕ) → k + n ≡ m → ((u : ℕ) → k ≤ u → u < m → f u ≡ []) →
