@@ -1,14 +1,16 @@
 //! Days as an axis shows them.
 
-ghost use Rattle.std.specs.Prelude.{◌≡◌, IfOk, string_bytes};
+ghost use Rattle.std.specs.Prelude.{◌≡◌, ◌++◌, IfOk, OnOk, string_bytes};
 ghost use Rattle.plan_sheet.specs.DayLabels as spec;
 
 use crate::axis::day_number;
 use crate::days::day_text;
 use jiff::civil::Date;
 use std::alloc::{AllocError, Global};
+use std::fmt::Write;
 
 // Returns the name of a day of the week, from Monday on.
+#[tactic(auto, unfolding(crate::specs::DayLabels::weekday_name))]
 fn weekday_name(n: u32) -> &'static str
     ensures { result.now ≡ spec.weekday_name n }
 {
@@ -24,6 +26,7 @@ fn weekday_name(n: u32) -> &'static str
 }
 
 // Returns the name of a month.
+#[tactic(auto, unfolding(crate::specs::DayLabels::month_name))]
 fn month_name(n: u8) -> &'static str
     ensures { result.now ≡ spec.month_name n }
 {
@@ -43,16 +46,26 @@ fn month_name(n: u8) -> &'static str
     }
 }
 
+// Appends the number of a day between the names.
+#[tactic(auto, unfolding(crate::specs::DayLabels::number_part))]
+fn push_number_part(text: &mut String, number: u8) -> Result<(), AllocError>
+    ensures { OnOk result
+        (string_bytes text.new ≡ string_bytes text.old ++ spec.number_part number) }
+{
+    write!(text, " {number} ")
+}
+
 // Returns a day with its name, as in `Mon 30 Nov`.
 #[tactic(auto, unfolding(crate::specs::DayLabels::weekday_text))]
 fn weekday_text(alloc: Global, day: Date) -> Result<String, AllocError>
     ensures { IfOk result (λ text. string_bytes text ≡ spec.weekday_text day) }
 {
-    let weekday = weekday_name(day_number(day) % 7);
     let plain = day.to_plain();
-    let number = plain.day;
-    let month = month_name(plain.month);
-    format!(in alloc; "{weekday} {number} {month}")
+    let mut text = String::new(alloc);
+    text.push_str(weekday_name(day_number(day) % 7))?;
+    push_number_part(&mut text, plain.day)?;
+    text.push_str(month_name(plain.month))?;
+    Ok(text)
 }
 
 /// Returns the label of instant `t` on an axis of this length: its day with its name, or its date if
