@@ -1,4 +1,4 @@
-use Rattle.std.proofs.Common.{chars, ap, ◌-◌, arith}
+use Rattle.std.proofs.Common.{ap, ◌-◌, arith}
 use Rattle.std.specs.Str.Iter.{chars_rest}
 use Rattle.std.proofs.lemmas.Str.{IsUtf8-past_char}
 use Rattle.plan_sheet.proofs.CutLemmas.{fits_step, fits_stop, fits_end}

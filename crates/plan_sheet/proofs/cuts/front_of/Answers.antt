@@ -1,4 +1,4 @@
-use Rattle.std.proofs.Common.{◌≡◌, ◌++◌, chars, string_bytes, encode_utf8, ap, ◌-◌, arith, rules}
+use Rattle.std.proofs.Common.{◌≡◌, ◌++◌, string_bytes, encode_utf8, ap, ◌-◌, arith, rules}
 use Rattle.std.specs.Str.Iter.{chars_rest}
 use Rattle.std.proofs.lemmas.Str.{IsUtf8-past_char}
 use Rattle.plan_sheet.proofs.CutLemmas.{front_step, front_stop, front_end}
