@@ -1,4 +1,4 @@
-use Rattle.std.proofs.Common.{rules, ℕ, List, IfErr, subst}
+use Rattle.std.proofs.Common.{rules, IfErr}
 use Rattle.std.specs.Prelude.{IsErrOf}
 use Rattle.plan_orlib.proofs.NameLemmas.{mapped}
 use Rattle.plan_errors.specs.Output.{Refuses}
