@@ -16,7 +16,7 @@ pub links_are : (ids : List Name) (given : List Capacity) (file : List ℕ) (p :
 links_are ids given file p names available capacities i links says named same replaces is made = (
   p,
   says,
-  capacities,
+  (capacities,
   subst (λ (n : List Name). Replaces n given p.available capacities) named (subst (λ (l : List ℕ). Replaces names given l capacities) same replaces),
-  subst (λ (n : List Name). links ≡ project_links (planned p capacities) n ids) named (subst (λ (j : Planned). links ≡ project_links j names ids) is made),
+  subst (λ (n : List Name). links ≡ project_links (planned p capacities) n ids) named (subst (λ (j : Planned). links ≡ project_links j names ids) is made)),
 )

@@ -49,14 +49,14 @@ unread of file e told = refuses_as (TellsNoList [] file) (RefusesReading of file
 pub kind_refused : (of : Subject) (file list : List ℕ) (kind : Option ListKind) (e : CliFault) → IsListOf [] file list → IsKind list kind
     → Refuses (RefusesKind kind of list) e → Refuses (RefusesReading of file) e
 kind_refused of file list kind e is is_kind told =
-    refuses_as (RefusesKind kind of list) (RefusesReading of file) e (λ line tells. inr (list, is, kind, is_kind, tells)) told
+    refuses_as (RefusesKind kind of list) (RefusesReading of file) e (λ line tells. inr (list, is, (kind, is_kind, tells))) told
 
 -- what is read of the plain list of a file is what a command reads in the file
 pub read_is : (of : Subject) (file list : List ℕ) (kind : Option ListKind) (s : Subject) (made : Option (String Global))
     → IsListOf [] file list → IsKind list kind → IsMadeBy kind of list s made → IsReadAs of file kind s (text_of made file)
 read_is of file list None s None is is_kind same = record { list = list; list_is = is; kind_is = is_kind; read = (same, refl) }
-read_is of file list None s (Some made) is is_kind no = absurd no
-read_is of file list (Some kind) s None is is_kind no = absurd no
+read_is of file list None s (Some made) is is_kind made = absurd made
+read_is of file list (Some kind) s None is is_kind made = absurd made
 read_is of file list (Some kind) s (Some made) is is_kind by = record { list = list; list_is = is; kind_is = is_kind; read = by }
 
 -- the same for the value of a call
@@ -156,14 +156,14 @@ as_front of Holds file whole (Some kind, s, text, is, holds) =
         → IsKind file (Some kind) × IsMadeOf kind file text
     front_made (kind_is, made) = (kind_front file (Some kind) kind_is, made_front kind file text made)
     by_list : OfList [] file (λ l. IsKind l (Some kind) × IsMadeOf kind l text) → ReadsAs of file Holds
-    by_list (l, l_is, kind_is, made) = (Some kind, s, text, record { list = l; list_is = l_is; kind_is = kind_is; read = (made, is.read.1) }, holds)
+    by_list (l, l_is, (kind_is, made)) = (Some kind, s, text, record { list = l; list_is = l_is; kind_is = kind_is; read = (made, is.read.1) }, holds)
 
 made_refused_front : (kind : ListKind) (of : Subject) → HoldsByFront (RefusesMade kind of)
 made_refused_front kind of file line (inl tells) = inl (list_line_front kind file line tells)
 made_refused_front kind of file line (inr (text, made, tells)) = inr (text, made_front kind file text made, tells)
 
 kind_refused_front : (kind : Option ListKind) (of : Subject) → HoldsByFront (RefusesKind kind of)
-kind_refused_front None of file line no = absurd no
+kind_refused_front None of file line tells = absurd tells
 kind_refused_front (Some kind) of file line tells = made_refused_front kind of file line tells
 
 in_front : (of : Subject) → HoldsByFront (RefusesIn of)

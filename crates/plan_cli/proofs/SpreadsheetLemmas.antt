@@ -17,8 +17,8 @@ use Rattle.plan_cli.proofs.RunLemmas.{refuses_as, if_err_weaker}
 -- the error of a file that becomes no plain list refuses it
 pub fault_told : (given : List Override) (file : List ℕ) (first : SpreadsheetFault) (e : CliFault)
     → IsNoPlain given file first → Refuses (TellsFault first) e → Refuses (TellsNoListIf true given file) e
-fault_told given file first e no told =
-    refuses_as (TellsFault first) (TellsNoListIf true given file) e (λ line tells. (first, no, tells)) told
+fault_told given file first e failing told =
+    refuses_as (TellsFault first) (TellsNoListIf true given file) e (λ line tells. (first, failing, tells)) told
 
 -- the error of a workbook refuses a file that begins like it
 pub book_told : (file : List ℕ) (book : Workbook) (e : CliFault) → workbook (take longest_text file) ≡ Some book

@@ -6,13 +6,13 @@ use Rattle.plan_cli.proofs.imports.file_shop_text.Goals as goal
 
 pub returns-clause-made : goal.returns-clause-made
 returns-clause-made c =
-    made_of_list [] c.args.file.now c.utf8.result.now IsShopImportOf c.shop_import_text.result
-    (c.in_ok-plain.plain, c.in_ok-plain.ensures.plain, c.utf8.ensures) c.shop_import_text.ensures.made
+    made_of_list [] c.args.file.now c.utf8-2.result.now IsShopImportOf c.shop_import_text.result
+    (c.in_ok-plain.plain, c.in_ok-plain.ensures.plain, c.utf8-2.ensures) c.shop_import_text.ensures.made
 
 pub returns-clause-refused : goal.returns-clause-refused
 returns-clause-refused c =
-    refused_of_list [] c.args.file.now c.utf8.result.now TellsNoShopImport c.shop_import_text.result
-    (c.in_ok-plain.plain, c.in_ok-plain.ensures.plain, c.utf8.ensures) c.shop_import_text.ensures.refused
+    refused_of_list [] c.args.file.now c.utf8-2.result.now TellsNoShopImport c.shop_import_text.result
+    (c.in_ok-plain.plain, c.in_ok-plain.ensures.plain, c.utf8-2.ensures) c.shop_import_text.ensures.refused
 
 pub returns-in_err-plain-clause-refused : goal.returns-in_err-plain-clause-refused
 returns-in_err-plain-clause-refused c =
