@@ -55,8 +55,8 @@ kind_refused of file list kind e is is_kind told =
 pub read_is : (of : Subject) (file list : List ℕ) (kind : Option ListKind) (s : Subject) (made : Option (String Global))
     → IsListOf [] file list → IsKind list kind → IsMadeBy kind of list s made → IsReadAs of file kind s (text_of made file)
 read_is of file list None s None is is_kind same = record { list = list; list_is = is; kind_is = is_kind; read = (same, refl) }
-read_is of file list None s (Some made) is is_kind made = absurd made
-read_is of file list (Some kind) s None is is_kind made = absurd made
+read_is of file list None s (Some made) is is_kind wrong = absurd wrong
+read_is of file list (Some kind) s None is is_kind wrong = absurd wrong
 read_is of file list (Some kind) s (Some made) is is_kind by = record { list = list; list_is = is; kind_is = is_kind; read = by }
 
 -- the same for the value of a call
