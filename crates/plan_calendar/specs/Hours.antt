@@ -35,6 +35,10 @@ end_of hours unit = hours.opens + (hour_of hours unit + 1) * 60
 abbrev pub time_text : ℕ → List ℕ
 time_text minute = pad2 (minute / 60) ++ 58 ∷ pad2 (minute % 60)
 
+-- a time of day as THHMM00, the basic format of ISO 8601 behind a date
+abbrev pub clock_text : ℕ → List ℕ
+clock_text minute = codes "T" ++ pad2 (minute / 60) ++ pad2 (minute % 60) ++ codes "00"
+
 -- the text is a time of day before the end of the day
 pub record IsTimeText (text : List ℕ) (minute : ℕ) : Type 0 where
   pub spelled : text ≡ time_text minute

@@ -70,6 +70,17 @@ pub fn push_time(text: &mut String, minute: u32) -> Result<(), AllocError>
     push_two_digits(text, minute % 60)
 }
 
+/// Appends a time of day in the basic format of ISO 8601, as `T090000`.
+pub fn push_clock(text: &mut String, minute: u32) -> Result<(), AllocError>
+    requires limit { minute ≤ 1440 }
+    ensures { OnOk result (string_bytes text.new ≡ string_bytes text.old ++ spec.clock_text minute) }
+{
+    text.push('T')?;
+    push_two_digits(text, minute / 60)?;
+    push_two_digits(text, minute % 60)?;
+    text.push_str("00")
+}
+
 /// Returns a date as `2026-11-30`, with its weekday as `Mon 2026-11-30`, and with a time of day
 /// behind it, as `2026-11-30 09:00`.
 pub fn shown_moment(

@@ -63,7 +63,8 @@ impl Hours {
 
     /// Returns the working day of a time unit. Both are counted from 0.
     pub fn working_day(self, unit: u64) -> u64
-        ensures { result ≡ spec.working_day_of self unit }
+        ensures day { result ≡ spec.working_day_of self unit }
+        ensures limit { result ≤ unit }
     {
         unit / self.per_day as u64
     }

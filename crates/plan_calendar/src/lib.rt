@@ -11,7 +11,7 @@ mod weekdays;
 mod weeks;
 
 pub use calendar::{Calendar, CalendarFault};
-pub use clock::{push_time, shown_moment};
+pub use clock::{push_clock, push_time, shown_moment};
 pub use days_off::MOST_HOLIDAYS;
 pub use first_date::date_in;
 pub use hours::{Hours, HoursFault};

@@ -6,7 +6,7 @@ use Rattle.std.proofs.lemmas.Bool.{leb-true}
 use Rattle.std.proofs.lemmas.Bool.Decides.{nat_tests}
 use Rattle.std.proofs.lemmas.Str.{chars_past_char, chars-nil, length-encode, len_utf8_bounds}
 use Rattle.std.proofs.lemmas.List.{nil_from_length}
-use Rattle.plan_sheet.specs.Ics.{has_room, used_with, folded_char, folded, line_end, content_line, property, Event, event_head, event_sequence, event_days, event_tail, event_text, calendar_head, calendar_end, text_value, are_short}
+use Rattle.plan_sheet.specs.Ics.{has_room, used_with, folded_char, folded, line_end, content_line, property, Event, event_head, event_sequence, event_clocks, event_days, event_times, event_tail, event_text, calendar_head, calendar_end, text_value, are_short}
 use Rattle.plan_sheet.specs.Feed.{Feed, stamp_of, bar_event, wants, wanted_text, bar_text, ics_text}
 use Rattle.plan_sheet.specs.declared.bars.Bar.{Bar}
 use Rattle.plan_sheet.proofs.EscapeLemmas.{if_cases}
@@ -113,16 +113,25 @@ keeps_sequence sequence =
     if_cases KeepsShort (nat_lt sequence 1) [] (property (codes "SEQUENCE:") (decimal sequence))
     (λ _. keeps_nothing) (λ _. keeps (codes "SEQUENCE:") (decimal sequence))
 
+keeps_clocks : (begin end : List ℕ) → KeepsShort (event_clocks begin end)
+keeps_clocks begin end =
+    keeps_both (property (codes "DTSTART:") begin) (property (codes "DTEND:") end)
+    (keeps (codes "DTSTART:") begin) (keeps (codes "DTEND:") end)
+
+keeps_times : (timed : Bool) (begin end : List ℕ) → KeepsShort (event_times timed begin end)
+keeps_times true begin end = keeps_clocks begin end
+keeps_times false begin end = keeps_days begin end
+
 keeps_event : (stamp : List ℕ) (event : Event) → KeepsShort (event_text stamp event)
 unfolding event_text
 keeps_event stamp event =
     let head = event_head stamp event.uid in
     let sequence = event_sequence event.sequence in
-    let days = event_days event.first_day event.end_day in
+    let days = event_times event.timed event.begin event.end in
     keeps_both ((head ++ sequence) ++ days) (event_tail event.name)
     (keeps_both (head ++ sequence) days
     (keeps_both head sequence (keeps_head stamp event.uid) (keeps_sequence event.sequence))
-    (keeps_days event.first_day event.end_day)) (keeps_tail event.name)
+    (keeps_times event.timed event.begin event.end)) (keeps_tail event.name)
 
 keeps_wanted : (feed : Feed) (bar : Bar) → KeepsShort (wanted_text feed bar)
 keeps_wanted feed bar =

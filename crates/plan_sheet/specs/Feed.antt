@@ -1,14 +1,16 @@
 -- The calendar file of a plan (docs/definitions.md, "Sheets"; RFC 5545): an event of whole days for
 -- each bar that takes time.
-use Rattle.std.specs.Prelude.{◌≡◌, ℕ, ◌-◌, ◌⊎◌, Bool, false, if◌then◌else◌, nat_lt, List, [], ◌++◌, map, codes, Option, Some, None}
+use Rattle.std.specs.Prelude.{◌≡◌, ℕ, ◌-◌, ◌⊎◌, Bool, false, if◌then◌else◌, nat_lt, List, [], ◌++◌, map, codes, Option, Some, None, is_some}
 use Rattle.std.specs.Option.{option_map}
 use Rattle.std.specs.List.{AllZip, flat_map}
 use Rattle.std.specs.Fmt.{decimal}
 use Rattle.jiff_core.specs.declared.civil.date.Date.{Date}
 use Rattle.plan_calendar.specs.WorkingDay.{Workdays}
+use Rattle.plan_calendar.specs.Hours.{WorkHours}
 use Rattle.plan_table.specs.Names.{Name, name_of}
 use Rattle.plan_sheet.specs.Bars.{greatest_end}
 use Rattle.plan_sheet.specs.Days.{AreDays, HasDayBeyond, HasLastDay, IsDayAfter, compact_day}
+use Rattle.plan_sheet.specs.Moments.{begin_stamp, day_count, end_stamp}
 use Rattle.plan_sheet.specs.Parts.{event_name, is_wanted, name_or_number, parts_of}
 use Rattle.plan_sheet.specs.Ics.{Event, event_text, calendar_head, calendar_end, text_value}
 use Rattle.plan_sheet.specs.declared.bars.Bar.{Bar}
@@ -30,12 +32,14 @@ event_names_of n =
     record { ids = map name_of n.ids.now; names = map name_of n.names.now; resources = map name_of n.resources.now }
 
 -- the events that are wanted: the word of their identifiers, the number of their revision, the name
--- of the one resource, machine or order, and whether their names have the resources
+-- of the one resource, machine or order, whether their names have the
+-- resources, and the hours of a working day if a time unit is an hour
 pub record Events : Type 0 where
   pub uid : Option (List ℕ)
   pub sequence : ℕ
   pub only : Option (List ℕ)
   pub resources : Bool
+  pub hours : Option WorkHours
 
 -- the same, as the program keeps it
 abbrev pub events_of : declared_events.Events → Events
@@ -45,11 +49,12 @@ events_of e =
       sequence = e.sequence;
       only = option_map (λ name. name.now) e.only;
       resources = e.resources;
+      hours = e.hours;
     }
 
--- all events, by their numbers, without resources
+-- all events, by their numbers, without resources, on whole days
 abbrev pub plain_events : Events
-plain_events = record { uid = None; sequence = 0; only = None; resources = false }
+plain_events = record { uid = None; sequence = 0; only = None; resources = false; hours = None }
 
 -- what the events of a plan are about: the digest of its file, its names, and the amounts of the
 -- resources that its activities need
@@ -109,11 +114,12 @@ stamp_of days = compact_day days 0 ++ codes "T000000Z"
 abbrev pub bar_event : Feed → Bar → Event
 bar_event feed bar =
     record {
+      timed = is_some feed.events.hours;
       uid = event_uid feed.events.uid feed.work bar;
       sequence = feed.events.sequence;
       name = event_name feed.events.resources feed.work.names.names feed.work.names.resources bar (parts_of feed.work.needs bar);
-      first_day = compact_day feed.days bar.from;
-      end_day = compact_day feed.nexts (bar.to - 1);
+      begin = begin_stamp feed.events.hours feed.days bar.from;
+      end = end_stamp feed.events.hours feed.days feed.nexts (bar.to - 1);
     }
 
 -- the event of a bar that takes time is wanted
@@ -133,10 +139,10 @@ bar_text feed bar = if nat_lt bar.from bar.to then wanted_text feed bar else []
 abbrev pub ics_text : Feed → List Bar → List ℕ
 ics_text feed bars = calendar_head ++ flat_map (bar_text feed) bars ++ calendar_end
 
--- a text is the calendar file of these bars: instant t is the t-th working day
+-- a text is the calendar file of these bars; the days are those that their time units need
 pub record AreEvents (work : Work) (events : Events) (bars : List Bar) (calendar : Workdays) (text : List ℕ) : Type 0 where
   pub days : List Date
-  pub are : AreDays calendar (greatest_end bars) days
+  pub are : AreDays calendar (day_count events.hours (greatest_end bars)) days
   pub nexts : List Date
   pub follow : AllZip IsDayAfter days nexts
   pub shown : text ≡ ics_text (record { work = work; events = events; days = days; nexts = nexts }) bars

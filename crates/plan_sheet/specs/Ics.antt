@@ -50,18 +50,19 @@ content_line line = folded_text line ++ line_end
 unfoldable pub property : List ℕ → List ℕ → List ℕ
 property name value = content_line (name ++ value)
 
--- an event of whole days; its sequence is the number of its revision
+-- an event, of whole days if it isn't timed; its sequence is the number of its revision
 pub record Event : Type 0 where
+  pub timed : Bool
   pub uid : List ℕ
   pub sequence : ℕ
   pub name : List ℕ
-  pub first_day : List ℕ
-  pub end_day : List ℕ
+  pub begin : List ℕ
+  pub end : List ℕ
 
 -- the same, as the program keeps it
 abbrev pub event_of : declared.Event → Event
 event_of e =
-    record { uid = e.uid.now; sequence = e.sequence; name = e.name.now; first_day = e.first_day.now; end_day = e.end_day.now }
+    record { timed = e.timed; uid = e.uid.now; sequence = e.sequence; name = e.name.now; begin = e.begin.now; end = e.end.now }
 
 -- the first properties of an event
 abbrev pub event_head : List ℕ → List ℕ → List ℕ
@@ -76,6 +77,14 @@ event_sequence sequence = if nat_lt sequence 1 then [] else property (codes "SEQ
 abbrev pub event_days : List ℕ → List ℕ → List ℕ
 event_days first end = property (codes "DTSTART;VALUE=DATE:") first ++ property (codes "DTEND;VALUE=DATE:") end
 
+-- the times of day of an event: when it begins and ends, wherever that is
+abbrev pub event_clocks : List ℕ → List ℕ → List ℕ
+event_clocks begin end = property (codes "DTSTART:") begin ++ property (codes "DTEND:") end
+
+-- the days or the times of an event
+abbrev pub event_times : Bool → List ℕ → List ℕ → List ℕ
+event_times timed begin end = if timed then event_clocks begin end else event_days begin end
+
 -- the last properties of an event
 abbrev pub event_tail : List ℕ → List ℕ
 event_tail name = property (codes "SUMMARY:") (text_value name) ++ property (codes "END:") (codes "VEVENT")
@@ -84,7 +93,7 @@ event_tail name = property (codes "SUMMARY:") (text_value name) ++ property (cod
 unfoldable pub event_text : List ℕ → Event → List ℕ
 event_text stamp event =
     event_head stamp event.uid ++ event_sequence event.sequence
-    ++ event_days event.first_day event.end_day ++ event_tail event.name
+    ++ event_times event.timed event.begin event.end ++ event_tail event.name
 
 -- the first properties of a calendar file
 unfoldable pub calendar_head : List ℕ

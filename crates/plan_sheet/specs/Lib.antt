@@ -5,6 +5,7 @@ pub mod Place
 pub mod Bars
 pub mod Axis
 pub mod Days
+pub mod Moments
 pub mod Marks
 pub mod Titles
 pub mod Chart

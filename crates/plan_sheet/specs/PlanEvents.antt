@@ -6,8 +6,9 @@ use Rattle.plan_calendar.specs.WorkingDay.{Workdays}
 use Rattle.plan_net.specs.Network.{count_of}
 use Rattle.plan_sgs.specs.Instances.{Planned}
 use Rattle.plan_shop.specs.Shop.{JobShop}
-use Rattle.plan_sheet.specs.Bars.{activity_bars, step_bars}
-use Rattle.plan_sheet.specs.Feed.{AreEvents, EventNames, Events}
+use Rattle.plan_sheet.specs.Bars.{activity_bars, step_bars, greatest_end}
+use Rattle.plan_sheet.specs.Feed.{AreEvents, EventNames, Events, HasEventBeyond}
+use Rattle.plan_sheet.specs.Moments.{day_count}
 use Rattle.plan_sheet.specs.Parts.{row_or_empty}
 
 -- the amounts that an activity needs
@@ -24,7 +25,17 @@ AreProjectEvents digest names i starts events calendar text =
     AreEvents (record { digest = digest; names = names; needs = all_needs i }) events
     (activity_bars i.project.network starts) calendar text
 
+-- a day that it needs would be after the last date
+abbrev pub AreEventsBeyond : Planned → List ℕ → Events → Workdays → Type 0
+AreEventsBeyond i starts events calendar =
+    HasEventBeyond calendar (day_count events.hours (greatest_end (activity_bars i.project.network starts)))
+
 -- a text is the calendar file of a job shop: the wanted events of the steps that take time
 abbrev pub AreShopEvents : List ℕ → EventNames → JobShop → List ℕ → Events → Workdays → List ℕ → Type 0
 AreShopEvents digest names s starts events calendar text =
     AreEvents (record { digest = digest; names = names; needs = [] }) events (step_bars s starts false) calendar text
+
+-- a day that it needs would be after the last date
+abbrev pub AreShopEventsBeyond : JobShop → List ℕ → Events → Workdays → Type 0
+AreShopEventsBeyond s starts events calendar =
+    HasEventBeyond calendar (day_count events.hours (greatest_end (step_bars s starts false)))

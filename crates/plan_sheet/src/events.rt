@@ -7,7 +7,6 @@ ghost use Rattle.plan_shop.specs.Shop.{count_steps};
 ghost use Rattle.plan_gantt.specs.Limits.{latest_start};
 ghost use Rattle.plan_sheet.specs.Feed.{event_names_of, events_of};
 ghost use Rattle.plan_sheet.specs.Ics.{are_short};
-ghost use Rattle.plan_sheet.specs.Plans.{IsProjectBeyond, IsShopBeyond};
 ghost use Rattle.plan_sheet.specs.PlanEvents as spec;
 
 use crate::bars::{activity_bars, step_bars};
@@ -66,7 +65,7 @@ pub fn project_events(
         (string_bytes text)) }
     ensures short { IfOk result (λ text. are_short 0 (string_bytes text) ≡ true) }
     ensures beyond { IsErrOf result DaysFault.BeyondCalendar →
-        IsProjectBeyond instance.now.project.network starts.now calendar.now }
+        spec.AreEventsBeyond instance.now starts.now (events_of events.now) calendar.now }
 {
     let bars = activity_bars(alloc, instance.network(), starts)?;
     let needs = all_needs(alloc, instance)?;
@@ -98,7 +97,7 @@ pub fn shop_events(
         (string_bytes text)) }
     ensures short { IfOk result (λ text. are_short 0 (string_bytes text) ≡ true) }
     ensures beyond { IsErrOf result DaysFault.BeyondCalendar →
-        IsShopBeyond shop.now starts.now calendar.now }
+        spec.AreShopEventsBeyond shop.now starts.now (events_of events.now) calendar.now }
 {
     let bars = step_bars(alloc, shop, starts, false)?;
     let work = Work {

@@ -5,15 +5,17 @@ ghost use Rattle.std.specs.List.{flat_map};
 ghost use Rattle.plan_table.specs.Names.{name_of};
 ghost use Rattle.plan_sheet.specs.Bars.{greatest_end};
 ghost use Rattle.plan_sheet.specs.Ics.{are_short, event_text};
+ghost use Rattle.plan_sheet.specs.Moments.{day_count as day_count_of};
 ghost use Rattle.plan_sheet.specs.Parts as spec_parts;
 ghost use Rattle.plan_sheet.specs.Feed as spec;
 
 use crate::bars::{Bar, last_end};
 use crate::days::{compact_day, days_after, working_days};
 use crate::ics::{Event, push_end, push_event, push_head, text_value};
+use crate::moments::{begin_stamp, day_count, end_stamp};
 use crate::parts::{Part, event_name, is_wanted, name_or_number, parts_of};
 use jiff::civil::Date;
-use plan_calendar::Calendar;
+use plan_calendar::{Calendar, Hours};
 use plan_gantt::DaysFault;
 use plan_table::NameLine;
 use std::alloc::{AllocError, Global};
@@ -44,6 +46,9 @@ pub struct Events<'a> {
     pub only: Option<&'a str>,
     /// Whether the name of an event has the resources or the machine, as `Walls (crew 2, digger 1)`.
     pub resources: bool,
+    /// The hours of a working day, if a time unit is an hour: events have times of day. `None`: a
+    /// time unit is a working day, and events have whole days.
+    pub hours: Option<Hours>,
 }
 
 impl<'a> Events<'a> {
@@ -56,6 +61,7 @@ impl<'a> Events<'a> {
             sequence: 0,
             only: None,
             resources: false,
+            hours: None,
         }
     }
 }
@@ -163,14 +169,16 @@ fn push_bar_event(
     let name = event_name(
         alloc, feed.events.resources, names.names, names.resources, bar, parts,
     )?;
-    let first_day = compact_day(alloc, feed.days, bar.from)?;
-    let end_day = compact_day(alloc, feed.nexts, bar.to - 1)?;
+    let hours = feed.events.hours;
+    let begin = begin_stamp(alloc, hours, feed.days, bar.from)?;
+    let end = end_stamp(alloc, hours, feed.days, feed.nexts, bar.to - 1)?;
     let event = Event {
+        timed: hours.is_some(),
         uid: &uid,
         sequence: feed.events.sequence,
         name: &name,
-        first_day: &first_day,
-        end_day: &end_day,
+        begin: &begin,
+        end: &end,
     };
     push_event(alloc, text, &stamp, &event)
 }
@@ -249,9 +257,11 @@ pub(crate) fn bars_events(
         (spec.events_of events.now) bars.now calendar.now (string_bytes text)) }
     ensures short { IfOk result (λ text. are_short 0 (string_bytes text) ≡ true) }
     ensures beyond { IsErrOf result DaysFault.BeyondCalendar →
-        spec.HasEventBeyond calendar.now (greatest_end bars.now) }
+        spec.HasEventBeyond calendar.now
+        (day_count_of (spec.events_of events.now).hours (greatest_end bars.now)) }
 {
-    let days = working_days(alloc, calendar, u64::from(last_end(bars)))?;
+    let count = day_count(events.hours, last_end(bars));
+    let days = working_days(alloc, calendar, count)?;
     let nexts = days_after(alloc, &days)?;
     let feed = Feed {
         work: *work,

@@ -6,17 +6,20 @@ ghost use Rattle.plan_sheet.specs.Ics as spec;
 use crate::escape::shown;
 use std::alloc::{AllocError, Global};
 
-/// An event of whole days. Dates are eight digits, as `20240301`.
+/// An event. Dates are eight digits, as `20240301`, moments with a time `20240301T090000`.
 #[derive(Drop)]
 pub struct Event<'a> {
+    /// Whether it has times of day; else it has whole days.
+    pub timed: bool,
     /// The identifier of the event, unique in the world.
     pub uid: &'a str,
     /// The number of its revision, from 0.
     pub sequence: u32,
     pub name: &'a str,
-    pub first_day: &'a str,
-    /// The day after the last one.
-    pub end_day: &'a str,
+    /// The first day, or the moment at which it begins.
+    pub begin: &'a str,
+    /// The day after the last one, or the moment at which it ends.
+    pub end: &'a str,
 }
 
 // Appends a character of a text value (section 3.3.11).
@@ -151,6 +154,38 @@ fn push_event_days(
     push_property(alloc, text, "DTEND;VALUE=DATE:", end_day)
 }
 
+// The times of day of an event.
+fn push_event_clocks(
+    alloc: Global,
+    text: &mut String,
+    begin: &str,
+    end: &str,
+) -> Result<(), AllocError>
+    ensures { OnOk result
+        (string_bytes text.new ≡ string_bytes text.old ++ spec.event_clocks begin.now end.now) }
+{
+    push_property(alloc, text, "DTSTART:", begin)?;
+    push_property(alloc, text, "DTEND:", end)
+}
+
+// The days or the times of an event.
+fn push_event_times(
+    alloc: Global,
+    text: &mut String,
+    timed: bool,
+    begin: &str,
+    end: &str,
+) -> Result<(), AllocError>
+    ensures { OnOk result (string_bytes text.new
+        ≡ string_bytes text.old ++ spec.event_times timed begin.now end.now) }
+{
+    if timed {
+        push_event_clocks(alloc, text, begin, end)
+    } else {
+        push_event_days(alloc, text, begin, end)
+    }
+}
+
 // The last properties of an event.
 fn push_event_tail(alloc: Global, text: &mut String, name: &str) -> Result<(), AllocError>
     ensures { OnOk result
@@ -174,7 +209,7 @@ pub(crate) fn push_event(
 {
     push_event_head(alloc, text, stamp, event.uid)?;
     push_event_sequence(alloc, text, event.sequence)?;
-    push_event_days(alloc, text, event.first_day, event.end_day)?;
+    push_event_times(alloc, text, event.timed, event.begin, event.end)?;
     push_event_tail(alloc, text, event.name)
 }
 

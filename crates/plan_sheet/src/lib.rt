@@ -11,6 +11,7 @@ mod events;
 mod feed;
 mod ics;
 mod marks;
+mod moments;
 mod names;
 mod page;
 mod parts;

@@ -2,6 +2,7 @@ use Rattle.std.proofs.Common.{[], string_bytes, subst, ◌∙◌}
 use Rattle.std.specs.Prelude.{IfOk}
 use Rattle.plan_sheet.specs.Bars.{greatest_end}
 use Rattle.plan_sheet.specs.Feed.{AreEvents, HasEventBeyond, event_names_of, events_of}
+use Rattle.plan_sheet.specs.Moments.{day_count}
 use Rattle.plan_sheet.proofs.events.shop_events.Goals as goal
 
 pub returns-clause-text : goal.returns-clause-text
@@ -13,4 +14,4 @@ returns-clause-text c =
 
 pub returns-clause-beyond : goal.returns-clause-beyond
 returns-clause-beyond c is =
-    subst (λ bs. HasEventBeyond c.args.calendar.now (greatest_end bs)) (c.deref.ensures.value ∙ c.in_ok-bars.ensures) (c.bars_events.ensures.beyond is)
+    subst (λ bs. HasEventBeyond c.args.calendar.now (day_count (events_of c.args.events.now).hours (greatest_end bs))) (c.deref.ensures.value ∙ c.in_ok-bars.ensures) (c.bars_events.ensures.beyond is)
