@@ -1,0 +1,141 @@
+//! The tables of working days with weekdays and times of day.
+
+ghost use Rattle.std.specs.Prelude.{◌≡◌, ◌+◌, ◌<◌, ◌≤◌, EachIndex, IfOk, IsErrOf, length};
+ghost use Rattle.std.specs.Prelude.{slice_index, string_bytes};
+ghost use Rattle.plan_calendar.specs.WorkingDay.{IsBeyond};
+ghost use Rattle.plan_gantt.specs.Limits.{latest_start, latest_end};
+ghost use Rattle.plan_views.specs.Moments as spec;
+ghost use Rattle.plan_views.specs.Plans.{count_of, interval_of, plan_of};
+
+use crate::plans::{PlanRef, count, duration_at};
+use jiff::civil::Date;
+use plan_calendar::{Calendar, Hours, shown_moment};
+use plan_gantt::DaysFault;
+use std::alloc::{AllocError, Global};
+
+/// How the moments of a plan are shown.
+#[derive(Clone, Copy)]
+pub struct MomentStyle {
+    /// Whether the weekday stands before the date, as in `Mon 2026-11-30`.
+    pub weekdays: bool,
+    /// The hours of a working day, if a time unit is an hour. Then the time of day stands behind the
+    /// date, as in `2026-11-30 09:00`.
+    pub hours: Option<Hours>,
+}
+
+/// The moments at which an activity or step begins and ends, as they are shown. Both are empty if
+/// its duration is 0.
+#[derive(Drop)]
+pub struct Moments {
+    pub first: String,
+    pub last: String,
+}
+
+// Returns the date of a time unit.
+fn date_of(calendar: &Calendar, style: MomentStyle, unit: u64) -> Result<Date, DaysFault>
+    ensures day { IfOk result (IsWorkingDay calendar.now (spec.day_of style.hours unit)) }
+    ensures beyond { IsErrOf result DaysFault.BeyondCalendar →
+        IsBeyond calendar.now (spec.day_of style.hours unit) }
+{
+    let day = match style.hours {
+        Some(hours) => hours.working_day(unit),
+        None => unit,
+    };
+    let Ok(date) = calendar.day(day) else {
+        return Err(DaysFault::BeyondCalendar);
+    };
+    Ok(date)
+}
+
+// Returns the text of the moment at which a time unit begins.
+fn begin_text(
+    alloc: Global,
+    calendar: &Calendar,
+    style: MomentStyle,
+    unit: u64,
+) -> Result<String, DaysFault>
+    ensures text { IfOk result (λ text.
+        spec.IsBeginText calendar.now style unit (string_bytes text)) }
+    ensures beyond { IsErrOf result DaysFault.BeyondCalendar →
+        IsBeyond calendar.now (spec.day_of style.hours unit) }
+{
+    let date = date_of(calendar, style, unit)?;
+    let minute = match style.hours {
+        Some(hours) => Some(hours.begin(unit)),
+        None => None,
+    };
+    let text = shown_moment(alloc, style.weekdays, date, minute)?;
+    Ok(text)
+}
+
+// Returns the text of the moment at which a time unit ends.
+fn end_text(
+    alloc: Global,
+    calendar: &Calendar,
+    style: MomentStyle,
+    unit: u64,
+) -> Result<String, DaysFault>
+    ensures text { IfOk result (λ text.
+        spec.IsEndText calendar.now style unit (string_bytes text)) }
+    ensures beyond { IsErrOf result DaysFault.BeyondCalendar →
+        IsBeyond calendar.now (spec.day_of style.hours unit) }
+{
+    let date = date_of(calendar, style, unit)?;
+    let minute = match style.hours {
+        Some(hours) => Some(hours.end(unit)),
+        None => None,
+    };
+    let text = shown_moment(alloc, style.weekdays, date, minute)?;
+    Ok(text)
+}
+
+// Returns the moments of so many time units from a start on.
+fn moments_of(
+    alloc: Global,
+    calendar: &Calendar,
+    style: MomentStyle,
+    start: u64,
+    duration: u64,
+) -> Result<Moments, DaysFault>
+    requires { start + duration ≤ latest_end }
+    ensures moments { IfOk result (λ m.
+        spec.AreMoments calendar.now style start duration (spec.pair_of m)) }
+    ensures beyond { IsErrOf result DaysFault.BeyondCalendar →
+        spec.HidesMoment calendar.now style start duration }
+{
+    if duration == 0 {
+        return Ok(Moments {
+            first: String::new(alloc),
+            last: String::new(alloc),
+        });
+    }
+    let first = begin_text(alloc, calendar, style, start)?;
+    let last = end_text(alloc, calendar, style, start + (duration - 1))?;
+    Ok(Moments { first, last })
+}
+
+/// Returns the moments of the activities of a project, or of the steps of a job shop in flat order.
+/// Index `k` of `starts` is activity `k + 1` or flat step `k`. Fails with
+/// [`DaysFault::BeyondCalendar`] if one of the days would be after 9999-12-31.
+pub fn moments(
+    alloc: Global,
+    plan: PlanRef<'_>,
+    starts: &[u64],
+    calendar: &Calendar,
+    style: MomentStyle,
+) -> Result<Vec<Moments>, DaysFault>
+    requires starts { length starts.now ≡ count_of (plan_of plan) }
+    requires limit { EachIndex starts.now (λ k. slice_index starts.now k ≤ latest_start) }
+    ensures rows { IfOk result (λ rows. spec.AreAllMoments calendar.now style
+        (plan_of plan.entry) starts.now rows.items) }
+    ensures beyond { IsErrOf result DaysFault.BeyondCalendar →
+        spec.HasMomentBeyond calendar.now style (plan_of plan.entry) starts.now }
+{
+    let mut rows = Vec::new(alloc);
+    for k in 0..count(plan) {
+        let start = starts[k as usize];
+        let row = moments_of(alloc, calendar, style, start, duration_at(plan, k))?;
+        rows.push(row)?;
+    }
+    Ok(rows)
+}
