@@ -42,11 +42,7 @@ fn compact_at(alloc: Global, days: &[Date], index: u64) -> Result<String, AllocE
 }
 
 // Appends the time at which a time unit begins, or nothing without hours.
-fn push_begin_clock(
-    text: &mut String,
-    hours: Option<Hours>,
-    unit: u32,
-) -> Result<(), AllocError>
+fn push_begin_clock(text: &mut String, hours: Option<Hours>, unit: u32) -> Result<(), AllocError>
     ensures { OnOk result
         (string_bytes text.new ≡ string_bytes text.old ++ spec.begin_clock hours unit) }
 {
@@ -106,7 +102,13 @@ pub(crate) fn end_stamp(
     let index = u64::from(unit);
     match hours {
         Some(hours) => {
-            end_moment(alloc, days, nexts, hours.working_day(index), hours.end(index))
+            end_moment(
+                alloc,
+                days,
+                nexts,
+                hours.working_day(index),
+                hours.end(index),
+            )
         }
         None => compact_at(alloc, nexts, index),
     }

@@ -85,11 +85,7 @@ fn row_at<'a>(needs: &'a [&'a [u64]], number: u32) -> &'a [u64]
 /// Returns the resources that an activity needs, or the machine of a step. Row `k` of `needs` has
 /// the amounts of activity `k + 1`.
 #[tactic(auto, unfolding(crate::specs::Parts::parts_of))]
-pub(crate) fn parts_of(
-    alloc: Global,
-    needs: &[&[u64]],
-    bar: Bar,
-) -> Result<Vec<Part>, AllocError>
+pub(crate) fn parts_of(alloc: Global, needs: &[&[u64]], bar: Bar) -> Result<Vec<Part>, AllocError>
     ensures { IfOk result (λ parts.
         parts.items ≡ spec.parts_of (map (λ row. row.now) needs.now) bar) }
 {

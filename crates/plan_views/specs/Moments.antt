@@ -85,3 +85,30 @@ moment_places style = 12 + (if style.weekdays then 4 else 0) + clock_places styl
 abbrev pub clock_places : Option WorkHours → ℕ
 clock_places None = 0
 clock_places (Some hours) = 6
+
+-- the cell of a text; an empty one for no text
+abbrev pub moment_cell : List ℕ → Cell
+moment_cell [] = empty
+moment_cell (byte ∷ bytes) = text (byte ∷ bytes)
+
+-- the texts at an index
+abbrev pub pair_or_none : Option Pair → Pair
+pair_or_none None = record { first = []; last = [] }
+pair_or_none (Some pair) = pair
+
+-- row k of the table
+abbrev pub moment_row : Plan → List Pair → ℕ → List Cell
+moment_row p pairs k =
+    front_of p k ++ moment_cell (pair_or_none (slice_get pairs k)).first
+    ∷ moment_cell (pair_or_none (slice_get pairs k)).last ∷ []
+
+-- the columns of the moments
+abbrev pub moment_columns : MomentStyle → List Column
+moment_columns style = right_column (codes "first") (codes "first_day") (moment_places style)
+    ∷ right_column (codes "last") (codes "last_day") (moment_places style) ∷ []
+
+-- the table of the moments of a plan
+abbrev pub moments_view : Plan → MomentStyle → List Pair → Table
+moments_view p style pairs =
+    plain_view_of (front_columns p ++ moment_columns style)
+    (map (moment_row p pairs) (range_with_len 0 (count_of p)))

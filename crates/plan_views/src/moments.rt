@@ -1,15 +1,22 @@
 //! The tables of working days with weekdays and times of day.
 
-ghost use Rattle.std.specs.Prelude.{◌≡◌, ◌+◌, ◌<◌, ◌≤◌, EachIndex, IfOk, IsErrOf, length};
-ghost use Rattle.std.specs.Prelude.{slice_index, string_bytes};
-ghost use Rattle.plan_calendar.specs.WorkingDay.{IsBeyond};
+ghost use Rattle.std.specs.Prelude.{◌≡◌, ◌+◌, ◌++◌, ◌<◌, ◌≤◌, EachIndex, IfOk, IsErrOf, length};
+ghost use Rattle.std.specs.Prelude.{map, slice_index, string_bytes};
+ghost use Rattle.std.specs.List.{range_with_len};
+ghost use Rattle.plan_calendar.specs.WorkingDay.{IsBeyond, IsWorkingDay};
 ghost use Rattle.plan_gantt.specs.Limits.{latest_start, latest_end};
+ghost use Rattle.plan_formats.specs.Cells.{cell_of};
+ghost use Rattle.plan_formats.specs.Columns.{column_of};
+ghost use Rattle.plan_formats.specs.Tables.{cells_of, rows_of, table_of};
 ghost use Rattle.plan_views.specs.Moments as spec;
-ghost use Rattle.plan_views.specs.Plans.{count_of, interval_of, plan_of};
+ghost use Rattle.plan_views.specs.Plans.{count_of, front_columns as front_columns_of, plan_of};
 
-use crate::plans::{PlanRef, count, duration_at};
+use crate::headings::right;
+use crate::plans::{PlanRef, count, duration_at, front, front_columns};
+use crate::rows::push_row;
 use jiff::civil::Date;
 use plan_calendar::{Calendar, Hours, shown_moment};
+use plan_formats::{Cell, Column, Table};
 use plan_gantt::DaysFault;
 use std::alloc::{AllocError, Global};
 
@@ -138,4 +145,97 @@ pub fn moments(
         rows.push(row)?;
     }
     Ok(rows)
+}
+
+// Returns the width of a column.
+fn places(style: MomentStyle) -> usize
+    ensures { result ≡ spec.moment_places style }
+{
+    let weekday = if style.weekdays { 4 } else { 0 };
+    let clock = match style.hours {
+        Some(_) => 6,
+        None => 0,
+    };
+    12 + weekday + clock
+}
+
+// Returns the columns.
+fn columns(alloc: Global, plan: PlanRef<'_>, style: MomentStyle) -> Result<Vec<Column>, AllocError>
+    ensures { IfOk result (λ columns. map column_of columns.items
+        ≡ front_columns_of (plan_of plan.entry) ++ spec.moment_columns style) }
+{
+    let mut columns = front_columns(alloc, plan)?;
+    columns.push(right("first", "first_day", places(style)))?;
+    columns.push(right("last", "last_day", places(style)))?;
+    Ok(columns)
+}
+
+// Returns the cell of a text, or an empty one for no text.
+fn moment_cell<'a>(text: &'a str) -> Cell<'a>
+    ensures { cell_of result ≡ spec.moment_cell text.now }
+{
+    if text.len() < 1 {
+        return Cell::Empty;
+    }
+    Cell::Text(text.as_bytes())
+}
+
+// Returns row `k`.
+fn moment_row<'a>(
+    alloc: Global,
+    plan: PlanRef<'_>,
+    moments: &'a [Moments],
+    k: u32,
+) -> Result<Vec<Cell<'a>>, AllocError>
+    requires row { k < count_of (plan_of plan) }
+    requires moments { length moments.now ≡ count_of (plan_of plan) }
+    ensures { IfOk result (λ row. cells_of row.items
+        ≡ spec.moment_row (plan_of plan.entry) (map spec.pair_of moments.now) k) }
+{
+    let own = &moments[k as usize];
+    let mut row = front(alloc, plan, k)?;
+    row.push(moment_cell(&own.first))?;
+    row.push(moment_cell(&own.last))?;
+    Ok(row)
+}
+
+// Returns the rows.
+fn moment_rows<'a>(
+    alloc: Global,
+    plan: PlanRef<'_>,
+    moments: &'a [Moments],
+) -> Result<Vec<Vec<Cell<'a>>>, AllocError>
+    requires { length moments.now ≡ count_of (plan_of plan) }
+    ensures { IfOk result (λ rows. rows_of rows.items
+        ≡ map (spec.moment_row (plan_of plan.entry) (map spec.pair_of moments.now))
+        (range_with_len 0 (count_of (plan_of plan.entry)))) }
+{
+    let mut rows = Vec::new(alloc);
+    for k in 0..count(plan) {
+        let row = moment_row(alloc, plan, moments, k)?;
+        push_row(&mut rows, row)?;
+    }
+    Ok(rows)
+}
+
+/// Returns the table of the moments of a plan: a row for each activity of a project, or for each
+/// step of a job shop in flat order. A row has the activity's number, or the step's job and number
+/// in the job, and the two texts, or empty cells if they are empty.
+pub fn moments_view<'a>(
+    alloc: Global,
+    plan: PlanRef<'_>,
+    style: MomentStyle,
+    moments: &'a [Moments],
+) -> Result<Table<'a>, AllocError>
+    requires { length moments.now ≡ count_of (plan_of plan) }
+    ensures { IfOk result (λ table. table_of table
+        ≡ spec.moments_view (plan_of plan.entry) style (map spec.pair_of moments.now)) }
+{
+    let rows = moment_rows(alloc, plan, moments)?;
+    Ok(Table {
+        above: Vec::new(alloc),
+        columns: columns(alloc, plan, style)?,
+        rows,
+        below: Vec::new(alloc),
+    })
 }
