@@ -27,10 +27,7 @@ fn needs_of<'a>(instance: &'a Instance<'_>, j: u32) -> &'a [u64]
 }
 
 // Returns the amounts that all activities need, a row for each.
-fn all_needs<'a>(
-    alloc: Global,
-    instance: &'a Instance<'_>,
-) -> Result<Vec<&'a [u64]>, AllocError>
+fn all_needs<'a>(alloc: Global, instance: &'a Instance<'_>) -> Result<Vec<&'a [u64]>, AllocError>
     ensures { IfOk result (λ needs.
         map (λ row. row.now) needs.items ≡ spec.all_needs instance.now) }
 {

@@ -161,7 +161,12 @@ fn push_bar_event(
     let stamp = stamp_of(alloc, feed.days)?;
     let uid = event_uid(alloc, feed, bar)?;
     let name = event_name(
-        alloc, feed.events.resources, names.names, names.resources, bar, parts,
+        alloc,
+        feed.events.resources,
+        names.names,
+        names.resources,
+        bar,
+        parts,
     )?;
     let first_day = compact_day(alloc, feed.days, bar.from)?;
     let end_day = compact_day(alloc, feed.nexts, bar.to - 1)?;
@@ -188,7 +193,14 @@ fn push_wanted(
 {
     let names = feed.work.names;
     let parts = parts_of(alloc, feed.work.needs, bar)?;
-    if is_wanted(alloc, feed.events.only, names.names, names.resources, bar, &parts)? {
+    if is_wanted(
+        alloc,
+        feed.events.only,
+        names.names,
+        names.resources,
+        bar,
+        &parts,
+    )? {
         push_bar_event(alloc, text, feed, bar, &parts)
     } else {
         Ok(())

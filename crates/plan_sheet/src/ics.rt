@@ -121,11 +121,7 @@ fn push_event_head(
 
 // The revision of an event; nothing for revision 0.
 #[tactic(auto, unfolding(crate::specs::Ics::event_sequence))]
-fn push_event_sequence(
-    alloc: Global,
-    text: &mut String,
-    sequence: u32,
-) -> Result<(), AllocError>
+fn push_event_sequence(alloc: Global, text: &mut String, sequence: u32) -> Result<(), AllocError>
     ensures { OnOk result
         (string_bytes text.new ≡ string_bytes text.old ++ spec.event_sequence sequence) }
 {

@@ -31,6 +31,7 @@ fn text_of_number(alloc: Global, names: &[NameLine<'_>], n: u64) -> Result<Strin
 }
 
 /// Returns the first name of a number, or `front` and the number if it has none.
+#[tactic(auto, unfolding(crate::specs::Parts::name_or_number))]
 pub(crate) fn name_or_number(
     alloc: Global,
     names: &[NameLine<'_>],
@@ -72,6 +73,7 @@ fn row_parts(alloc: Global, row: &[u64]) -> Result<Vec<Part>, AllocError>
 }
 
 // Returns the row of an activity, or an empty one if there is none.
+#[tactic(auto, using(crate::proofs::PartLemmas::row_there, crate::proofs::PartLemmas::row_absent))]
 fn row_at<'a>(needs: &'a [&'a [u64]], number: u32) -> &'a [u64]
     ensures { result.now ≡ spec.row_or_empty
         (slice_get (map (λ row. row.now) needs.now) (number - 1)) }
@@ -85,11 +87,7 @@ fn row_at<'a>(needs: &'a [&'a [u64]], number: u32) -> &'a [u64]
 /// Returns the resources that an activity needs, or the machine of a step. Row `k` of `needs` has
 /// the amounts of activity `k + 1`.
 #[tactic(auto, unfolding(crate::specs::Parts::parts_of))]
-pub(crate) fn parts_of(
-    alloc: Global,
-    needs: &[&[u64]],
-    bar: Bar,
-) -> Result<Vec<Part>, AllocError>
+pub(crate) fn parts_of(alloc: Global, needs: &[&[u64]], bar: Bar) -> Result<Vec<Part>, AllocError>
     ensures { IfOk result (λ parts.
         parts.items ≡ spec.parts_of (map (λ row. row.now) needs.now) bar) }
 {
@@ -145,6 +143,7 @@ fn part_text(
 }
 
 // Appends an entry to a list, behind a comma if it isn't the first one.
+#[tactic(auto, unfolding(crate::specs::Parts::listed))]
 fn push_listed(list: &mut String, entry: &str) -> Result<(), AllocError>
     ensures { OnOk result (string_bytes list.new ≡ spec.listed (string_bytes list.old) entry.now) }
 {
