@@ -1,6 +1,7 @@
 //! The resources and machines of events.
 
-ghost use Rattle.std.specs.Prelude.{◌≡◌, ◌++◌, ◌<◌, ◌-◌, IfOk, OnOk, length, map, slice_get, string_bytes};
+ghost use Rattle.std.specs.Prelude.{◌≡◌, ◌++◌, ◌<◌, ◌-◌, IfOk, OnOk, length, map, slice_get};
+ghost use Rattle.std.specs.Prelude.{string_bytes};
 ghost use Rattle.std.specs.Option.{option_map};
 ghost use Rattle.plan_table.specs.Names.{name_of};
 ghost use Rattle.plan_sheet.specs.Names.{name_text};
@@ -258,8 +259,8 @@ fn is_order_named(
     Ok(own.as_str() == name)
 }
 
-/// Tests whether the event of a bar is wanted: there is no choice, or the name is that of one of its
-/// resources, of its machine or of its order.
+/// Tests whether the event of a bar is wanted: there is no choice, or the name is that of one of
+/// its resources, of its machine or of its order.
 pub(crate) fn is_wanted(
     alloc: Global,
     only: Option<&str>,
