@@ -9,7 +9,7 @@ use Rattle.plan_sheet.specs.declared.bars.Bar.{Bar}
 use Rattle.plan_sheet.specs.declared.parts.Part.{Part}
 
 -- the first name of a number, or a front and the number if it has none
-abbrev pub name_or_number : List Name → List ℕ → ℕ → List ℕ
+unfoldable pub name_or_number : List Name → List ℕ → ℕ → List ℕ
 name_or_number names front n =
     if nat_lt (length (name_text names n)) 1 then front ++ decimal n else name_text names n
 
@@ -51,7 +51,7 @@ abbrev pub part_text : List Name → Bar → Part → List ℕ
 part_text resources bar part = part_name resources bar part ++ amount_note part.amount
 
 -- a list with one more entry, behind a comma
-abbrev pub listed : List ℕ → List ℕ → List ℕ
+unfoldable pub listed : List ℕ → List ℕ → List ℕ
 listed list entry = if nat_lt (length list) 1 then entry else list ++ codes ", " ++ entry
 
 -- the list of the resources with their amounts

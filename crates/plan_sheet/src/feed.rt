@@ -41,10 +41,11 @@ pub struct Events<'a> {
     pub uid: Option<&'a str>,
     /// The number of the revision, from 0. A later file of the same plan has a greater one.
     pub sequence: u32,
-    /// The name of the only resource, machine or order that has events. One without a name is called
-    /// `R2` (resource 2), `machine 0`, or `3` (order 3).
+    /// The name of the only resource, machine or order that has events. One without a name is
+    /// called `R2` (resource 2), `machine 0`, or `3` (order 3).
     pub only: Option<&'a str>,
-    /// Whether the name of an event has the resources or the machine, as `Walls (crew 2, digger 1)`.
+    /// Whether the name of an event has the resources or the machine, as
+    /// `Walls (crew 2, digger 1)`.
     pub resources: bool,
     /// The hours of a working day, if a time unit is an hour: events have times of day. `None`: a
     /// time unit is a working day, and events have whole days.

@@ -1,6 +1,7 @@
 //! The resources and machines of events.
 
-ghost use Rattle.std.specs.Prelude.{◌≡◌, ◌++◌, ◌<◌, ◌-◌, IfOk, OnOk, length, map, slice_get, string_bytes};
+ghost use Rattle.std.specs.Prelude.{◌≡◌, ◌++◌, ◌<◌, ◌-◌, IfOk, OnOk, length, map, slice_get};
+ghost use Rattle.std.specs.Prelude.{string_bytes};
 ghost use Rattle.std.specs.Option.{option_map};
 ghost use Rattle.plan_table.specs.Names.{name_of};
 ghost use Rattle.plan_sheet.specs.Names.{name_text};
@@ -31,6 +32,7 @@ fn text_of_number(alloc: Global, names: &[NameLine<'_>], n: u64) -> Result<Strin
 }
 
 /// Returns the first name of a number, or `front` and the number if it has none.
+#[tactic(auto, unfolding(crate::specs::Parts::name_or_number))]
 pub(crate) fn name_or_number(
     alloc: Global,
     names: &[NameLine<'_>],
@@ -72,6 +74,7 @@ fn row_parts(alloc: Global, row: &[u64]) -> Result<Vec<Part>, AllocError>
 }
 
 // Returns the row of an activity, or an empty one if there is none.
+#[tactic(auto, using(crate::proofs::PartLemmas::row_there, crate::proofs::PartLemmas::row_absent))]
 fn row_at<'a>(needs: &'a [&'a [u64]], number: u32) -> &'a [u64]
     ensures { result.now ≡ spec.row_or_empty
         (slice_get (map (λ row. row.now) needs.now) (number - 1)) }
@@ -141,6 +144,7 @@ fn part_text(
 }
 
 // Appends an entry to a list, behind a comma if it isn't the first one.
+#[tactic(auto, unfolding(crate::specs::Parts::listed))]
 fn push_listed(list: &mut String, entry: &str) -> Result<(), AllocError>
     ensures { OnOk result (string_bytes list.new ≡ spec.listed (string_bytes list.old) entry.now) }
 {
@@ -255,8 +259,8 @@ fn is_order_named(
     Ok(own.as_str() == name)
 }
 
-/// Tests whether the event of a bar is wanted: there is no choice, or the name is that of one of its
-/// resources, of its machine or of its order.
+/// Tests whether the event of a bar is wanted: there is no choice, or the name is that of one of
+/// its resources, of its machine or of its order.
 pub(crate) fn is_wanted(
     alloc: Global,
     only: Option<&str>,
