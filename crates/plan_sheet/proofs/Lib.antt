@@ -7,3 +7,4 @@ pub mod MarkupLemmas
 pub mod PieceLemmas
 pub mod UseLemmas
 pub mod ReportMarkupLemmas
+pub mod PartLemmas

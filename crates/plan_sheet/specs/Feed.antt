@@ -1,6 +1,7 @@
 -- The calendar file of a plan (docs/definitions.md, "Sheets"; RFC 5545): an event of whole days for
 -- each bar that takes time.
-use Rattle.std.specs.Prelude.{◌≡◌, ℕ, ◌-◌, ◌⊎◌, if◌then◌else◌, nat_lt, List, [], ◌++◌, map, codes}
+use Rattle.std.specs.Prelude.{◌≡◌, ℕ, ◌-◌, ◌⊎◌, Bool, false, if◌then◌else◌, nat_lt, List, [], ◌++◌, map, codes, Option, Some, None}
+use Rattle.std.specs.Option.{option_map}
 use Rattle.std.specs.List.{AllZip, flat_map}
 use Rattle.std.specs.Fmt.{decimal}
 use Rattle.jiff_core.specs.declared.civil.date.Date.{Date}
@@ -8,22 +9,77 @@ use Rattle.plan_calendar.specs.WorkingDay.{Workdays}
 use Rattle.plan_table.specs.Names.{Name, name_of}
 use Rattle.plan_sheet.specs.Bars.{greatest_end}
 use Rattle.plan_sheet.specs.Days.{AreDays, HasDayBeyond, HasLastDay, IsDayAfter, compact_day}
-use Rattle.plan_sheet.specs.Titles.{title_of}
-use Rattle.plan_sheet.specs.Ics.{Event, event_text, calendar_head, calendar_end}
+use Rattle.plan_sheet.specs.Parts.{event_name, is_wanted, name_or_number, parts_of}
+use Rattle.plan_sheet.specs.Ics.{Event, event_text, calendar_head, calendar_end, text_value}
 use Rattle.plan_sheet.specs.declared.bars.Bar.{Bar}
+use Rattle.plan_sheet.specs.declared.feed.EventNames as declared_names
+use Rattle.plan_sheet.specs.declared.feed.Events as declared_events
+use Rattle.plan_sheet.specs.declared.feed.Work as declared_work
 use Rattle.plan_sheet.specs.declared.feed.Feed as declared
 
--- what the events of a plan share: the digest of its file, the names of its bars, the days of its
+-- the names of a plan: the ids and the names of its activities or orders, and the names of its
+-- resources or machines
+pub record EventNames : Type 0 where
+  pub ids : List Name
+  pub names : List Name
+  pub resources : List Name
+
+-- the same, as the program keeps it
+abbrev pub event_names_of : declared_names.EventNames → EventNames
+event_names_of n =
+    record { ids = map name_of n.ids.now; names = map name_of n.names.now; resources = map name_of n.resources.now }
+
+-- the events that are wanted: the word of their identifiers, the number of their revision, the name
+-- of the one resource, machine or order, and whether their names have the resources
+pub record Events : Type 0 where
+  pub uid : Option (List ℕ)
+  pub sequence : ℕ
+  pub only : Option (List ℕ)
+  pub resources : Bool
+
+-- the same, as the program keeps it
+abbrev pub events_of : declared_events.Events → Events
+events_of e =
+    record {
+      uid = option_map (λ word. word.now) e.uid;
+      sequence = e.sequence;
+      only = option_map (λ name. name.now) e.only;
+      resources = e.resources;
+    }
+
+-- all events, by their numbers, without resources
+abbrev pub plain_events : Events
+plain_events = record { uid = None; sequence = 0; only = None; resources = false }
+
+-- what the events of a plan are about: the digest of its file, its names, and the amounts of the
+-- resources that its activities need
+pub record Work : Type 0 where
+  pub digest : List ℕ
+  pub names : EventNames
+  pub needs : List (List ℕ)
+
+-- the same, as the program keeps it
+abbrev pub work_of : declared_work.Work → Work
+work_of w =
+    record { digest = w.digest.now; names = event_names_of w.names; needs = map (λ row. row.now) w.needs.now }
+
+-- a plan of which only the names of its activities or orders are given
+abbrev pub plain_work : List ℕ → List Name → Work
+plain_work digest names =
+    record { digest = digest; names = record { ids = []; names = names; resources = [] }; needs = [] }
+
+-- what the events of a plan share: what they are about, which are wanted, the days of the plan's
 -- instants, and the day after each of them
 pub record Feed : Type 0 where
-  pub digest : List ℕ
-  pub names : List Name
+  pub work : Work
+  pub events : Events
   pub days : List Date
   pub nexts : List Date
 
 -- the same, as the program keeps it
 abbrev pub feed_of : declared.Feed → Feed
-feed_of f = record { digest = f.digest.now; names = map name_of f.names.now; days = f.days.now; nexts = f.nexts.now }
+feed_of f =
+    record { work = work_of f.work; events = events_of f.events; days = f.days.now; nexts = f.nexts.now }
 
 -- the mark of a step in an identifier; nothing for an activity
 abbrev pub step_mark : ℕ → List ℕ
@@ -32,6 +88,17 @@ step_mark step = if nat_lt step 1 then [] else codes "-" ++ decimal step
 -- the identifier of an event: the digest, the number, and the step
 unfoldable pub uid_of : List ℕ → Bar → List ℕ
 uid_of digest bar = digest ++ codes "-" ++ decimal bar.number ++ step_mark bar.step ++ codes "@plan"
+
+-- the identifier of an event by a word: the word, the id of the activity or order, or else its
+-- number, and the step. It doesn't depend on other activities, or on the order of the rows
+unfoldable pub named_uid : List ℕ → List Name → Bar → List ℕ
+named_uid word ids bar =
+    text_value (word ++ codes "-" ++ name_or_number ids [] bar.number ++ step_mark bar.step ++ codes "@plan")
+
+-- the identifier of an event: by a word, or else by the digest
+abbrev pub event_uid : Option (List ℕ) → Work → Bar → List ℕ
+event_uid None work bar = uid_of work.digest bar
+event_uid (Some word) work bar = named_uid word work.names.ids bar
 
 -- the instant of the file: the first day of the plan at midnight in UTC, so that the same plan gives
 -- the same file
@@ -42,27 +109,41 @@ stamp_of days = compact_day days 0 ++ codes "T000000Z"
 abbrev pub bar_event : Feed → Bar → Event
 bar_event feed bar =
     record {
-      uid = uid_of feed.digest bar;
-      name = title_of feed.names bar;
+      uid = event_uid feed.events.uid feed.work bar;
+      sequence = feed.events.sequence;
+      name = event_name feed.events.resources feed.work.names.names feed.work.names.resources bar (parts_of feed.work.needs bar);
       first_day = compact_day feed.days bar.from;
       end_day = compact_day feed.nexts (bar.to - 1);
     }
 
+-- the event of a bar that takes time is wanted
+abbrev pub wants : Feed → Bar → Bool
+wants feed bar =
+    is_wanted feed.events.only feed.work.names.names feed.work.names.resources bar (parts_of feed.work.needs bar)
+
+-- the text of the event of a bar that takes time; nothing if it isn't wanted
+abbrev pub wanted_text : Feed → Bar → List ℕ
+wanted_text feed bar = if wants feed bar then event_text (stamp_of feed.days) (bar_event feed bar) else []
+
 -- the text of the event of a bar; nothing for a bar that takes no time
 abbrev pub bar_text : Feed → Bar → List ℕ
-bar_text feed bar = if nat_lt bar.from bar.to then event_text (stamp_of feed.days) (bar_event feed bar) else []
+bar_text feed bar = if nat_lt bar.from bar.to then wanted_text feed bar else []
 
 -- a calendar file
 abbrev pub ics_text : Feed → List Bar → List ℕ
 ics_text feed bars = calendar_head ++ flat_map (bar_text feed) bars ++ calendar_end
 
 -- a text is the calendar file of these bars: instant t is the t-th working day
-pub record IsIcsText (digest : List ℕ) (names : List Name) (bars : List Bar) (calendar : Workdays) (text : List ℕ) : Type 0 where
+pub record AreEvents (work : Work) (events : Events) (bars : List Bar) (calendar : Workdays) (text : List ℕ) : Type 0 where
   pub days : List Date
   pub are : AreDays calendar (greatest_end bars) days
   pub nexts : List Date
   pub follow : AllZip IsDayAfter days nexts
-  pub shown : text ≡ ics_text (record { digest = digest; names = names; days = days; nexts = nexts }) bars
+  pub shown : text ≡ ics_text (record { work = work; events = events; days = days; nexts = nexts }) bars
+
+-- a text is the calendar file of these bars, with all events by their numbers
+abbrev pub IsIcsText : List ℕ → List Name → List Bar → Workdays → List ℕ → Type 0
+IsIcsText digest names bars calendar text = AreEvents (plain_work digest names) plain_events bars calendar text
 
 -- a day of the plan, or the day after one, would be after the last date
 abbrev pub HasEventBeyond : Workdays → ℕ → Type 0

@@ -12,8 +12,10 @@ pub mod Uses
 pub mod Usage
 pub mod Table
 pub mod Page
+pub mod Parts
 pub mod Ics
 pub mod Feed
+pub mod PlanEvents
 pub mod Plans
 pub mod Reports
 pub use Rattle.plan_net.specs.Network

@@ -5,12 +5,13 @@ ghost use Rattle.std.specs.List.{flat_map};
 ghost use Rattle.plan_table.specs.Names.{name_of};
 ghost use Rattle.plan_sheet.specs.Bars.{greatest_end};
 ghost use Rattle.plan_sheet.specs.Ics.{are_short, event_text};
+ghost use Rattle.plan_sheet.specs.Parts as spec_parts;
 ghost use Rattle.plan_sheet.specs.Feed as spec;
 
 use crate::bars::{Bar, last_end};
 use crate::days::{compact_day, days_after, working_days};
-use crate::ics::{Event, push_end, push_event, push_head};
-use crate::titles::title_of;
+use crate::ics::{Event, push_end, push_event, push_head, text_value};
+use crate::parts::{Part, event_name, is_wanted, name_or_number, parts_of};
 use jiff::civil::Date;
 use plan_calendar::Calendar;
 use plan_gantt::DaysFault;
@@ -18,12 +19,63 @@ use plan_table::NameLine;
 use std::alloc::{AllocError, Global};
 use std::fmt::Write;
 
+/// The names of a plan. The number of an activity or a resource is that in its file; orders are
+/// numbered from 1, machines from 0. The first name of a number counts.
+#[derive(Clone, Copy, Drop)]
+pub struct EventNames<'a> {
+    /// The ids of its activities or orders.
+    pub ids: &'a [NameLine<'a>],
+    /// The names of its activities or orders.
+    pub names: &'a [NameLine<'a>],
+    /// The names of its resources or machines.
+    pub resources: &'a [NameLine<'a>],
+}
+
+/// The events that a calendar file has, and what they show. [`Events::plain`] has all of them.
+#[derive(Clone, Copy, Drop)]
+pub struct Events<'a> {
+    /// The word at the beginning of identifiers. The id follows, or the number of an activity or
+    /// order without an id. `None`: the digest and the number.
+    pub uid: Option<&'a str>,
+    /// The number of the revision, from 0. A later file of the same plan has a greater one.
+    pub sequence: u32,
+    /// The name of the only resource, machine or order that has events. One without a name is
+    /// called `R2` (resource 2), `machine 0`, or `3` (order 3).
+    pub only: Option<&'a str>,
+    /// Whether the name of an event has the resources or the machine, as
+    /// `Walls (crew 2, digger 1)`.
+    pub resources: bool,
+}
+
+impl<'a> Events<'a> {
+    /// Returns the choice of all events, by the digest and the number, without resources.
+    pub fn plain() -> Events<'a>
+        ensures { spec.events_of result ≡ spec.plain_events }
+    {
+        Events {
+            uid: None,
+            sequence: 0,
+            only: None,
+            resources: false,
+        }
+    }
+}
+
+/// What the events of a plan are about.
+#[derive(Clone, Copy, Drop)]
+pub struct Work<'a> {
+    /// The digest of its file.
+    pub digest: &'a str,
+    pub names: EventNames<'a>,
+    /// The amounts of resources. Row `k` is that of activity `k + 1`. A job shop has none.
+    pub needs: &'a [&'a [u64]],
+}
+
 /// What the events of a plan share.
 #[derive(Drop)]
 pub struct Feed<'a> {
-    /// The digest of its file.
-    pub digest: &'a str,
-    pub names: &'a [NameLine<'a>],
+    pub work: Work<'a>,
+    pub events: Events<'a>,
     /// The days of its instants.
     pub days: &'a [Date],
     /// The day after each of them.
@@ -52,6 +104,36 @@ fn uid_of(alloc: Global, digest: &str, bar: Bar) -> Result<String, AllocError>
     Ok(text)
 }
 
+// Returns the identifier of an event by a word: the word, the id or else the number, and the step.
+#[tactic(auto, unfolding(crate::specs::Feed::named_uid))]
+fn named_uid(
+    alloc: Global,
+    word: &str,
+    ids: &[NameLine<'_>],
+    bar: Bar,
+) -> Result<String, AllocError>
+    ensures { IfOk result (λ text.
+        string_bytes text ≡ spec.named_uid word.now (map name_of ids.now) bar) }
+{
+    let step = bar.step;
+    let id = name_or_number(alloc, ids, "", u64::from(bar.number))?;
+    let mut text = format!(in alloc; "{word}-{id}")?;
+    push_step_mark(&mut text, step)?;
+    text.push_str("@plan")?;
+    text_value(alloc, &text)
+}
+
+// Returns the identifier of an event: by the word, or else by the digest.
+fn event_uid(alloc: Global, feed: &Feed<'_>, bar: Bar) -> Result<String, AllocError>
+    ensures { IfOk result (λ text. string_bytes text ≡ spec.event_uid
+        (spec.feed_of feed.now).events.uid (spec.feed_of feed.now).work bar) }
+{
+    match feed.events.uid {
+        Some(word) => named_uid(alloc, word, feed.work.names.ids, bar),
+        None => uid_of(alloc, feed.work.digest, bar),
+    }
+}
+
 // Returns the instant of the file: the first day of the plan at midnight in UTC.
 #[tactic(auto, unfolding(crate::specs::Feed::stamp_of))]
 fn stamp_of(alloc: Global, days: &[Date]) -> Result<String, AllocError>
@@ -68,24 +150,62 @@ fn push_bar_event(
     text: &mut String,
     feed: &Feed<'_>,
     bar: Bar,
+    parts: &[Part],
 ) -> Result<(), AllocError>
-    requires { bar.from < bar.to }
+    requires time { bar.from < bar.to }
+    requires parts { parts.now ≡ spec_parts.parts_of (spec.feed_of feed.now).work.needs bar }
     ensures { OnOk result (string_bytes text.new ≡ string_bytes text.old
         ++ event_text (spec.stamp_of feed.now.days.now)
         (spec.bar_event (spec.feed_of feed.now) bar)) }
 {
+    let names = feed.work.names;
     let stamp = stamp_of(alloc, feed.days)?;
-    let uid = uid_of(alloc, feed.digest, bar)?;
-    let name = title_of(alloc, feed.names, bar)?;
+    let uid = event_uid(alloc, feed, bar)?;
+    let name = event_name(
+        alloc,
+        feed.events.resources,
+        names.names,
+        names.resources,
+        bar,
+        parts,
+    )?;
     let first_day = compact_day(alloc, feed.days, bar.from)?;
     let end_day = compact_day(alloc, feed.nexts, bar.to - 1)?;
     let event = Event {
         uid: &uid,
+        sequence: feed.events.sequence,
         name: &name,
         first_day: &first_day,
         end_day: &end_day,
     };
     push_event(alloc, text, &stamp, &event)
+}
+
+// Appends the event of a bar that takes time, or nothing if it isn't wanted.
+fn push_wanted(
+    alloc: Global,
+    text: &mut String,
+    feed: &Feed<'_>,
+    bar: Bar,
+) -> Result<(), AllocError>
+    requires { bar.from < bar.to }
+    ensures { OnOk result (string_bytes text.new
+        ≡ string_bytes text.old ++ spec.wanted_text (spec.feed_of feed.now) bar) }
+{
+    let names = feed.work.names;
+    let parts = parts_of(alloc, feed.work.needs, bar)?;
+    if is_wanted(
+        alloc,
+        feed.events.only,
+        names.names,
+        names.resources,
+        bar,
+        &parts,
+    )? {
+        push_bar_event(alloc, text, feed, bar, &parts)
+    } else {
+        Ok(())
+    }
 }
 
 // Appends the event of a bar, or nothing for a bar that takes no time.
@@ -94,7 +214,7 @@ fn push_bar(alloc: Global, text: &mut String, feed: &Feed<'_>, bar: Bar) -> Resu
         ≡ string_bytes text.old ++ spec.bar_text (spec.feed_of feed.now) bar) }
 {
     if bar.from < bar.to {
-        push_bar_event(alloc, text, feed, bar)
+        push_wanted(alloc, text, feed, bar)
     } else {
         Ok(())
     }
@@ -128,9 +248,35 @@ fn feed_text(alloc: Global, feed: &Feed<'_>, bars: &[Bar]) -> Result<String, All
     Ok(text)
 }
 
-/// Returns the calendar file of bars: an event of whole days for each bar that takes time.
-/// Instant `t` is the working day with `t` working days before it. Fails with
+/// Returns the calendar file of bars: an event of whole days for each bar that takes time and is
+/// wanted. Instant `t` is the working day with `t` working days before it. Fails with
 /// [`DaysFault::BeyondCalendar`] if a day would be after 9999-12-31.
+pub(crate) fn bars_events(
+    alloc: Global,
+    work: &Work<'_>,
+    events: &Events<'_>,
+    bars: &[Bar],
+    calendar: &Calendar,
+) -> Result<String, DaysFault>
+    ensures text { IfOk result (λ text. spec.AreEvents (spec.work_of work.now)
+        (spec.events_of events.now) bars.now calendar.now (string_bytes text)) }
+    ensures short { IfOk result (λ text. are_short 0 (string_bytes text) ≡ true) }
+    ensures beyond { IsErrOf result DaysFault.BeyondCalendar →
+        spec.HasEventBeyond calendar.now (greatest_end bars.now) }
+{
+    let days = working_days(alloc, calendar, u64::from(last_end(bars)))?;
+    let nexts = days_after(alloc, &days)?;
+    let feed = Feed {
+        work: *work,
+        events: *events,
+        days: &days,
+        nexts: &nexts,
+    };
+    let text = feed_text(alloc, &feed, bars)?;
+    Ok(text)
+}
+
+/// Returns the calendar file of bars with all events, by the digest and their numbers.
 pub(crate) fn bars_ics(
     alloc: Global,
     digest: &str,
@@ -144,14 +290,15 @@ pub(crate) fn bars_ics(
     ensures beyond { IsErrOf result DaysFault.BeyondCalendar →
         spec.HasEventBeyond calendar.now (greatest_end bars.now) }
 {
-    let days = working_days(alloc, calendar, u64::from(last_end(bars)))?;
-    let nexts = days_after(alloc, &days)?;
-    let feed = Feed {
+    let names = EventNames {
+        ids: &[],
+        names,
+        resources: &[],
+    };
+    let work = Work {
         digest,
         names,
-        days: &days,
-        nexts: &nexts,
+        needs: &[],
     };
-    let text = feed_text(alloc, &feed, bars)?;
-    Ok(text)
+    bars_events(alloc, &work, &Events::plain(), bars, calendar)
 }

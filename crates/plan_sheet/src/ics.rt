@@ -11,6 +11,8 @@ use std::alloc::{AllocError, Global};
 pub struct Event<'a> {
     /// The identifier of the event, unique in the world.
     pub uid: &'a str,
+    /// The number of its revision, from 0.
+    pub sequence: u32,
     pub name: &'a str,
     pub first_day: &'a str,
     /// The day after the last one.
@@ -31,9 +33,9 @@ fn push_text_char(text: &mut String, c: char) -> Result<(), AllocError>
     }
 }
 
-// Returns a text value: backslash, semicolon, comma and newline escaped by a backslash (RFC 5545,
-// section 3.3.11), other control characters as U+FFFD.
-fn text_value(alloc: Global, text: &str) -> Result<String, AllocError>
+/// Returns a text value: backslash, semicolon, comma and newline escaped by a backslash (RFC 5545,
+/// section 3.3.11), other control characters as U+FFFD.
+pub(crate) fn text_value(alloc: Global, text: &str) -> Result<String, AllocError>
     ensures text { IfOk result (λ value. string_bytes value ≡ spec.text_value text.now) }
 {
     let mut value = String::new(alloc);
@@ -117,6 +119,19 @@ fn push_event_head(
     push_property(alloc, text, "DTSTAMP:", stamp)
 }
 
+// The revision of an event; nothing for revision 0.
+#[tactic(auto, unfolding(crate::specs::Ics::event_sequence))]
+fn push_event_sequence(alloc: Global, text: &mut String, sequence: u32) -> Result<(), AllocError>
+    ensures { OnOk result
+        (string_bytes text.new ≡ string_bytes text.old ++ spec.event_sequence sequence) }
+{
+    if sequence < 1 {
+        return Ok(());
+    }
+    let number = format!(in alloc; "{sequence}")?;
+    push_property(alloc, text, "SEQUENCE:", &number)
+}
+
 // The days of an event.
 fn push_event_days(
     alloc: Global,
@@ -154,6 +169,7 @@ pub(crate) fn push_event(
         ≡ string_bytes text.old ++ spec.event_text stamp.now (spec.event_of event.now)) }
 {
     push_event_head(alloc, text, stamp, event.uid)?;
+    push_event_sequence(alloc, text, event.sequence)?;
     push_event_days(alloc, text, event.first_day, event.end_day)?;
     push_event_tail(alloc, text, event.name)
 }

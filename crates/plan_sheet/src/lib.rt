@@ -7,11 +7,13 @@ mod bars;
 mod chart;
 mod days;
 mod escape;
+mod events;
 mod feed;
 mod ics;
 mod marks;
 mod names;
 mod page;
+mod parts;
 mod pieces;
 mod place;
 mod plans;
@@ -23,6 +25,8 @@ mod usage;
 mod uses;
 
 pub use escape::escaped;
+pub use events::{project_events, shop_events};
+pub use feed::{EventNames, Events};
 pub use page::Heading;
 pub use plans::{project_ics, project_svg, shop_ics, shop_svg};
 pub use reports::{

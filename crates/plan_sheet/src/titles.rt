@@ -10,8 +10,8 @@ use plan_table::NameLine;
 use std::alloc::{AllocError, Global};
 use std::fmt::Write;
 
-// Appends the part of a title that names a step, or nothing for an activity.
-fn push_step_part(text: &mut String, step: u32) -> Result<(), AllocError>
+/// Appends the part of a title that names a step, or nothing for an activity.
+pub(crate) fn push_step_part(text: &mut String, step: u32) -> Result<(), AllocError>
     ensures { OnOk result (string_bytes text.new ≡ string_bytes text.old ++ spec.step_part step) }
 {
     if step < 1 {

@@ -1,12 +1,11 @@
-use Rattle.std.proofs.Common.{◌≡◌, inl, inr, rules, map, subst, ap, ap₂, ◌∙◌}
+use Rattle.std.proofs.Common.{◌≡◌, inl, inr, rules, subst, ap, ap₂, ◌∙◌}
 use Rattle.std.specs.List.{AllZip}
-use Rattle.plan_table.specs.Names.{name_of}
 use Rattle.plan_sheet.specs.Bars.{greatest_end}
 use Rattle.plan_sheet.specs.Days.{AreDays, HasDayBeyond, HasLastDay, IsDayAfter}
-use Rattle.plan_sheet.specs.Feed.{ics_text}
+use Rattle.plan_sheet.specs.Feed.{events_of, ics_text, work_of}
 use Rattle.plan_sheet.specs.Ics.{are_short}
 use Rattle.plan_sheet.proofs.FoldLemmas.{short_file}
-use Rattle.plan_sheet.proofs.feed.bars_ics.Goals as goal
+use Rattle.plan_sheet.proofs.feed.bars_events.Goals as goal
 
 pub returns-clause-text : goal.returns-clause-text
 returns-clause-text c =
@@ -16,7 +15,7 @@ returns-clause-text c =
       nexts = c.in_ok-nexts.nexts.items;
       follow = subst (λ ds. AllZip IsDayAfter ds c.in_ok-nexts.nexts.items) c.deref.ensures.value c.in_ok-nexts.ensures.nexts;
       shown = c.in_ok-text.ensures
-          ∙ ap₂ (λ ds ns. ics_text (record { digest = c.args.digest.now; names = map name_of c.args.names.now; days = ds; nexts = ns }) c.args.bars.now)
+          ∙ ap₂ (λ ds ns. ics_text (record { work = work_of c.args.work.now; events = events_of c.args.events.now; days = ds; nexts = ns }) c.args.bars.now)
           c.deref-2.ensures.value c.deref-3.ensures.value;
     }
 
