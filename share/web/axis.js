@@ -4,7 +4,7 @@
 import { Refusal } from "./api.js";
 import { printed } from "./program.js";
 
-// activities of one unit, as many as a project has, in so many calls at most
+// the activities of a project of one unit each, and the greatest number of calls
 const COUNT = 500;
 const MOST_CALLS = 20;
 

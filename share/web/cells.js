@@ -1,5 +1,5 @@
-// The cells of a list, for the table in which it is changed. What they mean is known to the program
-// alone: the page offers the table only if the program reads the list that it writes as the same.
+// The cells of a list, for the table in which it is changed. Only the program interprets them: the
+// page offers the table only if the program reads the rewritten list as it read the opened one.
 
 const quoted = (cell) => (/[",;\t\n]/.test(cell) ? `"${cell.replaceAll('"', '""')}"` : cell);
 

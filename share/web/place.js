@@ -1,4 +1,5 @@
-// Where the page is: its title, the browser's history, and on a small screen the list or the plan.
+// The open plan or the list: the page's title, the browser's history, and the part that a small
+// screen shows.
 
 import { byId, put } from "./dom.js";
 import { isAlone } from "./local.js";

@@ -2,6 +2,7 @@
 
 import os
 import re
+import time
 
 from exchanges import TOP
 from programs import Wrong, plan, same
@@ -16,6 +17,9 @@ RULE_NAMES = {
 
 
 # ---- what `plan` prints
+
+# seconds before a plan is opened
+PAUSE = 2
 
 
 def example(name):
@@ -311,7 +315,8 @@ def drop(browser, name, text):
 
 
 def open_plan(browser, n):
-    """Opens a plan of the list by its button."""
+    """Opens a plan of the list by its button, after a pause: nginx accepts 20 requests a second."""
+    time.sleep(PAUSE)
     browser.run("""
         [...document.querySelectorAll("#plans button")].find(
             (button) => button.textContent === arguments[0]).click();

@@ -1,9 +1,9 @@
--- Where a quoted text is cut.
+-- The end of a quoted text: its last character boundary within the limit.
 use Rattle.std.proofs.Common.{◌≡◌, ◌<◌, ◌≤◌, ◌-◌, ◌+◌, inl, inr, ℕ, zero, suc, List, length, slice_index, subst, true, false, IsCharBoundary, refl, sym, ◌++◌, take, codes, arith}
 use Rattle.std.proofs.lemmas.Bool.{cases_lt, lt-ltb, le-ltb, lt-leb, le-leb}
 use Rattle.plan_cli.specs.Quotes.{is_inner, last_boundary, quoted}
 
--- what `floor_char_boundary` ensures of its result
+-- an end is the last character boundary of a text within a limit
 abbrev pub IsLastBoundary : List ℕ → ℕ → ℕ → Type 0
 IsLastBoundary text most end =
     (end ≤ most) × IsCharBoundary text end × ((i : ℕ) → end < i → i ≤ most → IsCharBoundary text i → ⊥)
