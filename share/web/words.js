@@ -62,6 +62,8 @@ export const LIST_FAULTS = {
     + "duration or an amount, 1,000,000 for all durations, and 200 bytes for a name."],
   T13: ["This row has more cells than the header, or a quote isn't closed."],
   T15: ["This order has more steps than there are machines."],
+  T16: ["This column gives successors. Give the predecessors of each row instead."],
+  T19: ["This row needs more of the resource than its capacity, so it can never start."],
 };
 
 export const glossary = () => [

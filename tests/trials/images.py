@@ -29,7 +29,9 @@ from events import named_lines, shown_name, with_names
 from holidays import small_file
 
 SVG = "{http://www.w3.org/2000/svg}"
-DIAMOND = re.compile(r"M(\d+) 2l6 6-6 6-6-6z")
+DIAMOND = re.compile(r"M(\d+) 3l7 7-7 7-7-7z")
+# The room beside the axis, in columns of 0.6 em.
+ROOM = 33
 
 
 class Bar:
@@ -51,9 +53,31 @@ def label(number, names):
     return f"{number} {name}" if name else str(number)
 
 
+def columns(character):
+    return 1 if ord(character) < 0x1100 else 2
+
+
+def cut(text, room=ROOM):
+    """A text, or its first characters and an ellipsis if it needs more columns."""
+    if sum(map(columns, text)) <= room:
+        return text
+    front, room = "", room - 2
+    for character in text:
+        room -= columns(character)
+        if room < 0:
+            break
+        front += character
+    return front + "\u2026"
+
+
 def place(span, at):
-    """The place of an instant: names have 240 units, the axis 1,000."""
-    return 240 + at * 1000 // max(span, 1)
+    """The place of an instant: names have 330 units, the axis 1,000."""
+    return 330 + at * 1000 // max(span, 1)
+
+
+def is_drawn(step, start, end):
+    """A step that takes no time isn't drawn."""
+    return step == 0 or start < end
 
 
 def wanted_bar(bar, span, names):
@@ -61,7 +85,7 @@ def wanted_bar(bar, span, names):
     step = f", step {bar.step}" if bar.step else ""
     tip = f"{label(bar.number, names)}{step}, {bar.start} to {bar.end}"
     left, right = place(span, bar.start), place(span, bar.end)
-    return ("path", left, None, tip) if bar.start == bar.end else ("rect", left, max(right - left, 1), tip)
+    return ("path", left, None, tip) if bar.start == bar.end else ("rect", left, max(right - left, 3), tip)
 
 
 def found_bar(element):
@@ -76,8 +100,8 @@ def lines_of(root):
     """The labels of the lines of an image, in order, each with its bars."""
     found = []
     for group in root.findall(SVG + "g"):
-        own = [element for element in group if element.get("class") == "bar"]
-        found.append(("".join(group.find(SVG + "svg").itertext()), [found_bar(element) for element in own]))
+        own = [found_bar(element) for element in group if "bar" in element.get("class", "").split()]
+        found.append(("".join(group.find(SVG + "svg").itertext()), own))
     return found
 
 
@@ -89,8 +113,8 @@ def try_image(what, answer, bars, numbers, rows, names, title):
     span = max((bar.end for bar in bars), default=0)
     wanted = []
     for number in numbers:
-        own = [wanted_bar(bar, span, names) for bar in bars if bar.line == number]
-        wanted.append((label(number, rows), own))
+        own = [bar for bar in bars if bar.line == number and is_drawn(bar.step, bar.start, bar.end)]
+        wanted.append((cut(label(number, rows)), [wanted_bar(bar, span, names) for bar in own]))
     same(what, lines_of(root), wanted)
 
 

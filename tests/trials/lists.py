@@ -8,7 +8,9 @@ refused with the same line. Commands that read no lists refuse them as before. `
     tests/trials/lists.py CASES SEED    so many, drawn from this seed
 
 A list is drawn with names, quotes, blanks and all three delimiters; one in four is damaged at some
-byte. The program is the one that ./plan runs, or the one that PLAN_PROGRAM names.
+byte, and is then often read as Windows-1252. A list means the same in each encoding. Notes on a list
+follow the output of each command. The program is the one that ./plan runs, or the one that
+PLAN_PROGRAM names.
 """
 
 import collections
@@ -24,11 +26,41 @@ from answers import plan, same, written
 from drawing import Draw
 from drawing.words import PROJECT_RULES, SHOP_RULES
 from holidays import MARKS, STARTS
-from tables import BLANKS, COLUMNS, KINDS, damaged, drawn_table, lower, records
+from tables import damaged, drawn_table, is_utf8, kind_in, windows_1252
 
 # The commands that need the file of a project or of a job shop.
 PLAIN = (["cpm"], ["schedule", "lft"], ["best-project", "100"])
 SHOP_PLAIN = (["shop", "mwkr"], ["best", "100"], ["prove", "100"])
+
+
+# Lists that every command refuses, each with its line.
+LINES = {
+    b"duration\n3 hrs\n": b"T5 line 2 duration\n",
+    b"name,duration\nDig,2\nWall,1.5\n": b"T5 line 3 duration\n",
+    b"Dauer;Vorgang\n4,000;Aushub\n": b"T5 line 2 duration\n",
+    b"duration\n2\n\n4 Std.\n": b"T5 line 4 duration\n",
+    b"id;duration;Nachfolger\nA;2;B\nB;1;\n": b"T16 column Nachfolger\n",
+    b"duration,successors\n2,2\n1,\n": b"T16 column successors\n",
+    b"id,duration,crew\nA,2,2\nB,1,3\ncapacity,,2\n": b"T19 line 3 need crew above 2\n",
+}
+
+
+# Lists with notes, each with its line of notes.
+NOTED = {
+    "duration,Boss\n2,Ann\n1,\n": b"ignored columns: Boss\n",
+    "id;Dauer;Zust\u00e4ndig\nA;2;Bj\u00f6rn\n": "ignored columns: Zust\u00e4ndig\n".encode(),
+    "duration\tSite, old\tcrew\n1\tnorth\t\n2\t\ttwo\n": b"ignored columns: Site, old, crew\n",
+}
+
+# Files that aren't texts, each with its line.
+WORKBOOKS = {
+    b"PK\x03\x04" + bytes(26) + b"[Content_Types].xml": b"T18 an Excel workbook: save it as CSV UTF-8\n",
+    b"PK\x03\x04" + bytes(26) + b"mimetypeapplication/vnd.oasis.opendocument.spreadsheet":
+        b"T18 an OpenDocument spreadsheet: save it as CSV UTF-8\n",
+    bytes.fromhex("D0CF11E0A1B11AE1") + bytes(600): b"T18 an Excel 97-2003 workbook: save it as CSV UTF-8\n",
+}
+
+GUESS = b"read as Windows-1252"
 
 
 # ---- what is drawn
@@ -55,27 +87,10 @@ def drawn_list(draw, is_shop):
 # ---- the kind of a list, by its header
 
 
-def delimiter_of(text):
-    """The delimiter of a text: the first of tab, semicolon and comma in its first line with content."""
-    for line in text.split("\n"):
-        if line.strip(BLANKS):
-            return next((mark for mark in "\t;" if mark in line), ",")
-    return ","
-
-
 def kind_of(data):
-    """The kind of list that a text is by its header: `activities`, `orders` or none. Of a header in
-    which a quote isn't closed it is unknown."""
-    text = data.removeprefix(b"\xef\xbb\xbf").decode("latin-1")
-    for _, cells in records(text, delimiter_of(text)):
-        if cells is None:
-            return "unknown"
-        keys = [lower(cell.strip(BLANKS).encode("latin-1").decode("utf-8", "replace")) for cell in cells]
-        if any(keys):
-            if "duration" in [COLUMNS.get(key, KINDS.get(key)) for key in keys]:
-                return "activities"
-            return "orders" if {"order", "machine"} <= set(keys) else "none"
-    return "none"
+    """The kind of list that a file is by its header, in UTF-8, or else perhaps in Windows-1252."""
+    found = "none" if is_utf8(data) else kind_in(windows_1252(data).encode())
+    return kind_in(data) if found == "none" else found
 
 
 # ---- commands
@@ -130,12 +145,14 @@ def starts_table(folder, is_shop, made):
     return written(folder, "starts", plan(folder, *words)[1] or b"0\n")
 
 
-def compare_command(what, folder, command, instances, options, made_folder):
-    """That a command answers for a list as for the file that is made of it."""
+def compare_command(what, folder, command, instances, options, made_folder, notes):
+    """That a command answers for a list as for the file that is made of it, with the notes on the list
+    behind an output."""
     named, plainly = options
     own, other = instances
     found = plan(folder, *words_on(command, "list.csv", own, named))
-    same(f"{what}: {command}", found, plan(made_folder, *words_on(command, "list.csv", other, plainly)))
+    status, output, errors = plan(made_folder, *words_on(command, "list.csv", other, plainly))
+    same(f"{what}: {command}", found, (status, output, errors + notes if output else errors))
 
 
 def capacities_of(draw, is_shop):
@@ -145,8 +162,8 @@ def capacities_of(draw, is_shop):
     return [f"--capacity={draw.pick(('crew0', 'digger1', 'R1', 'none'))}={draw.number(0, 9)}"]
 
 
-def try_made(draw, what, folder, is_shop, made):
-    """Compares the commands on a list of which a file can be made."""
+def try_made(draw, what, folder, is_shop, made, notes):
+    """Compares the commands on a list of which a file can be made, with its notes."""
     made_folder = os.path.join(folder, "made")
     os.makedirs(made_folder, exist_ok=True)
     written(made_folder, "list.csv", made)
@@ -158,11 +175,12 @@ def try_made(draw, what, folder, is_shop, made):
     for command in named_commands(draw, is_shop, starts):
         named, plainly = rows_of(draw)
         given = [] if command[0][0] == "compare" else capacities_of(draw, is_shop)
-        compare_command(what, folder, command, (own, other), (named + given, plainly + given), made_folder)
+        given = (named + given, plainly + given)
+        compare_command(what, folder, command, (own, other), given, made_folder, notes)
     for command in plain_commands(draw, is_shop, starts):
         if command[0][:2] == ["chart", "--svg"] and is_shop:
             own = ["shop"]
-        compare_command(what, folder, command, (own, other), ([], []), made_folder)
+        compare_command(what, folder, command, (own, other), ([], []), made_folder, notes)
 
 
 def try_refused(what, folder, is_shop, answer):
@@ -201,8 +219,28 @@ def try_list(draw, folder):
     if answer[0]:
         try_refused(what, folder, is_shop, answer)
         return f"refused {kind}"
-    try_made(draw, what, folder, is_shop, answer[1])
-    return kind
+    try_made(draw, what, folder, is_shop, answer[1], answer[2])
+    return f"{kind} with notes" if answer[2] else kind
+
+
+def try_encodings(draw, folder):
+    """That a list has the same answer in UTF-8, in UTF-16 and in Windows-1252."""
+    text = drawn_table(draw.random)[0].removeprefix("\ufeff")
+    if kind_in(text.encode()) != "activities":
+        return
+    written(folder, "list.csv", text.encode())
+    wanted = plan(folder, "import", "list.csv")
+    for encoding in ("utf-16", "utf-16-be", "cp1252"):
+        mark = b"\xfe\xff" if encoding == "utf-16-be" else b""
+        try:
+            data = mark + text.encode(encoding)
+        except UnicodeEncodeError:
+            continue
+        written(folder, "list.csv", data)
+        status, output, errors = plan(folder, "import", "list.csv")
+        notes = b"" if is_utf8(data) or encoding != "cp1252" else GUESS + b"\n"
+        errors = errors.replace(GUESS + b"; ", b"").replace(notes, b"") if notes and not status else errors
+        same(f"{data!r}"[:3000], (status, output, errors), wanted)
 
 
 def try_capacity_of_orders():
@@ -215,12 +253,41 @@ def try_capacity_of_orders():
         same("a capacity for an import of orders", found, (1, b"", b"T14 no resource saw\n"))
 
 
+def try_lines():
+    """That lists with an error are refused with its line."""
+    with tempfile.TemporaryDirectory() as folder:
+        for data, line in LINES.items():
+            written(folder, "list.csv", data)
+            same(f"import of {data!r}", plan(folder, "import", "list.csv"), (1, b"", line))
+            try_refused(f"{data!r}", folder, False, (1, b"", line))
+        for data, line in WORKBOOKS.items():
+            written(folder, "list.csv", data)
+            try_refused(f"{data!r}", folder, False, (1, b"", line))
+
+
+def try_notes():
+    """That the notes on a list are printed behind the output of each command."""
+    with tempfile.TemporaryDirectory() as folder:
+        for text, line in NOTED.items():
+            for encoding in ("utf-8", "cp1252"):
+                data = text.encode(encoding)
+                written(folder, "list.csv", data)
+                notes = line if is_utf8(data) else GUESS + b"; " + line
+                for words in (["import"], ["solve"], ["chart", "lft"], ["report"]):
+                    status, _, errors = plan(folder, *words, "list.csv")
+                    same(f"{words} of {data!r}", (status, errors), (0, notes))
+
+
 def try_lists(cases=200, seed=1, is_verbose=False):
     draw, tally = Draw(Random(seed)), collections.Counter()
     try_capacity_of_orders()
+    try_lines()
+    try_notes()
     with tempfile.TemporaryDirectory() as folder:
-        for _ in range(cases):
+        for case in range(cases):
             tally[try_list(draw, folder)] += 1
+            if case % 4 == 0:
+                try_encodings(draw, folder)
     if is_verbose:
         print(f"{cases} lists by seed {seed}: {dict(tally)}")
 

@@ -29,7 +29,7 @@ from drawing import Draw
 from drawing.words import rule
 from events import NAMES, named_lines, shown_name, with_names
 from holidays import MARKS, STARTS, small_file
-from images import SVG, label, lines_of, place
+from images import SVG, cut, is_drawn, label, lines_of, place
 from model.projects import read_project
 from model.verdicts import slack
 
@@ -174,7 +174,7 @@ def wanted_bar(schedule, k, row, names):
     if row["start"] == row["end"]:
         return "path", None, None, tip
     left, right = ends_of(schedule, k, row)
-    return "rect", left, max(right - left, 1), tip
+    return "rect", left, max(right - left, 3), tip
 
 
 def wanted_lines(schedule, by_job, names, machines):
@@ -183,13 +183,34 @@ def wanted_lines(schedule, by_job, names, machines):
     titles = machines if key == "mach" else names
     found = {}
     for k, row in enumerate(schedule.rows):
-        found.setdefault(row[key], []).append(wanted_bar(schedule, k, row, names))
+        own = found.setdefault(row[key], [])
+        if is_drawn(row.get("step", 0), row["start"], row["end"]):
+            own.append(wanted_bar(schedule, k, row, names))
     # A job has as many steps as there are machines, some of which may have none.
     numbers = range(max(row["step"] for row in schedule.rows)) if key == "mach" else sorted(found)
-    return [(label(number, titles), found.get(number, [])) for number in numbers]
+    return [(cut(label(number, titles)), found.get(number, [])) for number in numbers]
 
 
 # ---- the trial
+
+
+def tights_of(image):
+    """Whether each rectangle of an image is marked as one without slack."""
+    rectangles = [element for element in image.iter(SVG + "rect")]
+    return ["tight" in element.get("class").split() for element in rectangles]
+
+
+def tails_of(image):
+    """The two places of each thin line of an image."""
+    tails = [element for element in image.iter(SVG + "path") if element.get("class") == "tail"]
+    return [tuple(map(int, re.fullmatch(r"M(\d+) 10H(\d+)", tail.get("d")).groups())) for tail in tails]
+
+
+def wanted_tails(schedule):
+    """The same, of the schedule of a project without days."""
+    rows = [(row["end"], slack) for row, slack in zip(schedule.rows, schedule.slacks) if row["start"] < row["end"]]
+    span = schedule.makespan
+    return [(place(span, end), place(span, end + slack)) for end, slack in rows if slack]
 
 
 def without_places(lines):
@@ -209,6 +230,13 @@ def compare(what, text, schedule, by_job, title, names, machines):
     charts = [image for image in images if image.findall(SVG + "g")]
     found = sum((lines_of(image) for image in charts), [])
     same(f"{what}: the lines", without_places(found), wanted_lines(schedule, by_job, names, machines))
+    tights = sum((tights_of(image) for image in charts), [])
+    slacks = schedule.slacks or [None] * len(schedule.rows)
+    drawn = [slack == 0 for row, slack in zip(schedule.rows, slacks) if row["start"] < row["end"]]
+    same(f"{what}: the bars without slack", sorted(tights), sorted(drawn))
+    if schedule.slacks is not None and not schedule.days:
+        tails = sum((tails_of(image) for image in charts), [])
+        same(f"{what}: the tails", tails, wanted_tails(schedule))
     rows = [cells_of(schedule, k, row, names, machines) for k, row in enumerate(schedule.rows)]
     same(f"{what}: the table", page.rows, [heads_of(schedule), *rows])
 

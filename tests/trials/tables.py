@@ -57,6 +57,9 @@ SYNONYMS = {
     "predecessors": "predecessor, depends, dependencies, vorgänger, vorgaenger, prédécesseurs, predecesseurs, "
     "predecesoras",
 }
+# words for columns that give the depths of rows, by levels and by numbers such as 1.2
+LEVELS = ["outline level", "gliederungsebene"]
+OUTLINES = ["outline number", "gliederungsnummer", "wbs", "psp-code"]
 KINDS = {word: kind for kind, words in SYNONYMS.items() for word in words.split(", ")}
 # words for columns that a plan doesn't use
 NOTE_WORDS = (
@@ -67,6 +70,8 @@ NOTE_WORDS = (
     "commentaire, commentaires, début, fin, coût, responsable, nota, notas, comentario, comentarios, "
     "descripción, inicio, coste"
 ).split(", ")
+# words for a column of successors
+SUCCESSORS = ["successors", "nachfolger", "successeurs", "sucesoras"]
 # words for days
 DAYS = ["", "d", "day", "days", "tag", "tage", "jour", "jours", "día", "días"]
 
@@ -203,6 +208,20 @@ def settled(kinds, keys, names, rows, given):
     return found
 
 
+def refuse_successors(kinds, keys, names, found, rows, given):
+    """Refuses a column of successors that has no capacity."""
+    given = [lower(name) for name in given]
+    place = next((k for k, kind in enumerate(kinds) if kind == "id"), None)
+    if place is None:
+        place = next((k for k, key in enumerate(keys) if KINDS.get(key) == "id" and lower(names[k]) not in given), None)
+    cells = [[cell.strip(BLANKS) for cell in row] for row in rows]
+    limits = [row for row in cells if place is not None and place < len(row) and lower(row[place]) == "capacity"]
+    for k, key in enumerate(keys):
+        has_one = lower(names[k]) in given or any(k < len(row) and row[k] for row in limits)
+        if found[k] == "resource" and key in SUCCESSORS and not has_one:
+            raise Refused(f"T16 column {names[k]}")
+
+
 def is_id(word):
     return 1 <= len(word) <= LONGEST_ID and not any(c in word for c in BLANKS + "\n,;") and not has_control(word)
 
@@ -224,6 +243,7 @@ class Table:
             raise Refused(f"T12 limit line {line}")
         if "duration" not in self.kinds:
             raise Refused("T3 no column duration")
+        refuse_successors(kinds, keys, names, self.kinds, [cells for _, cells in found[1:]], given)
         self.id_at = self.kinds.index("id") if "id" in self.kinds else None
         rows = [(n, c) for n, c in found[1:] if any(x.strip(BLANKS) for x in c)]
         ids = [self.id_of(k, c) for k, (_, c) in enumerate(rows)]
@@ -245,6 +265,7 @@ class Table:
             raise Refused("T12 limit line 0")
         self.amounts = self.all_capacities(given)
         self.refuse_cycles()
+        self.refuse_needs()
 
     def id_of(self, k, cells):
         if self.id_at is None:
@@ -265,7 +286,7 @@ class Table:
     def take(self, line, cells, name):
         if self.is_capacity(name):
             return self.take_capacities(line, cells)
-        row = {"name": "", "duration": 0, "before": [], "needs": []}
+        row = {"line": line, "name": "", "duration": 0, "before": [], "needs": []}
         resource = 0
         for k, kind in enumerate(self.kinds):
             cell = cells[k].strip(BLANKS) if k < len(cells) else ""
@@ -323,6 +344,13 @@ class Table:
             amounts.append(found)
         return amounts
 
+    def refuse_needs(self):
+        """Refuses the first need above its capacity, unless the activity takes no time."""
+        for row in self.rows:
+            for name, need, amount in zip(self.resources, row["needs"], self.amounts):
+                if row["duration"] and need > amount:
+                    raise Refused(f"T19 line {row['line']} need {name} above {amount}")
+
     def refuse_cycles(self):
         """Names the cycle that starts at the least activity of the largest set in which each member
         has a predecessor in the set, and goes to the least such predecessor again and again."""
@@ -346,10 +374,11 @@ class Table:
 
 
 class Project:
-    """A project with names, as its file shows it: the rows, the resources and their amounts."""
+    """A project with names, as its file shows it: the rows, the resources and their amounts, and the ids of
+    the rows if they are in a column."""
 
-    def __init__(self, rows, resources, amounts):
-        self.rows, self.resources, self.amounts = rows, resources, amounts
+    def __init__(self, rows, resources, amounts, ids=()):
+        self.rows, self.resources, self.amounts, self.ids = rows, resources, amounts, ids
 
     def jobs(self):
         count = len(self.rows)
@@ -378,6 +407,7 @@ class Project:
         for j, (duration, _, needs) in enumerate(jobs):
             lines.append(f"{j + 1:>3}{spaced(6, 1)}{spaced(5, duration)}{columns(7, 4, needs)}")
         lines += [RULE, "RESOURCEAVAILABILITIES:", heads, columns(4, 4, amounts), RULE, "PROJECT INFORMATION:"]
+        lines += [f"id {j + 2} {name}" for j, name in enumerate(self.ids)]
         lines += [f"name {j + 2} {row['name']}" for j, row in enumerate(self.rows) if row["name"]]
         lines += [f"resource {k + 1} {name}" for k, name in enumerate(self.resources)]
         return "\n".join(lines + [RULE]) + "\n"
@@ -391,21 +421,150 @@ def columns(first, further, numbers):
     return "".join(spaced(first if k == 0 else further, n) for k, n in enumerate(numbers))
 
 
+# ---- plain lists
+
+
+def delimiter_of(text):
+    """The delimiter of a text: the first of tab, semicolon and comma in its first line with content."""
+    for line in text.split("\n"):
+        if line.strip(BLANKS):
+            return next((mark for mark in "\t;" if mark in line), ",")
+    return ","
+
+
+def windows_1252(data):
+    """The text of bytes in Windows-1252; the bytes that it lacks are controls (WHATWG)."""
+    return "".join(bytes([byte]).decode("cp1252", "ignore") or chr(byte) for byte in data)
+
+
+def is_utf8(data):
+    try:
+        return bool(data.decode()) or True
+    except UnicodeDecodeError:
+        return False
+
+
+def kind_in(data):
+    """The kind of list that a text is by its header: `activities`, `orders` or none. Of a header in
+    which a quote isn't closed it is unknown."""
+    text = data.removeprefix(b"\xef\xbb\xbf").decode("latin-1")
+    for _, cells in records(text, delimiter_of(text)):
+        if cells is None:
+            return "unknown"
+        keys = [lower(cell.strip(BLANKS).encode("latin-1").decode("utf-8", "replace")) for cell in cells]
+        if any(keys):
+            if "duration" in [COLUMNS.get(key, KINDS.get(key)) for key in keys]:
+                return "activities"
+            return "orders" if {"order", "machine"} <= set(keys) else "none"
+    return "none"
+
+
+def decoded(data):
+    """The text of a file, and whether its encoding is a guess: another one than UTF-8 is Windows-1252
+    if the file is a list then."""
+    if is_utf8(data):
+        return data.decode(), False
+    text = windows_1252(data)
+    if kind_in(text.encode()) == "none":
+        raise Refused(f"T2 not text line {bad_line(data)}")
+    return text, True
+
+
+def bad_line(data):
+    """The line of the first byte that isn't UTF-8."""
+    try:
+        data.decode()
+    except UnicodeDecodeError as error:
+        return data[: error.start].count(b"\n") + 1
+
+
+def capacities_of(keys, names, kinds, rows, given):
+    """The columns that have a capacity, in the row of the capacities or given, and the column of ids."""
+    given = [lower(name) for name in given]
+    place = next((k for k, kind in enumerate(kinds) if kind == "id"), None)
+    if place is None:
+        place = next((k for k, key in enumerate(keys) if KINDS.get(key) == "id" and lower(names[k]) not in given), None)
+    found = {k for k, name in enumerate(names) if lower(name) in given}
+    for cells in rows:
+        if place is not None and lower(cell_at(cells, place)) == "capacity":
+            found |= {k for k in range(len(keys)) if cell_at(cells, k) and k != place}
+    return found, place
+
+
+def cell_at(cells, k):
+    return cells[k].strip(BLANKS) if k < len(cells) else ""
+
+
+def open_columns(found, given):
+    """The columns that would be resources by their headers and have no capacity, each with its header in
+    lower case; all headers; and the column of ids."""
+    line, cells = found[0]
+    kinds, keys, names = header_of(line, cells)
+    rows = [cells for _, cells in found[1:]]
+    limited, place = capacities_of(keys, names, kinds, rows, given)
+    kinds = settled(kinds, keys, names, rows, given)
+    return {k: key for k, key in enumerate(keys) if kinds[k] == "resource" and k not in limited}, names, place
+
+
+def without(found, places):
+    """The records with empty cells in some columns, without those that have no content then."""
+    emptied = [(line, ["" if k in places else cell for k, cell in enumerate(cells)]) for line, cells in found]
+    return [(line, cells) for line, cells in emptied if any(cell.strip(BLANKS) for cell in cells)]
+
+
+def depth_of(cell, is_level):
+    return number_of(cell) if is_level else cell.count(".") if cell else None
+
+
+def without_groups(found, given):
+    """The records without groups, and without the columns that give the depths of rows."""
+    columns, _, place = open_columns(found, given)
+    outlines = [k for k, key in columns.items() if key in LEVELS + OUTLINES]
+    kept = found
+    if place is not None and outlines:
+        is_level = columns[outlines[0]] in LEVELS
+        depths = [depth_of(cell_at(cells, outlines[0]), is_level) for _, cells in found[1:]] + [None]
+        pairs = zip(found[1:], depths, depths[1:])
+        kept = found[:1] + [row for row, own, after in pairs if own is None or after is None or own >= after]
+    return [(line, ["" if k in outlines else cell for k, cell in enumerate(cells)]) for line, cells in kept]
+
+
+def plain_rows(found, given):
+    """The records of the plain list, and the headers of its notes."""
+    try:
+        found = without_groups(without(found, ()), given)
+        columns, names, _ = open_columns(found, given)
+    except Refused:
+        return found, []
+    notes = [k for k, key in columns.items() if key not in SUCCESSORS
+             and any(cell_at(cells, k) and number_of(cell_at(cells, k)) is None for _, cells in found[1:])]
+    return without(found, notes), [names[k] for k in notes]
+
+
+def table_of(text, is_list, given):
+    """The table of a text, and the headers of its notes."""
+    found = list(records(text, delimiter_of(text)))
+    try:
+        return Table(found, given), []
+    except Refused as fault:
+        if str(fault).startswith("T11") or not is_list or any(cells is None for _, cells in found):
+            raise
+    found, ignored = plain_rows(found, given)
+    return Table(found, given), ignored
+
+
 def wanted(data, given):
     """What `plan import` prints for these bytes, or the line that it refuses them with."""
     try:
         if len(data) > LONGEST_TEXT:
             raise Refused("T1 too long")
-        try:
-            text = data.decode("utf-8")
-        except UnicodeDecodeError as error:
-            line = data[: error.start].count(b"\n") + 1
-            raise Refused(f"T2 not text line {line}") from error
+        text, is_guess = decoded(data)
         text = text.removeprefix("\ufeff")
-        head = next((line for line in text.split("\n") if line.strip(BLANKS)), "")
-        delimiter = "\t" if "\t" in head else ";" if ";" in head else ","
-        table = Table(records(text, delimiter), given)
-        return 0, Project(table.rows, table.resources, table.amounts).text().encode(), b""
+        table, ignored = table_of(text, kind_in(text.encode()) == "activities", given)
+        ids = table.seen if table.id_at is not None else ()
+        notes = ["read as Windows-1252"] * is_guess + ["ignored columns: " + ", ".join(ignored)] * bool(ignored)
+        line = ("; ".join(notes) + "\n").encode() if notes else b""
+        return 0, Project(table.rows, table.resources, table.amounts, ids).text().encode(), line
     except Refused as fault:
         return 1, b"", str(fault).encode() + b"\n"
 
@@ -449,6 +608,8 @@ def drawn_table(draw):
     resources = [draw.choice(["crew", "digger", "Kran", "bücher"]) + str(k) for k in range(draw.randrange(4))]
     kinds = ["duration"] + [k for k in ("id", "name", "predecessors") if draw.random() < 0.8] + resources
     notes = draw.sample(NOTES, draw.choice([0, 0, 1, 2, 4]))
+    if draw.random() < 0.05:
+        notes.append(draw.choice(["Successors", "NACHFOLGER", " successeurs", "sucesoras"]))
     kinds += notes
     draw.shuffle(kinds)
     ids = [chr(65 + k) if count <= 26 else f"a{k}" for k in range(count)]
@@ -474,7 +635,7 @@ def drawn_table(draw):
             row[draw.choice(kinds)] = draw.choice(["x", "-1", "99999", "A B", "1000000000"])
         lines.append([row[kind] for kind in kinds])
     if "id" in kinds and draw.random() < 0.9:
-        row = {"id": draw.choice(CAPACITY), **{name: str(draw.randrange(1, 9)) for name in resources}}
+        row = {"id": draw.choice(CAPACITY), **{name: str(draw.randrange(3 - (draw.random() < 0.2), 9)) for name in resources}}
         row.update({name: "2" for name in notes if draw.random() < 0.1})
         lines.insert(draw.randrange(1, len(lines) + 1), [row.get(kind, "") for kind in kinds])
     if draw.random() < 0.2:
@@ -509,7 +670,8 @@ def project_of(told):
     """The project that a file of tests/tables describes."""
     rows = [{"name": a["name"], "duration": a["duration"], "before": a["predecessors"], "needs": a["needs"]}
             for a in told["activities"]]
-    return Project(rows, [r["name"] for r in told["resources"]], [r["capacity"] for r in told["resources"]])
+    names, amounts = [r["name"] for r in told["resources"]], [r["capacity"] for r in told["resources"]]
+    return Project(rows, names, amounts, [a["id"] for a in told["activities"] if "id" in a])
 
 
 def answer_of(stem):

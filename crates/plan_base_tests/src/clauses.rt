@@ -1,16 +1,16 @@
 //! The clause kernel on two activities that share one resource: each way to prove that 7 is the
 //! least makespan.
 
-use plan_kernel::{Input, Kernel, Lesson, Member, Order, Reason};
+use plan_kernel::{Absence, Input, Kernel, Lesson, Member, Order, Reason, StartWindow};
 use std::test::Fail;
 
 // Activities of 3 and 4 time units that need the one unit of a resource.
-fn two_in_turn(rt: &HostRuntime) -> Result<Kernel, Fail> {
+fn two_activities(rt: &HostRuntime) -> Result<Input, Fail> {
     let alloc = rt.alloc();
     let mut needs = Vec::new(alloc);
     needs.push(Vec::from_array(alloc, [1])?)?;
     needs.push(Vec::from_array(alloc, [1])?)?;
-    let input = Input {
+    Ok(Input {
         durations: Vec::from_array(alloc, [3, 4])?,
         arcs: Vec::new(alloc),
         needs,
@@ -22,8 +22,113 @@ fn two_in_turn(rt: &HostRuntime) -> Result<Kernel, Fail> {
                 second: 1,
             }],
         )?,
+        windows: Vec::new(alloc),
+        absences: Vec::new(alloc),
+        tails: Vec::new(alloc),
+    })
+}
+
+fn two_in_turn(rt: &HostRuntime) -> Result<Kernel, Fail> {
+    Ok(Kernel::new(rt.alloc(), two_activities(rt)?)?)
+}
+
+// The same two, where the resource is missing from instant 3 to 5.
+fn two_with_an_absence(rt: &HostRuntime) -> Result<Input, Fail> {
+    let mut input = two_activities(rt)?;
+    input.absences.push(Absence {
+        resource: 0,
+        from: 3,
+        until: 5,
+        amount: 1,
+    })?;
+    Ok(input)
+}
+
+#[test]
+fn an_absence_is_kept_free(rt: HostRuntime) -> Result<(), Fail> {
+    let alloc = rt.alloc();
+    let mut kernel = Kernel::new(alloc, two_with_an_absence(&rt)?)?;
+    assert!(rt;
+        !kernel.lower(Vec::from_array(alloc, [0, 3])?),
+        "the second meets the absence"
+    );
+    assert!(rt;
+        !kernel.lower(Vec::from_array(alloc, [2, 5])?),
+        "the absence begins in the first"
+    );
+    assert!(rt;
+        kernel.lower(Vec::from_array(alloc, [0, 5])?),
+        "between them"
+    );
+    assert_eq!(rt; kernel.upper(), 9);
+    let members = [
+        Member {
+            activity: 0,
+            time: 3,
+        },
+        Member {
+            activity: 1,
+            time: 4,
+        },
+    ];
+    let window = Reason::Energy {
+        resource: 0,
+        from: 0,
+        until: 8,
+        members: &members,
     };
-    Ok(Kernel::new(alloc, input)?)
+    assert!(rt;
+        kernel.begin(window),
+        "7 units of work and 2 absent in 8 instants"
+    );
+    assert!(rt; matches!(kernel.keep(alloc), Ok(Lesson::Refuted)));
+    assert!(rt; kernel.is_optimal());
+    Ok(())
+}
+
+#[test]
+fn windows_and_tails_are_kept(rt: HostRuntime) -> Result<(), Fail> {
+    let alloc = rt.alloc();
+    let mut input = two_activities(&rt)?;
+    input.windows.push(StartWindow {
+        activity: 0,
+        earliest: 4,
+        latest: 4,
+    })?;
+    input.tails.push(10)?;
+    let mut kernel = Kernel::new(alloc, input)?;
+    assert_eq!(rt;
+        kernel.lower_bound(),
+        17,
+        "the appointment, its duration and its tail"
+    );
+    assert!(rt;
+        !kernel.lower(Vec::from_array(alloc, [5, 0])?),
+        "an appointment that moves"
+    );
+    assert!(rt; kernel.lower(Vec::from_array(alloc, [4, 0])?));
+    assert_eq!(rt; kernel.upper(), 17);
+    Ok(())
+}
+
+#[test]
+fn bounds_of_a_start_that_exclude_each_other(rt: HostRuntime) -> Result<(), Fail> {
+    let alloc = rt.alloc();
+    let mut input = two_activities(&rt)?;
+    input.windows.push(StartWindow {
+        activity: 1,
+        earliest: 6,
+        latest: 5,
+    })?;
+    let mut kernel = Kernel::below(alloc, input, 100)?;
+    let start = Reason::Start {
+        activity: 1,
+        value: 6,
+    };
+    assert!(rt; kernel.begin(start));
+    assert!(rt; matches!(kernel.keep(alloc), Ok(Lesson::Refuted)));
+    assert_eq!(rt; kernel.lower_bound(), 100, "no plan costs less");
+    Ok(())
 }
 
 #[test]

@@ -1,5 +1,5 @@
 -- The verdict on starts and what `check` shows for it.
-use Rattle.std.proofs.Common.{◌≡◌, ℕ, List, refl}
+use Rattle.std.proofs.Common.{◌≡◌, ℕ, List, [], refl}
 use denote.Ref.{Bor}
 use Rattle.plan_sgs.specs.declared.verdict.Verdict.{Verdict}
 use Rattle.plan_views.specs.LineLists.{verdict_view_of}
@@ -30,4 +30,4 @@ pub check_shown : (r : Rows) (starts : Bor (List ℕ)) (s : Subject) (file : Lis
     → IsViewOf (task.Check starts s) file view → ShowsTask r (task.Check starts s) file (rows_text r view)
 check_shown rows.Plain starts s file view is = view_text (task.Check starts s) file view is
 check_shown rows.Named starts s file view is = (view, is, refl)
-check_shown (rows.In format) starts s file view is = (view, is, refl)
+check_shown (rows.In format) starts s file view is = (view, is, ([], refl, refl))

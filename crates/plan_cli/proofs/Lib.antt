@@ -1,6 +1,8 @@
 pub mod CapacityLemmas
 pub mod RunLemmas
 pub mod TaskLemmas
+pub mod SpreadsheetLemmas
+pub mod LinkLemmas
 pub mod QuoteLemmas
 pub mod RefusalLemmas
 pub mod RuleLemmas

@@ -1,6 +1,9 @@
 -- The text or line of a task for the first bytes of a file is that for the whole file.
-use Rattle.std.proofs.Common.{◌≡◌, ◌⊎◌, inl, inr, ℕ, ◌+◌, ◌≤◌, ◌<◌, List, [], Option, Some, None, Result, Ok, Err, length, take, map, sym, ap, ◌∙◌, subst, arith}
-use Rattle.std.proofs.lemmas.Bool.{lt-leb, cases_lt}
+use Rattle.std.proofs.Common.{◌≡◌, ◌⊎◌, inl, inr, ℕ, ◌+◌, ◌≤◌, ◌<◌, Bool, false, List, [], Option, Some, None, Result, Ok, Err, Vec, is_some, length, take, map, refl, sym, ap, ◌∙◌, subst, arith}
+use Rattle.std.specs.Global.{Global}
+use Rattle.std.specs.Option.{option_map_or}
+use Rattle.std.specs.Prelude.{IsNone}
+use Rattle.std.proofs.lemmas.Bool.{lt-leb, cases_lt, true≢false}
 use Rattle.std.proofs.lemmas.List.{length-take, take_all, take-take}
 use Rattle.plan_psplib.specs.Plain.{longest_text}
 use Rattle.plan_orlib.specs.Shop as docs
@@ -19,6 +22,9 @@ use Rattle.plan_cli.specs.SolveRun.{IsSolvedBy, TellsNoSolution}
 use Rattle.plan_cli.specs.declared.documents.Plan.{Plan}
 use Rattle.plan_cli.specs.declared.documents.Subject.{Subject}
 use Rattle.plan_cli.specs.declared.documents.Subject.TheVariants as subject
+use Rattle.plan_encoding.specs.Workbooks.{workbook}
+use Rattle.plan_spreadsheet.specs.PlainLists.{Stays, text_of}
+use Rattle.plan_spreadsheet.specs.declared.list.PlainList.{PlainList}
 use Rattle.plan_table.specs.Entries.{filled_from}
 use Rattle.plan_table.specs.declared.fault.TableCode.TheVariants as table_code
 use Rattle.plan_table.specs.declared.fault.ReadError.{ReadError}
@@ -31,7 +37,8 @@ use Rattle.plan_table.specs.Overrides.{Override, override_of}
 use Rattle.plan_table.specs.ShopReading.{shop_in, shop_table_read}
 use Rattle.plan_table.specs.Reading as reads
 use Rattle.plan_table.specs.Refused.{IsRefusedWith}
-use Rattle.plan_cli.specs.ImportRun.{IsImportOf, TellsNoImport, IsShopImportOf, TellsNoShopImport, IsImportBy, TellsNoImportBy, IsImport, TellsUnimported}
+use Rattle.plan_cli.specs.ImportRun.{IsImportOf, TellsNoImport, IsShopImportOf, TellsNoShopImport, IsImportBy, TellsNoImportBy, IsImportIn, TellsNoImportIn, IsImport, TellsUnimported, IsShopImport, TellsNoShop}
+use Rattle.plan_cli.specs.Spreadsheets.{IsListOf, IsLong, IsPlainIf, OfList, RefusesOfList, TellsBook, TellsNoList, TellsNoListIf, is_short}
 use Rattle.plan_cli.specs.Tasks.{IsTextOf, IsLineOf, ShowsTask}
 use Rattle.plan_cli.specs.declared.tasks.Rows.{Rows}
 use Rattle.plan_cli.specs.declared.tasks.Rows.TheVariants as rows
@@ -65,6 +72,88 @@ pub kind_front : (file : List ℕ) (kind : Option ListKind) → IsKind (take (lo
 kind_front file None (inl none) = inl (sym (header_front file) ∙ none)
 kind_front file None (inr is) = inr (front_plan file is)
 kind_front file (Some kind) (header, no_plan) = (sym (header_front file) ∙ header, λ is. no_plan (plan_front file is))
+
+-- ---- the plain list of a file
+
+-- a plain list that stays is the file
+no_text : (o : Option (Vec ℕ Global)) (file : List ℕ) → is_some o ≡ false → option_map_or (λ text. text.items) o file ≡ file
+no_text None file none = refl
+no_text (Some text) file some = absurd (true≢false some)
+
+stays : (p : PlainList) (file : List ℕ) → Stays p → text_of p file ≡ file
+stays p file is = no_text p.text file is.0
+
+-- the front of a longer file is longer than the longest text
+front_long : (file : List ℕ) → longest_text < length file → longest_text < length (take (longest_text + 1) file)
+front_long file long = let m = length-take (longest_text + 1) file in omega (arith, m, long)
+
+-- a longer file isn't short
+not_short : (file : List ℕ) → longest_text < length file → is_short file ≡ false
+not_short file long = lt-leb (length file) longest_text long
+
+-- the first bytes of the front of a file are those of the file
+front_bytes : (file : List ℕ) → take longest_text (take (longest_text + 1) file) ≡ take longest_text file
+front_bytes file = take-take longest_text (longest_text + 1) file (omega arith)
+
+-- if the front of a longer file stays, then the file stays
+long_front : (file : List ℕ) (p : PlainList) → IsLong (take (longest_text + 1) file) p → IsLong file p
+long_front file p (none, is) = (subst (λ (bytes : List ℕ). IsNone (workbook bytes)) (front_bytes file) none, is)
+
+-- the plain list of a longer file is the file
+stays_list : (given : List Override) (file list : List ℕ) → longest_text < length file → IsListOf given file list → list ≡ file
+stays_list given file list long (p, plain, same) =
+    let is : IsLong file p = subst (λ (b : Bool). IsPlainIf b given file p) (not_short file long) plain in
+    same ∙ stays p file is.1
+
+-- the plain list of the front of a longer file is the front
+long_list : (given : List Override) (file list : List ℕ) → longest_text < length file → IsListOf given (take (longest_text + 1) file) list
+    → (list ≡ take (longest_text + 1) file) × IsListOf given file file
+long_list given file list long (p, plain, same) =
+    let front = take (longest_text + 1) file in
+    let is : IsLong front p = subst (λ (b : Bool). IsPlainIf b given front p) (not_short front (front_long file long)) plain in
+    let whole : IsLong file p = long_front file p is in
+    (
+      same ∙ stays p front is.1,
+      (p, subst (λ (b : Bool). IsPlainIf b given file p) (sym (not_short file long)) whole, sym (stays p file whole.1)),
+    )
+
+-- a fact about the plain list of the front of a file is one about that of the file
+pub list_front : (given : List Override) (Holds : List ℕ → Type 0) (file list : List ℕ) → IsListOf given (take (longest_text + 1) file) list
+    → (Holds (take (longest_text + 1) file) → Holds file) → Holds list → OfList given file Holds
+list_front given Holds file list is whole holds = by_length (cases_lt longest_text (length file))
+  where
+    by_length : (longest_text < length file) ⊎ (length file ≤ longest_text) → OfList given file Holds
+    by_length (inr short) =
+        (list, subst (λ (bytes : List ℕ). IsListOf given bytes list) (take_all (longest_text + 1) file (omega (arith, short))) is, holds)
+    by_length (inl long) =
+        let stay = long_list given file list long is in
+        (file, stay.1, whole (subst Holds stay.0 holds))
+
+-- the workbook that the front of a longer file begins like is that of the file
+book_front : (file line : List ℕ) → TellsBook (take (longest_text + 1) file) line → TellsBook file line
+book_front file line (book, some, tells) = (book, ap workbook (sym (front_bytes file)) ∙ some, tells)
+
+-- the line that refuses the front of a file as a list is that for the file
+no_list_front : (given : List Override) → HoldsByFront (TellsNoList given)
+no_list_front given file line tells = by_length (cases_lt longest_text (length file))
+  where
+    by_length : (longest_text < length file) ⊎ (length file ≤ longest_text) → TellsNoList given file line
+    by_length (inr short) = subst (λ (bytes : List ℕ). TellsNoList given bytes line) (take_all (longest_text + 1) file (omega (arith, short))) tells
+    by_length (inl long) =
+        let front = take (longest_text + 1) file in
+        let book : TellsBook front line = subst (λ (b : Bool). TellsNoListIf b given front line) (not_short front (front_long file long)) tells in
+        subst (λ (b : Bool). TellsNoListIf b given file line) (sym (not_short file long)) (book_front file line book)
+
+-- a text for the plain list of the front of a file is one for that of the file
+of_list_front : (given : List Override) (IsText : List ℕ → List ℕ → Type 0) → HoldsByFront IsText
+    → HoldsByFront (λ file text. OfList given file (λ list. IsText list text))
+of_list_front given IsText texts file text (list, is, holds) = list_front given (λ l. IsText l text) file list is (texts file text) holds
+
+-- the line that refuses the plain list of the front of a file is that for the file
+pub refuses_list_front : (given : List Override) (IsLine : List ℕ → List ℕ → Type 0) → HoldsByFront IsLine
+    → HoldsByFront (RefusesOfList given IsLine)
+refuses_list_front given IsLine lines file line (inl tells) = inl (no_list_front given file line tells)
+refuses_list_front given IsLine lines file line (inr is) = inr (of_list_front given IsLine lines file line is)
 
 -- the records of a text that is too long
 long_rows : (text : List ℕ) → longest_text < length text → rows_read text ≡ reads.fault table_code.TooLong 0 []
@@ -141,12 +230,24 @@ no_import_by_front given (Some kinds.Activities) file line tells = no_import_fro
 no_import_by_front given (Some kinds.Orders) file line (inl tells) = inl (no_shop_import_front file line tells)
 no_import_by_front given (Some kinds.Orders) file line (inr tells) = inr tells
 
+import_in_front : (given : List Override) → HoldsByFront (IsImportIn given)
+import_in_front given file text (kind, is, made) = (kind, kind_front file kind is, import_by_front given kind file text made)
+
+no_import_in_front : (given : List Override) → HoldsByFront (TellsNoImportIn given)
+no_import_in_front given file line (kind, is, tells) = (kind, kind_front file kind is, no_import_by_front given kind file line tells)
+
 -- the file that `plan import` makes of the front of a file is that of the file
 imported_front : (given : List Override) → HoldsByFront (IsImport given)
-imported_front given file text (kind, is, made) = (kind, kind_front file kind is, import_by_front given kind file text made)
+imported_front given = of_list_front given (IsImportIn given) (import_in_front given)
 
 unimported_front : (given : List Override) → HoldsByFront (TellsUnimported given)
-unimported_front given file line (kind, is, tells) = (kind, kind_front file kind is, no_import_by_front given kind file line tells)
+unimported_front given = refuses_list_front given (TellsNoImportIn given) (no_import_in_front given)
+
+shop_front : HoldsByFront IsShopImport
+shop_front = of_list_front [] IsShopImportOf shop_import_front
+
+no_shop_front : HoldsByFront TellsNoShop
+no_shop_front = refuses_list_front [] TellsNoShopImport no_shop_import_front
 
 -- the text of a task for the front of a file is that for the file
 task_front : (task : Task) → HoldsByFront (IsTextOf task)
@@ -162,7 +263,7 @@ task_front (task.Best budget subject) = of_subject_front subject (IsBestOf budge
 task_front (task.Prove nodes instance) = proof_front nodes.now instance.now
 task_front (task.Solve conflicts subject) = of_subject_front subject IsSolvedBy
 task_front (task.Import given) = imported_front (map override_of given.now)
-task_front task.ImportShop = shop_import_front
+task_front task.ImportShop = shop_front
 
 pub task_line_front : (task : Task) → HoldsByFront (IsLineOf task)
 task_line_front task.Dates = line_front
@@ -177,7 +278,7 @@ task_line_front (task.Best budget subject) = refuses_subject_front subject (Tell
 task_line_front (task.Prove nodes instance) = no_proof_front nodes.now instance.now
 task_line_front (task.Solve conflicts subject) = refuses_subject_front subject TellsNoSolution
 task_line_front (task.Import given) = unimported_front (map override_of given.now)
-task_line_front task.ImportShop = no_shop_import_front
+task_line_front task.ImportShop = no_shop_front
 
 -- a file that says a job shop isn't too long
 shop_short : (instance file : List ℕ) (doc : docs.Shop) → ShopSays instance file doc → length file ≤ longest_text
@@ -203,6 +304,24 @@ import_by_short given None file text made = activities_short given file text mad
 import_by_short given (Some kinds.Activities) file text made = activities_short given file text made
 import_by_short given (Some kinds.Orders) file text (none, made) = orders_short file text made
 
+-- a file whose plain list is imported isn't too long: a longer one stays
+of_list_short : (given : List Override) (file : List ℕ) (Holds : List ℕ → Type 0) → OfList given file Holds
+    → ((list : List ℕ) → Holds list → length list ≤ longest_text) → length file ≤ longest_text
+of_list_short given file Holds (list, is, holds) short = by_length (cases_lt longest_text (length file))
+  where
+    by_length : (longest_text < length file) ⊎ (length file ≤ longest_text) → length file ≤ longest_text
+    by_length (inr few) = few
+    by_length (inl long) =
+        let same : list ≡ file = stays_list given file list long is in
+        subst (λ (l : List ℕ). length l ≤ longest_text) same (short list holds)
+
+import_in_short : (given : List Override) (list text : List ℕ) → IsImportIn given list text → length list ≤ longest_text
+import_in_short given list text (kind, is, made) = import_by_short given kind list text made
+
+import_short : (given : List Override) (file text : List ℕ) → IsImport given file text → length file ≤ longest_text
+import_short given file text is =
+    of_list_short given file (λ list. IsImportIn given list text) is (λ list made. import_in_short given list text made)
+
 -- a file for which a task writes a text isn't too long
 file_short : (task : Task) (file text : List ℕ) → IsTextOf task file text → length file ≤ longest_text
 file_short task.Dates file text (p, says, rest) = project_short file p says
@@ -216,8 +335,8 @@ file_short (task.Compare starts subject) file text is = subject_short subject (I
 file_short (task.Best budget subject) file text is = subject_short subject (IsBestOf budget.now) file text is
 file_short (task.Prove nodes instance) file text (doc, says, rest) = shop_short instance.now file doc says
 file_short (task.Solve conflicts subject) file text is = subject_short subject IsSolvedBy file text is
-file_short (task.Import given) file text (kind, is, made) = import_by_short (map override_of given.now) kind file text made
-file_short task.ImportShop file text made = orders_short file text made
+file_short (task.Import given) file text is = import_short (map override_of given.now) file text is
+file_short task.ImportShop file text is = of_list_short [] file (λ list. IsShopImportOf list text) is (λ list made. orders_short list text made)
 
 -- a file for which a task shows something isn't too long
 view_short : (task : Task) (file : List ℕ) (view : View) → IsViewOf task file view → length file ≤ longest_text

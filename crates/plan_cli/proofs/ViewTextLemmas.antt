@@ -32,7 +32,7 @@ use Rattle.plan_cli.specs.CheckRun.{TellsVerdictOn, sentence_of}
 use Rattle.plan_cli.specs.CompareRun.{Compares, IsCompared}
 use Rattle.plan_cli.specs.DaysRun.{IsDaysFrom, IsDaysTable, ShowsDays}
 use Rattle.plan_cli.specs.Documents.{IsOfSubject}
-use Rattle.plan_cli.specs.ImportRun.{IsImport, IsShopImportOf}
+use Rattle.plan_cli.specs.ImportRun.{IsImport, IsShopImport}
 use Rattle.plan_cli.specs.PlanRefs.{viewed}
 use Rattle.plan_cli.specs.ProofText.{IsBoundLine}
 use Rattle.plan_cli.specs.ProveRun.{IsProvedOf}
@@ -214,4 +214,4 @@ view_text (task.Best budget who) file v is = of_subject who (IsBestViewOf budget
 view_text (task.Prove nodes instance) file v (doc, said, (limit, spelled, is)) = (doc, said, (limit, spelled, by_proof limit _ v is))
 view_text (task.Solve conflicts who) file v is = of_subject who IsSolvedViewBy IsSolvedBy file v (λ p. by_solver p v) is
 view_text (task.Import given) file v (bytes, is, shown) = subst (IsImport (map override_of given.now) file) (sym (ap plain_text shown)) is
-view_text task.ImportShop file v (bytes, is, shown) = subst (IsShopImportOf file) (sym (ap plain_text shown)) is
+view_text task.ImportShop file v (bytes, is, shown) = subst (IsShopImport file) (sym (ap plain_text shown)) is

@@ -24,6 +24,8 @@ is_in_activities code.NoSuchId = true
 is_in_activities code.BadNeed = true
 is_in_activities code.NoCapacity = true
 is_in_activities code.Cycle = true
+is_in_activities code.Successors = true
+is_in_activities code.NeedAbove = true
 is_in_activities _ = false
 
 -- the same for a list of orders

@@ -1,6 +1,6 @@
 -- The project or the job shop in a file, and the texts and lines for it (docs/definitions.md,
 -- "Runs").
-use Rattle.std.specs.Prelude.{◌≡◌, ◌⊎◌, ℕ, List, length}
+use Rattle.std.specs.Prelude.{◌≡◌, ◌⊎◌, ℕ, List, [], length}
 use Rattle.plan_net.specs.Network as networks
 use Rattle.plan_psplib.specs.Project.{Project, SaysProject}
 use Rattle.plan_orlib.specs.Says.{Says}
@@ -13,7 +13,7 @@ use Rattle.plan_shop.specs.Docs.{shop_of}
 use Rattle.plan_gantt.specs.FirstFaults.{TellsFirstFailing, TellsFirstShopFault}
 use Rattle.plan_report.specs.Sheet.{Sheet}
 use Rattle.plan_report.specs.StartsText.{activity_sheet, step_sheet}
-use Rattle.plan_table.specs.Names.{Name, names_behind, activity_key}
+use Rattle.plan_table.specs.Names.{Name, names_behind, activity_key, id_key}
 use Rattle.plan_table.specs.ShopNames.{instance_names, machine_key, order_key}
 use Rattle.plan_cli.specs.Capacities.{Replaces, TellsUnknown}
 use Rattle.plan_cli.specs.Plans.{IsOfProject, RefusesFile, IsOfShop, RefusesShop, resources_in}
@@ -103,3 +103,12 @@ names_of_rows (subject.Shop instance) file = instance_names order_key instance.n
 abbrev pub names_of_lines : Subject → List ℕ → List Name
 names_of_lines (subject.Project given) file = names_behind activity_key file
 names_of_lines (subject.Shop instance) file = instance_names machine_key instance.now file
+
+-- the ids of the activities in a project file
+abbrev pub ids_in : List ℕ → List Name
+ids_in file = names_behind id_key file
+
+-- the ids of the activities of a project; a job shop has none
+abbrev pub ids_of_rows : Subject → List ℕ → List Name
+ids_of_rows (subject.Project given) file = ids_in file
+ids_of_rows (subject.Shop instance) file = []

@@ -19,6 +19,7 @@ use Rattle.plan_table.specs.ShopReading.{shop_table_read}
 use Rattle.plan_table.specs.ShopTable.{ShopTable, shop_of}
 use Rattle.plan_table.specs.ShopText.{instance, shop_text}
 use Rattle.plan_table.specs.Table.{Table}
+use Rattle.plan_cli.specs.Spreadsheets.{OfList, RefusesOfList}
 use Rattle.plan_cli.specs.TableFaultText.{TellsNoResource, fault_text_of}
 
 -- a line gives an error of a table
@@ -95,12 +96,28 @@ abbrev pub TellsNoImportBy : Option ListKind → List Override → List ℕ → 
 TellsNoImportBy (Some kinds.Orders) = TellsNoOrderImport
 TellsNoImportBy _ = TellsNoImport
 
--- a text is the file that `plan import` makes of a file, with capacities that are given
+-- a text is the file that `plan import` makes of a list, with capacities that are given
+abbrev pub IsImportIn : List Override → List ℕ → List ℕ → Type 0
+IsImportIn given list text =
+    (kind : Option ListKind) × IsKind list kind × IsImportBy kind given list text
+
+-- a line with which `plan import` refuses a list
+abbrev pub TellsNoImportIn : List Override → List ℕ → List ℕ → Type 0
+TellsNoImportIn given list line =
+    (kind : Option ListKind) × IsKind list kind × TellsNoImportBy kind given list line
+
+-- a text is the file that `plan import` makes of a file, which is first its plain list
 abbrev pub IsImport : List Override → List ℕ → List ℕ → Type 0
-IsImport given file text =
-    (kind : Option ListKind) × IsKind file kind × IsImportBy kind given file text
+IsImport given file text = OfList given file (λ list. IsImportIn given list text)
 
 -- a line with which `plan import` refuses a file
 abbrev pub TellsUnimported : List Override → List ℕ → List ℕ → Type 0
-TellsUnimported given file line =
-    (kind : Option ListKind) × IsKind file kind × TellsNoImportBy kind given file line
+TellsUnimported given = RefusesOfList given (TellsNoImportIn given)
+
+-- a text is the job shop file that `plan import --shop` makes of a file
+abbrev pub IsShopImport : List ℕ → List ℕ → Type 0
+IsShopImport file text = OfList [] file (λ list. IsShopImportOf list text)
+
+-- a line with which `plan import --shop` refuses a file
+abbrev pub TellsNoShop : List ℕ → List ℕ → Type 0
+TellsNoShop = RefusesOfList [] TellsNoShopImport

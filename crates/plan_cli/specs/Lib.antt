@@ -2,6 +2,7 @@ pub mod Capacities
 pub mod Run
 pub mod Plans
 pub mod Documents
+pub mod Links
 pub mod PlanRefs
 pub mod Lists
 pub mod ScheduleRun
@@ -52,6 +53,8 @@ pub mod Views
 pub mod TaskViews
 pub mod ExplainedText
 pub mod Quotes
+pub mod Spreadsheets
+pub mod Notes
 pub mod TableFaultText
 pub mod Refusals
 pub mod Contents

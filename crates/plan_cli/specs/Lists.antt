@@ -10,6 +10,7 @@ use Rattle.plan_table.specs.declared.kinds.ListKind.{ListKind}
 use Rattle.plan_table.specs.declared.kinds.ListKind.TheVariants as kinds
 use Rattle.plan_cli.specs.Capacities.{TellsUnknown}
 use Rattle.plan_cli.specs.ImportRun.{IsImportOf, TellsNoImport, IsShopImportOf, TellsNoShopImport}
+use Rattle.plan_cli.specs.Spreadsheets.{IsListOf, RefusesOfList}
 use Rattle.plan_cli.specs.declared.capacities.Capacity.{Capacity}
 use Rattle.plan_cli.specs.declared.documents.Subject.{Subject}
 use Rattle.plan_cli.specs.declared.documents.Subject.TheVariants as subject
@@ -53,22 +54,37 @@ abbrev pub RefusesSubjectOn : ListKind → Subject → List ℕ → Type 0
 RefusesSubjectOn kinds.Orders (subject.Project given) line = TellsUnknown [] given.now [] line
 RefusesSubjectOn _ _ line = ⊥
 
--- a command on a file reads this subject in this text: those of a list are made of it
-abbrev pub Reads : Option ListKind → Subject → List ℕ → Subject → List ℕ → Type 0
-Reads None of file s text = (s ≡ of) × (text ≡ file)
-Reads (Some kind) of file s text = IsMadeOf kind file text × IsSubjectOn kind of s
+-- A command reads this subject in this text: those of a list are made of it. Another file is read
+-- as it is.
+abbrev pub Reads : Option ListKind → Subject → List ℕ → List ℕ → Subject → List ℕ → Type 0
+Reads None of file list s text = (s ≡ of) × (text ≡ file)
+Reads (Some kind) of file list s text = IsMadeOf kind list text × IsSubjectOn kind of s
 
--- the same, for a file whose kind is known
+-- the same, for a file whose plain list and kind are known
 pub record IsReadAs (of : Subject) (file : List ℕ) (kind : Option ListKind) (s : Subject)
     (text : List ℕ) : Type 0 where
-  pub kind_is : IsKind file kind
-  pub read : Reads kind of file s text
+  pub list : List ℕ
+  pub list_is : IsListOf [] file list
+  pub kind_is : IsKind list kind
+  pub read : Reads kind of file list s text
+
+-- a line refuses a list of a kind, or else the subject of the command on it
+abbrev pub RefusesMade : ListKind → Subject → List ℕ → List ℕ → Type 0
+RefusesMade kind of list line = RefusesList kind list line
+    ⊎ ((text : List ℕ) × IsMadeOf kind list text × RefusesSubjectOn kind of line)
+
+-- a line refuses a text of a kind: one that is no list isn't refused
+abbrev pub RefusesKind : Option ListKind → Subject → List ℕ → List ℕ → Type 0
+RefusesKind None of list line = ⊥
+RefusesKind (Some kind) of list line = RefusesMade kind of list line
+
+-- a line refuses a text, before the command
+abbrev pub RefusesIn : Subject → List ℕ → List ℕ → Type 0
+RefusesIn of list line = (kind : Option ListKind) × IsKind list kind × RefusesKind kind of list line
 
 -- a line refuses the list that a file is, before the command
 abbrev pub RefusesReading : Subject → List ℕ → List ℕ → Type 0
-RefusesReading of file line = (kind : ListKind) × IsKind file (Some kind)
-    × (RefusesList kind file line
-    ⊎ ((text : List ℕ) × IsMadeOf kind file text × RefusesSubjectOn kind of line))
+RefusesReading of = RefusesOfList [] (RefusesIn of)
 
 -- this holds of what a command reads
 abbrev pub ReadsAs : Subject → List ℕ → (Option ListKind → Subject → List ℕ → Type 0) → Type 0
@@ -84,3 +100,10 @@ RefusesAs of file IsLine line = RefusesReading of file line
 abbrev pub text_of : Option (String Global) → List ℕ → List ℕ
 text_of None file = file
 text_of (Some made) file = string_bytes made
+
+-- what a command reads of a list of a kind: the subject, and the file that was made of the list
+abbrev pub IsMadeBy : Option ListKind → Subject → List ℕ → Subject → Option (String Global) → Type 0
+IsMadeBy None of list s None = s ≡ of
+IsMadeBy (Some kind) of list s (Some made) =
+    IsMadeOf kind list (string_bytes made) × IsSubjectOn kind of s
+IsMadeBy _ of list s _ = ⊥

@@ -56,6 +56,8 @@ table_code table.Limit = code.TableLimit
 table_code table.Cells = code.BadCells
 table_code table.NoResource = code.NoListResource
 table_code table.TooManySteps = code.ManySteps
+table_code table.Successors = code.SuccessorColumn
+table_code table.NeedAbove = code.HighNeed
 
 -- the argument that the error of a list is about: the option with the capacities if a given
 -- resource isn't in the list, or else the file

@@ -37,6 +37,8 @@ line_by code.Limit line word = codes "T12 limit line " ++ decimal line
 line_by code.Cells line word = lined (codes "T13 line ") line (codes " cells")
 line_by code.NoResource line word = codes "T14 no resource " ++ word
 line_by code.TooManySteps line word = codes "T15 steps " ++ word
+line_by code.Successors line word = codes "T16 column " ++ word
+line_by code.NeedAbove line word = lined (codes "T19 line ") line (codes " need " ++ word)
 
 -- the line of an error; a byte of its word that isn't UTF-8 becomes the replacement character
 abbrev pub fault_text_of : Fault → List ℕ

@@ -40,7 +40,7 @@ use Rattle.plan_cli.specs.Calendars.{IsDated}
 use Rattle.plan_cli.specs.CompareRun.{SayPair}
 use Rattle.plan_cli.specs.Documents.{IsOfSubject, problem_of, sheet_of}
 use Rattle.plan_cli.specs.CheckRun.{sentence_of}
-use Rattle.plan_cli.specs.ImportRun.{IsImport, IsShopImportOf}
+use Rattle.plan_cli.specs.ImportRun.{IsImport, IsShopImport}
 use Rattle.plan_cli.specs.PlanRefs.{viewed}
 use Rattle.plan_cli.specs.Plans.{IsOfProject, IsOfShop}
 use Rattle.plan_cli.specs.Scheduled.{IsByRule, IsScheduleFrom}
@@ -213,4 +213,4 @@ IsViewOf (task.Best budget subject) = IsOfSubject subject (IsBestViewOf budget.n
 IsViewOf (task.Prove nodes instance) = IsProofViewOf nodes.now instance.now
 IsViewOf (task.Solve conflicts subject) = IsOfSubject subject IsSolvedViewBy
 IsViewOf (task.Import given) = IsTextView (IsImport (map override_of given.now))
-IsViewOf task.ImportShop = IsTextView IsShopImportOf
+IsViewOf task.ImportShop = IsTextView IsShopImport

@@ -5,7 +5,9 @@ use Rattle.std.specs.Prelude.{take, map}
 use Rattle.std.specs.Prelude.{codes, bytes_eq, if◌then◌else◌}
 use Rattle.plan_gantt.specs.FirstFaults.{TellsFirstFailing}
 use Rattle.plan_cli.specs.Run.{IsDateTableOf, ReadsFront}
-use Rattle.plan_cli.specs.Documents.{IsOfSubject, RefusesSubject, names_of_rows, names_of_lines}
+use Rattle.plan_cli.specs.Documents.{IsOfSubject, RefusesSubject, ids_in, ids_of_rows}
+use Rattle.plan_cli.specs.Documents.{names_of_rows, names_of_lines}
+use Rattle.plan_cli.specs.Links.{AreProjectLinks, AreSubjectLinks}
 use Rattle.plan_cli.specs.Plans.{IsOfProject, RefusesFile}
 use Rattle.plan_cli.specs.Scheduled.{TellsNoRuleOf, TellsNotMade}
 use Rattle.plan_cli.specs.Tables.{IsTableBy}
@@ -19,8 +21,9 @@ use Rattle.plan_cli.specs.CheckRun.{TellsVerdictOn, TellsBadStarts}
 use Rattle.plan_cli.specs.BestRun.{IsBestOf, TellsNoBestOf}
 use Rattle.plan_cli.specs.ProveRun.{IsProofTableOf, TellsWhyNoProof}
 use Rattle.plan_cli.specs.SolveRun.{IsSolvedBy, TellsNoSolution}
-use Rattle.plan_cli.specs.ImportRun.{IsImport, TellsUnimported, IsShopImportOf, TellsNoShopImport}
+use Rattle.plan_cli.specs.ImportRun.{IsImport, TellsUnimported, IsShopImport, TellsNoShop}
 use Rattle.plan_cli.specs.Lists.{ReadsAs, RefusesAs}
+use Rattle.plan_views.specs.LinkColumns.{Links}
 use Rattle.plan_cli.specs.TaskViews.{IsViewOf}
 use Rattle.plan_cli.specs.Views.{View, named_text, text_in}
 use Rattle.plan_table.specs.Names.{Name, names_behind, activity_key}
@@ -52,7 +55,7 @@ IsTextOf (task.Best budget subject) = IsOfSubject subject (IsBestOf budget.now)
 IsTextOf (task.Prove nodes instance) = IsProofTableOf nodes.now instance.now
 IsTextOf (task.Solve conflicts subject) = IsOfSubject subject IsSolvedBy
 IsTextOf (task.Import given) = IsImport (map override_of given.now)
-IsTextOf task.ImportShop = IsShopImportOf
+IsTextOf task.ImportShop = IsShopImport
 
 -- the lines with which a task refuses a file
 abbrev pub IsLineOf : Task → List ℕ → List ℕ → Type 0
@@ -69,7 +72,7 @@ IsLineOf (task.Best budget subject) = RefusesSubject subject (TellsNoBestOf budg
 IsLineOf (task.Prove nodes instance) = TellsWhyNoProof nodes.now instance.now
 IsLineOf (task.Solve conflicts subject) = RefusesSubject subject TellsNoSolution
 IsLineOf (task.Import given) = TellsUnimported (map override_of given.now)
-IsLineOf task.ImportShop = TellsNoShopImport
+IsLineOf task.ImportShop = TellsNoShop
 
 -- The names of the rows that a task writes for a file. The rows are those of activities in a
 -- project, of orders in a job shop, and of machines in its chart. Other rows have no names.
@@ -85,15 +88,41 @@ names_for (task.Prove nodes instance) file = instance_names order_key instance.n
 names_for (task.Solve conflicts subject) file = names_of_rows subject file
 names_for _ file = []
 
--- a text is the text of what a task shows for a file, each row with its name
+-- the ids of the rows that a task writes for a file: activities of a project can have ids
+abbrev pub ids_for : Task → List ℕ → List Name
+ids_for task.Dates file = ids_in file
+ids_for (task.Schedule rule subject) file = ids_of_rows subject file
+ids_for (task.Chart from subject) file = ids_of_rows subject file
+ids_for (task.Days from dates subject) file = ids_of_rows subject file
+ids_for (task.Slack starts given) file = ids_in file
+ids_for (task.Compare starts subject) file = ids_of_rows subject file
+ids_for (task.Best budget subject) file = ids_of_rows subject file
+ids_for (task.Solve conflicts subject) file = ids_of_rows subject file
+ids_for _ file = []
+
+-- the resources and the predecessors of the activities that a task writes, if they have these ids;
+-- dates ignore resources, and a chart doesn't show them
+abbrev pub AreLinksFor : Task → List Name → List ℕ → List Links → Type 0
+AreLinksFor (task.Schedule rule subject) ids = AreSubjectLinks ids subject
+AreLinksFor (task.Days from dates subject) ids = AreSubjectLinks ids subject
+AreLinksFor (task.Slack starts given) ids = AreProjectLinks ids given.now
+AreLinksFor (task.Compare starts subject) ids = AreSubjectLinks ids subject
+AreLinksFor (task.Best budget subject) ids = AreSubjectLinks ids subject
+AreLinksFor (task.Solve conflicts subject) ids = AreSubjectLinks ids subject
+AreLinksFor _ ids = λ file links. links ≡ []
+
+-- a text is the text of what a task shows for a file, each row with its name, and activities with
+-- their ids
 abbrev pub IsNamedText : Task → List ℕ → List ℕ → Type 0
 IsNamedText t file text = (view : View) × IsViewOf t file view
-    × (text ≡ named_text (names_for t file) view)
+    × (text ≡ named_text (ids_for t file) (names_for t file) view)
 
--- a text is what a task shows for a file in a format, with the names of the rows
+-- a text is what a task shows for a file in a format, with the names of the rows, and with the ids,
+-- the resources and the predecessors of activities
 abbrev pub IsFormattedText : Format → Task → List ℕ → List ℕ → Type 0
 IsFormattedText format t file text = (view : View) × IsViewOf t file view
-    × (text ≡ text_in format (names_for t file) view)
+    × ((links : List Links) × AreLinksFor t (ids_for t file) file links
+    × (text ≡ text_in format (ids_for t file) (names_for t file) links view))
 
 -- the texts that a task writes for a file, with these rows
 abbrev pub ShowsTask : Rows → Task → List ℕ → List ℕ → Type 0

@@ -3,15 +3,17 @@ use Rattle.std.specs.Prelude.{ℕ, List, [], ◌∷◌, Result, IfOk, map, strin
 use Rattle.plan_table.specs.Names.{Name}
 use Rattle.plan_formats.specs.CsvText.{csv_text_of, records_of}
 use Rattle.plan_formats.specs.JsonText.{json_text_of}
+use Rattle.plan_formats.specs.IdTables.{with_ids}
 use Rattle.plan_formats.specs.NamedTables.{with_names}
 use Rattle.plan_formats.specs.TableFormats.{format_text}
 use Rattle.plan_formats.specs.TableText.{text_of}
 use Rattle.plan_formats.specs.Tables.{Table, table_of}
 use Rattle.plan_formats.specs.declared.format.Format.{Format}
 use Rattle.plan_formats.specs.declared.format.Format.TheVariants as format
-use Rattle.plan_views.specs.ChartData.{bars_of, chart_data}
-use Rattle.plan_views.specs.Charts.{Chart, chart_of, named_text_of}
+use Rattle.plan_views.specs.ChartData.{bars_of, id_chart_data}
+use Rattle.plan_views.specs.Charts.{Chart, chart_of, id_text_of, named_text_of}
 use Rattle.plan_views.specs.LineLists.{name_view_of, verdict_view_of}
+use Rattle.plan_views.specs.LinkColumns.{Links, with_links}
 use Rattle.plan_errors.specs.declared.fault.CliFault.{CliFault}
 use Rattle.plan_cli.specs.declared.views.View as declared
 use Rattle.plan_cli.specs.declared.views.View.TheVariants as kept
@@ -40,24 +42,42 @@ plain_text (table t) = text_of t
 plain_text (chart c) = named_text_of [] c
 plain_text (text t) = t
 
--- the text, each row with its name
-abbrev pub named_text : List Name → View → List ℕ
-named_text names (table t) = text_of (with_names names t)
-named_text names (chart c) = named_text_of names c
-named_text names (text t) = t
+-- a table with the names of its rows, and with the ids of activities in the place of their numbers
+abbrev pub named_table : List Name → List Name → Table → Table
+named_table ids names t = with_ids ids (with_names names t)
+
+-- the text, each row with its name, and activities with their ids
+abbrev pub named_text : List Name → List Name → View → List ℕ
+named_text ids names (table t) = text_of (named_table ids names t)
+named_text ids names (chart c) = id_text_of ids names c
+named_text ids names (text t) = t
 
 -- a table with the names of its rows, if there are names
 abbrev pub with_any_names : List Name → Table → Table
 with_any_names [] t = t
 with_any_names (name ∷ names) t = with_names (name ∷ names) t
 
--- a chart in a format: CSV has its bars, JSON its value
-abbrev pub chart_text : Format → List Name → Chart → List ℕ
-chart_text format.Csv names c = csv_text_of (records_of (with_any_names names (bars_of c)))
-chart_text format.Json names c = json_text_of (chart_data names c)
+-- a table with the resources and the predecessors of its activities, if they are given
+abbrev pub with_any_links : List Links → Table → Table
+with_any_links [] t = t
+with_any_links (first ∷ links) t = with_links (first ∷ links) t
 
--- the text in a format, with the names of the rows
-abbrev pub text_in : Format → List Name → View → List ℕ
-text_in format names (table t) = format_text format (with_any_names names t)
-text_in format names (chart c) = chart_text format names c
-text_in format names (text t) = t
+-- the same with the names of its rows, and with the ids of activities in the place of their numbers
+abbrev pub full_table : List Name → List Name → List Links → Table → Table
+full_table ids names links t = with_ids ids (with_any_links links (with_any_names names t))
+
+-- the bars of a chart as CSV
+abbrev pub bars_text : List Name → List Name → Chart → List ℕ
+bars_text ids names c = csv_text_of (records_of (full_table ids names [] (bars_of c)))
+
+-- a chart in a format: CSV has its bars, JSON its value
+abbrev pub chart_text : Format → List Name → List Name → Chart → List ℕ
+chart_text format.Csv ids names c = bars_text ids names c
+chart_text format.Json ids names c = json_text_of (id_chart_data ids names c)
+
+-- the text in a format, with the names of the rows, the ids of activities, and their resources and
+-- predecessors if these are given
+abbrev pub text_in : Format → List Name → List Name → List Links → View → List ℕ
+text_in format ids names links (table t) = format_text format (full_table ids names links t)
+text_in format ids names links (chart c) = chart_text format ids names c
+text_in format ids names links (text t) = t

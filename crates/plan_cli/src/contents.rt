@@ -20,6 +20,8 @@ fn is_in_activities(code: TableCode) -> bool
             | TableCode::BadNeed
             | TableCode::NoCapacity
             | TableCode::Cycle
+            | TableCode::Successors
+            | TableCode::NeedAbove
     )
 }
 

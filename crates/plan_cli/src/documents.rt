@@ -13,7 +13,9 @@ use plan_orlib::ShopDoc;
 use plan_psplib::ProjectDoc;
 use plan_sgs::Instance;
 use plan_shop::Shop;
-use plan_table::{NameLine, activity_names, machine_names, order_names, resource_names};
+use plan_table::{
+    NameLine, activity_ids, activity_names, machine_names, order_names, resource_names,
+};
 use std::alloc::{AllocError, Global};
 
 /// The project or the job shop of a command.
@@ -114,5 +116,20 @@ pub fn names_of_lines<'a>(
     match subject {
         Subject::Project(_) => activity_names(alloc, file),
         Subject::Shop(instance) => machine_names(alloc, file, instance.as_bytes()),
+    }
+}
+
+/// Returns the ids of the activities of a project. A job shop has none.
+pub fn ids_of_rows<'a>(
+    alloc: Global,
+    subject: Subject<'_>,
+    file: &'a [u8],
+) -> Result<Vec<NameLine<'a>>, AllocError>
+    ensures { IfOk result (λ ids.
+        map name_of ids.items ≡ spec.ids_of_rows subject.entry file.now) }
+{
+    match subject {
+        Subject::Project(_) => activity_ids(alloc, file),
+        Subject::Shop(_) => Ok(Vec::new(alloc)),
     }
 }

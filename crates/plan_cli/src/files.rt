@@ -13,7 +13,7 @@ use crate::inputs::{Inputs, SystemInputs};
 use crate::named_texts::{NamedText, with_text};
 use crate::runs::run_task;
 use crate::tasks::{Rows, Task};
-use crate::watchers::{Log, ProofWatcher, SolveWatcher, Unlogged};
+use crate::watchers::{Log, NoteWatcher, ProofWatcher, SolveWatcher, Unlogged};
 use plan_errors::{About, CliFault, read_file};
 use plan_io::Sink;
 use std::alloc::Global;
@@ -23,7 +23,7 @@ use std::rt::Files;
 /// called during a search of `prove` or `solve`. A file that can't be opened or read is
 /// [`CliFault::Input`].
 #[tactic(auto, using(plan_errors::proofs::RefusalLemmas::input_unread))]
-pub fn run_on_named<I: Inputs, W: Sink, V: ProofWatcher + SolveWatcher, L: Log>(
+pub fn run_on_named<I: Inputs, W: Sink, V: ProofWatcher + SolveWatcher + NoteWatcher, L: Log>(
     alloc: Global,
     inputs: &I,
     task: Task<'_>,
@@ -77,7 +77,7 @@ pub fn read_named<I: Inputs>(
 /// its role in the task. The watcher is called during a search. A file that can't be opened or read
 /// is [`CliFault::Input`] of its argument.
 #[tactic(auto, using(plan_errors::proofs::RefusalLemmas::input_unread))]
-pub fn run_on_texts<I: Inputs, W: Sink, V: ProofWatcher + SolveWatcher>(
+pub fn run_on_texts<I: Inputs, W: Sink, V: ProofWatcher + SolveWatcher + NoteWatcher>(
     alloc: Global,
     inputs: &I,
     task: Task<'_>,
@@ -117,7 +117,7 @@ pub fn run_on_texts<I: Inputs, W: Sink, V: ProofWatcher + SolveWatcher>(
 }
 
 /// Calls [`run_on_named`] with the system's files and standard input.
-pub fn run_on_file<R: Files + Input + AllocGlobal, W: Sink, V: ProofWatcher + SolveWatcher, L: Log>(
+pub fn run_on_file<R: Files + Input + AllocGlobal, W: Sink, V: ProofWatcher + SolveWatcher + NoteWatcher, L: Log>(
     rt: &R,
     task: Task<'_>,
     rows: Rows,
@@ -149,7 +149,7 @@ pub fn run_on_file<R: Files + Input + AllocGlobal, W: Sink, V: ProofWatcher + So
 }
 
 /// Calls [`run_on_texts`] with the system's files and standard input.
-pub fn run_on_files<R: Files + Input + AllocGlobal, W: Sink, V: ProofWatcher + SolveWatcher>(
+pub fn run_on_files<R: Files + Input + AllocGlobal, W: Sink, V: ProofWatcher + SolveWatcher + NoteWatcher>(
     rt: &R,
     task: Task<'_>,
     rows: Rows,

@@ -11,6 +11,7 @@ ghost use Rattle.plan_errors.specs.Output.{Refuses};
 ghost use Rattle.plan_cli.specs.Run.{IfText};
 ghost use Rattle.plan_cli.specs.ImportRun as spec;
 
+use crate::spreadsheets::plain_of;
 use crate::table_faults::{resource_refusal, table_refusal};
 use plan_errors::{About, CliFault, Code, refuse_words};
 use plan_table::{
@@ -19,8 +20,8 @@ use plan_table::{
 };
 use std::alloc::Global;
 
-// Returns the error of a file that is too long.
-fn long_refusal(alloc: Global) -> CliFault
+/// Returns the error of a file that is too long.
+pub(crate) fn long_refusal(alloc: Global) -> CliFault
     ensures { Refuses (λ line. line ≡ codes "T1 too long") result }
 {
     refuse_words(alloc, Code::LongTable, About::List, "too long")
@@ -132,8 +133,22 @@ fn text_by(
     }
 }
 
+// Returns the file that `plan import` makes of a list.
+fn list_import_text(
+    alloc: Global,
+    given: &[Override<'_>],
+    list: &[u8],
+) -> Result<String, CliFault>
+    ensures made { IfText result (spec.IsImportIn (map override_of given.now) list.now) }
+    ensures refused { IfErr result (Refuses
+        (spec.TellsNoImportIn (map override_of given.now) list.now)) }
+{
+    let kind = list_kind(alloc, list)?;
+    text_by(alloc, kind, given, list)
+}
+
 /// Returns the job shop file of a list of orders, and the project file of the table in any other
-/// file, with capacities that are given.
+/// file, with capacities that are given. The file is read as its plain list.
 pub(crate) fn file_import_text(
     alloc: Global,
     given: &[Override<'_>],
@@ -143,6 +158,15 @@ pub(crate) fn file_import_text(
     ensures refused { IfErr result (Refuses
         (spec.TellsUnimported (map override_of given.now) file.now)) }
 {
-    let kind = list_kind(alloc, file)?;
-    text_by(alloc, kind, given, file)
+    let plain = plain_of(alloc, given, file)?;
+    list_import_text(alloc, given, plain.utf8(file))
+}
+
+/// Returns the job shop file of the list of orders in a file, which is read as its plain list.
+pub(crate) fn file_shop_text(alloc: Global, file: &[u8]) -> Result<String, CliFault>
+    ensures made { IfText result (spec.IsShopImport file.now) }
+    ensures refused { IfErr result (Refuses (spec.TellsNoShop file.now)) }
+{
+    let plain = plain_of(alloc, &[], file)?;
+    shop_import_text(alloc, plain.utf8(file))
 }

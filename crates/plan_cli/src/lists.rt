@@ -1,7 +1,6 @@
 //! Lists, which commands read as the files that `plan import` makes of them.
 
-ghost use Rattle.std.specs.Prelude.{◌≡◌, Some, [], IfOk, IfErr};
-ghost use Rattle.plan_table.specs.Kinds.{IsKind};
+ghost use Rattle.std.specs.Prelude.{◌≡◌, [], IfOk, IfErr, string_bytes};
 ghost use Rattle.plan_errors.specs.Output.{Refuses};
 ghost use Rattle.plan_cli.specs.Capacities.{TellsUnknown};
 ghost use Rattle.plan_cli.specs.Lists as spec;
@@ -10,6 +9,7 @@ ghost use Rattle.plan_cli.specs.Run.{IfText};
 use crate::capacities::{Capacity, replaced};
 use crate::documents::Subject;
 use crate::imports::{import_text, shop_import_text};
+use crate::spreadsheets::plain_of;
 use plan_errors::CliFault;
 use plan_table::{ListKind, list_kind};
 use std::alloc::Global;
@@ -106,25 +106,51 @@ fn subject_on<'a>(
     }
 }
 
-// Reads a list for a command.
-fn readable_list<'a>(
+// Returns the subject of a command on a list of a kind, and the file that `plan import` makes of the
+// list.
+#[tactic(auto, using(crate::proofs::ListLemmas::list_refused, crate::proofs::ListLemmas::subject_refused))]
+fn made_list<'a>(
     alloc: Global,
     kind: ListKind,
     subject: Subject<'a>,
-    file: &[u8],
-) -> Result<Reading<'a>, CliFault>
-    requires { IsKind file.now (Some kind) }
-    ensures read { IfOk result (λ read. spec.IsReadAs subject.entry file.now read.kind
-        read.subject (spec.text_of read.made file.now)) }
-    ensures refused { IfErr result (Refuses (spec.RefusesReading subject.entry file.now)) }
+    list: &[u8],
+) -> Result<(Subject<'a>, String), CliFault>
+    ensures subject { IfOk result (λ made. spec.IsSubjectOn kind subject.entry made.0) }
+    ensures text { IfOk result (λ made. spec.IsMadeOf kind list.now (string_bytes made.1)) }
+    ensures refused { IfErr result (Refuses (spec.RefusesMade kind subject.entry list.now)) }
 {
-    let made = made_text(alloc, kind, file)?;
+    let made = made_text(alloc, kind, list)?;
     let subject = subject_on(alloc, kind, subject)?;
-    Ok(Reading {
-        kind: Some(kind),
-        subject,
-        made: Some(made),
-    })
+    Ok((subject, made))
+}
+
+// Reads a file of this kind for a command.
+fn read_by<'a>(
+    alloc: Global,
+    kind: Option<ListKind>,
+    subject: Subject<'a>,
+    list: &[u8],
+) -> Result<Reading<'a>, CliFault>
+    ensures kind { IfOk result (λ read. read.kind ≡ kind) }
+    ensures read { IfOk result (λ read. spec.IsMadeBy kind subject.entry list.now
+        read.subject read.made) }
+    ensures refused { IfErr result (Refuses (spec.RefusesKind kind subject.entry list.now)) }
+{
+    match kind {
+        Some(kind) => {
+            let (subject, made) = made_list(alloc, kind, subject, list)?;
+            Ok(Reading {
+                kind: Some(kind),
+                subject,
+                made: Some(made),
+            })
+        }
+        None => Ok(Reading {
+            kind: None,
+            subject,
+            made: None,
+        }),
+    }
 }
 
 /// Reads a file for a command. A list is read as the file that `plan import` makes of
@@ -139,13 +165,8 @@ pub fn readable<'a>(
         read.subject (spec.text_of read.made file.now)) }
     ensures refused { IfErr result (Refuses (spec.RefusesReading subject.entry file.now)) }
 {
-    let kind = list_kind(alloc, file)?;
-    match kind {
-        Some(kind) => readable_list(alloc, kind, subject, file),
-        None => Ok(Reading {
-            kind: None,
-            subject,
-            made: None,
-        }),
-    }
+    let plain = plain_of(alloc, &[], file)?;
+    let list = plain.utf8(file);
+    let kind = list_kind(alloc, list)?;
+    read_by(alloc, kind, subject, list)
 }

@@ -14,15 +14,42 @@ ghost use Rattle.plan_cli.specs.Tasks.{RefusesRead, ShowsRead};
 
 use crate::capacities::Capacity;
 use crate::documents::Subject;
+use crate::notes::notes_of;
 use crate::tasks::{Rows, Task, read_text};
-use crate::watchers::{Log, ProofWatcher, SolveWatcher, Unlogged, Unwatched};
+use crate::watchers::{Log, NoteWatcher, ProofWatcher, SolveWatcher, Unlogged, Unwatched};
 use plan_errors::{About, CliFault, read_file, write_text};
 use plan_io::{Sink, Source};
+use plan_table::Override;
 use std::alloc::Global;
+
+// Returns the capacities with which a task reads a list, if it reads lists.
+fn list_capacities<'a>(task: Task<'a>) -> Option<&'a [Override<'a>]> {
+    match task {
+        Task::Import { given } => Some(given),
+        Task::ImportShop
+        | Task::Chart { .. }
+        | Task::Days { .. }
+        | Task::Check { .. }
+        | Task::Slack { .. }
+        | Task::Compare { .. }
+        | Task::Solve { .. } => Some(&[]),
+        _ => None,
+    }
+}
+
+// Tells a watcher the notes on the list that a task has read, if there are notes.
+fn tell_notes<V: NoteWatcher>(alloc: Global, task: Task<'_>, file: &[u8], watcher: &mut V) {
+    let Some(given) = list_capacities(task) else {
+        return;
+    };
+    if let Ok(Some(line)) = notes_of(alloc, given, file) {
+        watcher.note(line);
+    }
+}
 
 // Reads a file, and writes the text of a task for it.
 #[tactic(auto, using(plan_errors::proofs::RefusalLemmas::refuses_unread, plan_errors::proofs::RefusalLemmas::read_unread, plan_errors::proofs::RefusalLemmas::output_unread,))]
-fn answer<R: Source, W: Sink, V: ProofWatcher + SolveWatcher, L: Log>(
+fn answer<R: Source, W: Sink, V: ProofWatcher + SolveWatcher + NoteWatcher, L: Log>(
     alloc: Global,
     task: Task<'_>,
     rows: Rows,
@@ -51,17 +78,18 @@ fn answer<R: Source, W: Sink, V: ProofWatcher + SolveWatcher, L: Log>(
 {
     let file = read_file(alloc, reader, About::Plan)?;
     let text = read_text(alloc, task, rows, &file, watcher, log)?;
+    tell_notes(alloc, task, &file, watcher);
     write_text(writer, &text)
 }
 
 /// Reads a file, and writes the text of a task for it. The watcher is called during a search of
-/// `prove` or `solve`.
+/// `prove` or `solve`, and is told the notes on a list.
 ///
 /// Nothing is written unless the whole text was made. A call of the reader or of the writer that
 /// fails isn't repeated. If several errors apply, the file's comes first, then the others in the
 /// order of the task's documentation. `chart`, `days`, `check`, `slack`, `compare` and `solve` read a
 /// list as the file that `plan import` makes of it, and show its names.
-pub fn run_task<R: Source, W: Sink, V: ProofWatcher + SolveWatcher, L: Log>(
+pub fn run_task<R: Source, W: Sink, V: ProofWatcher + SolveWatcher + NoteWatcher, L: Log>(
     alloc: Global,
     task: Task<'_>,
     rows: Rows,

@@ -39,6 +39,8 @@ fn code_of(code: TableCode) -> Code
         TableCode::Cells => Code::BadCells,
         TableCode::NoResource => Code::NoListResource,
         TableCode::TooManySteps => Code::ManySteps,
+        TableCode::Successors => Code::SuccessorColumn,
+        TableCode::NeedAbove => Code::HighNeed,
     }
 }
 
@@ -61,7 +63,9 @@ fn subject_of(code: TableCode) -> About
         | TableCode::Cycle
         | TableCode::Limit
         | TableCode::Cells
-        | TableCode::TooManySteps => About::List,
+        | TableCode::TooManySteps
+        | TableCode::Successors
+        | TableCode::NeedAbove => About::List,
     }
 }
 
@@ -167,6 +171,8 @@ fn parts_by(alloc: Global, code: TableCode, line: u64, word: &str) -> Result<Vec
         TableCode::Cells => lined(alloc, line, "cells"),
         TableCode::NoResource => named(alloc, "no resource", word),
         TableCode::TooManySteps => named(alloc, "steps", word),
+        TableCode::Successors => named(alloc, "column", word),
+        TableCode::NeedAbove => lined_name(alloc, line, "need", word),
     }
 }
 
@@ -222,7 +228,9 @@ fn quoted_cell(alloc: Global, fault: &TableFault) -> Result<Option<String>, Allo
         | TableCode::Limit
         | TableCode::Cells
         | TableCode::NoResource
-        | TableCode::TooManySteps => Ok(None),
+        | TableCode::TooManySteps
+        | TableCode::Successors
+        | TableCode::NeedAbove => Ok(None),
     }
 }
 

@@ -3,8 +3,9 @@
 ghost use Rattle.std.specs.Prelude.{◌≡◌, Some, map, IfOk, IfErr};
 ghost use Rattle.plan_table.specs.Names.{name_of};
 ghost use Rattle.plan_errors.specs.Output.{Refuses};
+ghost use Rattle.plan_views.specs.LinkColumns.{links_of};
 ghost use Rattle.plan_cli.specs.Tasks.{IsFormattedText, IsLineOf, IsNamedText, IsTextOf};
-ghost use Rattle.plan_cli.specs.Tasks.{ShowsTask, names_for};
+ghost use Rattle.plan_cli.specs.Tasks.{ShowsTask, names_for, ids_for, AreLinksFor};
 ghost use Rattle.plan_cli.specs.Tasks as spec;
 ghost use Rattle.plan_cli.specs.TaskViews.{IsViewOf};
 ghost use Rattle.plan_cli.specs.Views.{IfView};
@@ -13,8 +14,9 @@ use crate::calendars::Dates;
 use crate::capacities::Capacity;
 use crate::commands::{Command, subject_view};
 use crate::comparisons::Pair;
-use crate::documents::{Subject, names_of_lines, names_of_rows};
-use crate::imports::{file_import_text, shop_import_text};
+use crate::documents::{Subject, ids_of_rows, names_of_lines, names_of_rows};
+use crate::imports::{file_import_text, file_shop_text};
+use crate::links::{project_links_in, subject_links};
 use crate::lists::readable;
 use crate::names::names_in;
 use crate::origins::Origin;
@@ -25,7 +27,8 @@ use crate::views::{View, named_text, plain_text, text_in};
 use crate::watchers::{Log, ProofWatcher, SolveWatcher};
 use plan_errors::CliFault;
 use plan_formats::Format;
-use plan_table::{ListKind, NameLine, Override, activity_names, order_names};
+use plan_table::{ListKind, NameLine, Override, activity_ids, activity_names, order_names};
+use plan_views::ActivityLinks;
 use std::alloc::{AllocError, Global};
 
 /// A text to print for a project file or for an instance in a job shop file.
@@ -116,12 +119,12 @@ pub enum Task<'a> {
         subject: Subject<'a>,
     },
     /// The project file of a planner's list, a CSV table of activities with names, with capacities
-    /// that are given; or the job shop file of a list of orders. Errors: `T1` to `T15`.
+    /// that are given; or the job shop file of a list of orders. Errors: `T1` to `T19`.
     Import {
         given: &'a [Override<'a>],
     },
     /// The job shop file of a list of orders, a CSV table of steps. Errors: `T1` to `T3`, `T5`,
-    /// `T6`, `T12`, `T13`, `T15`.
+    /// `T6`, `T12`, `T13`, `T15`, `T18`.
     ImportShop,
 }
 
@@ -130,9 +133,11 @@ pub enum Task<'a> {
 pub enum Rows {
     /// Without names.
     Plain,
-    /// With the names of activities, orders or machines that the file contains.
+    /// With the names of activities, orders or machines that the file contains, and the ids of
+    /// activities in the place of their numbers.
     Named,
-    /// As JSON or CSV, with these names. A file that a task makes stays as it is.
+    /// As JSON or CSV, with these names and ids, and with the resources and the predecessors of
+    /// activities that have ids. A file that a task makes stays as it is.
     In(Format),
 }
 
@@ -156,7 +161,7 @@ fn view_of<V: ProofWatcher + SolveWatcher, L: Log>(
             let text = file_import_text(alloc, given, file)?;
             Ok(View::Text(text.into_bytes()))
         }
-        Task::ImportShop => Ok(View::Text(shop_import_text(alloc, file)?.into_bytes())),
+        Task::ImportShop => Ok(View::Text(file_shop_text(alloc, file)?.into_bytes())),
         Task::Schedule { rule, subject } => {
             let command = Command::Schedule(rule);
             subject_view(alloc, command, subject, file, watcher, log)
@@ -213,6 +218,48 @@ fn names_for<'a>(
     }
 }
 
+// Returns the ids for the rows of a task.
+fn ids_for<'a>(
+    alloc: Global,
+    task: Task<'_>,
+    file: &'a [u8],
+) -> Result<Vec<NameLine<'a>>, AllocError>
+    ensures { IfOk result (λ ids. map name_of ids.items ≡ ids_for task.entry file.now) }
+{
+    match task {
+        Task::Dates | Task::Slack { .. } => activity_ids(alloc, file),
+        Task::Schedule { subject, .. }
+        | Task::Chart { subject, .. }
+        | Task::Days { subject, .. }
+        | Task::Compare { subject, .. }
+        | Task::Best { subject, .. }
+        | Task::Solve { subject, .. } => ids_of_rows(alloc, subject, file),
+        _ => Ok(Vec::new(alloc)),
+    }
+}
+
+// Returns the resources and the predecessors for the rows of a task, whose activities have these
+// ids.
+fn links_for(
+    alloc: Global,
+    task: Task<'_>,
+    ids: &[NameLine<'_>],
+    file: &[u8],
+) -> Result<Vec<ActivityLinks>, AllocError>
+    ensures { IfOk result (λ links. AreLinksFor task.entry (map name_of ids.now) file.now
+        (map links_of links.items)) }
+{
+    match task {
+        Task::Slack { capacities, .. } => project_links_in(alloc, capacities, ids, file),
+        Task::Schedule { subject, .. }
+        | Task::Days { subject, .. }
+        | Task::Compare { subject, .. }
+        | Task::Best { subject, .. }
+        | Task::Solve { subject, .. } => subject_links(alloc, subject, ids, file),
+        _ => Ok(Vec::new(alloc)),
+    }
+}
+
 // Returns the text of what a task shows for a file, without names.
 fn text_of<V: ProofWatcher + SolveWatcher, L: Log>(
     alloc: Global,
@@ -228,7 +275,7 @@ fn text_of<V: ProofWatcher + SolveWatcher, L: Log>(
     Ok(plain_text(alloc, view)?)
 }
 
-// Returns the text of what a task shows for a file, with names.
+// Returns the text of what a task shows for a file, with names and ids.
 fn named_text_of<V: ProofWatcher + SolveWatcher, L: Log>(
     alloc: Global,
     task: Task<'_>,
@@ -240,8 +287,9 @@ fn named_text_of<V: ProofWatcher + SolveWatcher, L: Log>(
     ensures refused { IfErr result (Refuses (IsLineOf task.entry file.now)) }
 {
     let view = view_of(alloc, task, file, watcher, log)?;
+    let ids = ids_for(alloc, task, file)?;
     let names = names_for(alloc, task, file)?;
-    Ok(named_text(alloc, view, &names)?)
+    Ok(named_text(alloc, view, &ids, &names)?)
 }
 
 // Returns what a task shows for a file in a format.
@@ -257,8 +305,10 @@ fn formatted_text<V: ProofWatcher + SolveWatcher, L: Log>(
     ensures refused { IfErr result (Refuses (IsLineOf task.entry file.now)) }
 {
     let view = view_of(alloc, task, file, watcher, log)?;
+    let ids = ids_for(alloc, task, file)?;
     let names = names_for(alloc, task, file)?;
-    Ok(text_in(alloc, format, view, &names)?)
+    let links = links_for(alloc, task, &ids, file)?;
+    Ok(text_in(alloc, format, view, &ids, &names, &links)?)
 }
 
 // Returns the text of a task for a file, which is no list, with these rows. The watcher is called

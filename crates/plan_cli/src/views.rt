@@ -3,15 +3,18 @@
 ghost use Rattle.std.specs.Prelude.{◌≡◌, [], map, IfOk};
 ghost use Rattle.plan_table.specs.Names.{name_of};
 ghost use Rattle.plan_formats.specs.TableFormats.{format_text};
-ghost use Rattle.plan_formats.specs.NamedTables as named;
 ghost use Rattle.plan_formats.specs.TableText.{text_of};
 ghost use Rattle.plan_formats.specs.Tables.{table_of};
 ghost use Rattle.plan_views.specs.Charts.{chart_of};
+ghost use Rattle.plan_views.specs.LinkColumns.{links_of};
 ghost use Rattle.plan_cli.specs.Views as spec;
 
-use plan_formats::{Format, Table, csv_text, format_table, table_text, with_names};
+use plan_formats::{Format, Table, csv_text, format_table, table_text, with_ids, with_names};
 use plan_table::NameLine;
-use plan_views::{Chart, chart_bars, chart_json, chart_text, name_view, verdict_view};
+use plan_views::{
+    ActivityLinks, Chart, chart_bars, chart_json_with_ids, chart_text, chart_text_with_ids,
+    name_view, verdict_view, with_links,
+};
 use std::alloc::{AllocError, Global};
 
 /// The value of a task.
@@ -27,17 +30,19 @@ pub(crate) enum View {
     Text(Vec<u8>),
 }
 
-// Returns the text of a table, each row with its name.
+// Returns the text of a table, each row with its name, and activities with their ids.
 fn named_table<'a>(
     alloc: Global,
     table: Table<'a>,
+    ids: &[NameLine<'a>],
     names: &[NameLine<'a>],
 ) -> Result<Vec<u8>, AllocError>
-    ensures { IfOk result (λ text. text.items
-        ≡ text_of (named.with_names (map name_of names.now) (table_of table.entry))) }
+    ensures { IfOk result (λ text. text.items ≡ text_of (spec.named_table (map name_of ids.now)
+        (map name_of names.now) (table_of table.entry))) }
 {
     let named = with_names(alloc, table, names)?;
-    table_text(alloc, &named)
+    let shown = with_ids(alloc, named, ids)?;
+    table_text(alloc, &shown)
 }
 
 // Returns a table with the names of its rows, if there are names.
@@ -55,36 +60,69 @@ fn with_any_names<'a>(
     with_names(alloc, table, names)
 }
 
-// Returns a table in a format, with the names of its rows.
+// Returns a table with the resources and the predecessors of its activities, if they are given.
+fn with_any_links<'a>(
+    alloc: Global,
+    table: Table<'a>,
+    links: &'a [ActivityLinks],
+) -> Result<Table<'a>, AllocError>
+    ensures { IfOk result (λ made. table_of made
+        ≡ spec.with_any_links (map links_of links.now) (table_of table.entry)) }
+{
+    if links.is_empty() {
+        return Ok(table);
+    }
+    with_links(alloc, table, links)
+}
+
+// Returns a table in a format, with the texts of its rows.
 fn table_in<'a>(
     alloc: Global,
     format: Format,
     table: Table<'a>,
+    ids: &[NameLine<'a>],
     names: &[NameLine<'a>],
+    links: &'a [ActivityLinks],
 ) -> Result<Vec<u8>, AllocError>
     ensures { IfOk result (λ text. text.items ≡ format_text format
-        (spec.with_any_names (map name_of names.now) (table_of table.entry))) }
+        (spec.full_table (map name_of ids.now) (map name_of names.now) (map links_of links.now)
+        (table_of table.entry))) }
 {
     let named = with_any_names(alloc, table, names)?;
-    format_table(alloc, format, &named)
+    let linked = with_any_links(alloc, named, links)?;
+    let shown = with_ids(alloc, linked, ids)?;
+    format_table(alloc, format, &shown)
 }
 
-// Returns a chart in a format, with the names of its rows.
+// Returns the bars of a chart as CSV, with the ids and the names of the rows.
+fn bars_csv(
+    alloc: Global,
+    chart: &Chart,
+    ids: &[NameLine<'_>],
+    names: &[NameLine<'_>],
+) -> Result<Vec<u8>, AllocError>
+    ensures { IfOk result (λ text. text.items
+        ≡ spec.bars_text (map name_of ids.now) (map name_of names.now) (chart_of chart.now)) }
+{
+    let bars = with_any_names(alloc, chart_bars(alloc, chart)?, names)?;
+    let shown = with_ids(alloc, bars, ids)?;
+    csv_text(alloc, &shown)
+}
+
+// Returns a chart in a format, with the ids and the names of its rows.
 fn chart_in(
     alloc: Global,
     format: Format,
     chart: &Chart,
+    ids: &[NameLine<'_>],
     names: &[NameLine<'_>],
 ) -> Result<Vec<u8>, AllocError>
-    ensures { IfOk result (λ text. text.items
-        ≡ spec.chart_text format (map name_of names.now) (chart_of chart.now)) }
+    ensures { IfOk result (λ text. text.items ≡ spec.chart_text format
+        (map name_of ids.now) (map name_of names.now) (chart_of chart.now)) }
 {
     match format {
-        Format::Csv => {
-            let bars = with_any_names(alloc, chart_bars(alloc, chart)?, names)?;
-            csv_text(alloc, &bars)
-        }
-        Format::Json => chart_json(alloc, chart, names),
+        Format::Csv => bars_csv(alloc, chart, ids, names),
+        Format::Json => chart_json_with_ids(alloc, chart, ids, names),
     }
 }
 
@@ -107,42 +145,51 @@ pub(crate) fn plain_text(alloc: Global, view: View) -> Result<Vec<u8>, AllocErro
     }
 }
 
-/// Returns the text of a value, each row with its name.
+/// Returns the text of a value, each row with its name, and activities with their ids in the place
+/// of their numbers.
 pub(crate) fn named_text(
     alloc: Global,
     view: View,
+    ids: &[NameLine<'_>],
     names: &[NameLine<'_>],
 ) -> Result<Vec<u8>, AllocError>
     ensures { IfOk result (λ text. text.items
-        ≡ spec.named_text (map name_of names.now) (spec.view_of view)) }
+        ≡ spec.named_text (map name_of ids.now) (map name_of names.now) (spec.view_of view)) }
 {
     match view {
-        View::Table(table) => named_table(alloc, table, names),
-        View::Chart(chart) => chart_text(alloc, &chart, names),
-        View::Verdict(sentence) => named_table(alloc, verdict_view(alloc, &sentence)?, names),
-        View::Names(lines) => named_table(alloc, name_view(alloc, &lines)?, names),
+        View::Table(table) => named_table(alloc, table, ids, names),
+        View::Chart(chart) => chart_text_with_ids(alloc, &chart, ids, names),
+        View::Verdict(sentence) => named_table(alloc, verdict_view(alloc, &sentence)?, ids, names),
+        View::Names(lines) => named_table(alloc, name_view(alloc, &lines)?, ids, names),
         View::Text(text) => Ok(text),
     }
 }
 
-/// Returns the text of a value in a format, with the names of the rows.
+/// Returns the text of a value in a format, with the names of the rows, the resources and the
+/// predecessors of activities if they are given, and the ids of activities.
 pub(crate) fn text_in(
     alloc: Global,
     format: Format,
     view: View,
+    ids: &[NameLine<'_>],
     names: &[NameLine<'_>],
+    links: &[ActivityLinks],
 ) -> Result<Vec<u8>, AllocError>
-    ensures { IfOk result (λ text. text.items
-        ≡ spec.text_in format (map name_of names.now) (spec.view_of view)) }
+    ensures { IfOk result (λ text. text.items ≡ spec.text_in format
+        (map name_of ids.now) (map name_of names.now) (map links_of links.now)
+        (spec.view_of view)) }
 {
     match view {
-        View::Table(table) => table_in(alloc, format, table, names),
-        View::Chart(chart) => chart_in(alloc, format, &chart, names),
+        View::Table(table) => table_in(alloc, format, table, ids, names, links),
+        View::Chart(chart) => chart_in(alloc, format, &chart, ids, names),
         View::Verdict(sentence) => {
             let table = verdict_view(alloc, &sentence)?;
-            table_in(alloc, format, table, names)
+            table_in(alloc, format, table, ids, names, links)
         }
-        View::Names(lines) => table_in(alloc, format, name_view(alloc, &lines)?, names),
+        View::Names(lines) => {
+            let table = name_view(alloc, &lines)?;
+            table_in(alloc, format, table, ids, names, links)
+        }
         View::Text(text) => Ok(text),
     }
 }

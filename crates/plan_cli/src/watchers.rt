@@ -1,7 +1,14 @@
-//! Watchers of searches: of `plan prove` by nodes, of `plan solve` by conflicts.
+//! Watchers of searches: of `plan prove` by nodes, of `plan solve` by conflicts. Watchers of the
+//! lists that are read.
 
 pub use plan_prove::Watcher as ProofWatcher;
 pub use plan_solve::{Log, Unlogged, Watcher as SolveWatcher};
+
+/// A watcher of the lists that tasks read.
+pub trait NoteWatcher {
+    /// Is told the line of notes on a list, before the text for the list is written.
+    fn note(&mut self, line: String);
+}
 
 /// A watcher that ignores all reports and ends no search.
 #[derive(Drop)]
@@ -29,4 +36,8 @@ impl SolveWatcher for Unwatched {
     }
 
     fn end(&mut self) {}
+}
+
+impl NoteWatcher for Unwatched {
+    fn note(&mut self, _line: String) {}
 }

@@ -37,6 +37,9 @@ name_is_text code.TableLimit = (codes "T12", (refl, refl))
 name_is_text code.BadCells = (codes "T13", (refl, refl))
 name_is_text code.NoListResource = (codes "T14", (refl, refl))
 name_is_text code.ManySteps = (codes "T15", (refl, refl))
+name_is_text code.SuccessorColumn = (codes "T16", (refl, refl))
+name_is_text code.Workbook = (codes "T18", (refl, refl))
+name_is_text code.HighNeed = (codes "T19", (refl, refl))
 name_is_text code.NeedsTooMuch = (codes "S1", (refl, refl))
 name_is_text code.UnknownRule = (codes "S3", (refl, refl))
 name_is_text code.MachineClosed = (codes "S4", (refl, refl))
@@ -81,6 +84,6 @@ name_is_text code.Input = (codes "I1", (refl, refl))
 name_is_text code.Socket = (codes "I2", (refl, refl))
 name_is_text code.Output = (codes "I3", (refl, refl))
 
--- bytes that aren't a text are the name of no code
+-- bytes that aren't UTF-8 aren't the name of a code
 pub no_name : (bytes : List ℕ) → ¬ (IsUtf8 bytes) → (code : Code) → bytes ≡ name_of code → ⊥
 no_name bytes no_text code e = no_text (subst IsUtf8 (sym e) (name_is_text code))

@@ -1,5 +1,5 @@
--- The codes of error lines: the likely cause and the text of `plan explain` for each. Written by
--- docs/entries from docs/errors.md.
+-- The codes of error lines, their likely causes, and the texts that `plan explain` prints for
+-- them. Written by docs/entries from docs/errors.md.
 use Rattle.std.specs.Prelude.{ℕ, Bool, true, false, List, ◌++◌, codes}
 use Rattle.plan_errors.specs.declared.codes.Code.{Code}
 use Rattle.plan_errors.specs.declared.codes.Code.TheVariants as code
@@ -35,6 +35,9 @@ name_of code.TableLimit = codes "T12"
 name_of code.BadCells = codes "T13"
 name_of code.NoListResource = codes "T14"
 name_of code.ManySteps = codes "T15"
+name_of code.SuccessorColumn = codes "T16"
+name_of code.Workbook = codes "T18"
+name_of code.HighNeed = codes "T19"
 name_of code.NeedsTooMuch = codes "S1"
 name_of code.UnknownRule = codes "S3"
 name_of code.MachineClosed = codes "S4"
@@ -79,7 +82,7 @@ name_of code.Input = codes "I1"
 name_of code.Socket = codes "I2"
 name_of code.Output = codes "I3"
 
--- the likely cause in a few words
+-- its likely cause, in a few words
 abbrev pub cause_of : Code → List ℕ
 cause_of code.TooLong = codes "the file is too large"
 cause_of code.NotText = codes "the file isn't text"
@@ -110,6 +113,9 @@ cause_of code.TableLimit = codes "the table exceeds a limit"
 cause_of code.BadCells = codes "a cell too many, or an open quote"
 cause_of code.NoListResource = codes "no such resource in the list"
 cause_of code.ManySteps = codes "an order has too many steps"
+cause_of code.SuccessorColumn = codes "a column of successors: give predecessors instead"
+cause_of code.Workbook = codes "the file is a workbook, not a text"
+cause_of code.HighNeed = codes "a need exceeds the capacity"
 cause_of code.NeedsTooMuch = codes "a need exceeds the capacity"
 cause_of code.UnknownRule = codes "no such priority rule"
 cause_of code.MachineClosed = codes "a machine is closed"
@@ -192,6 +198,9 @@ form_of code.TableLimit = codes "T12 limit line N"
 form_of code.BadCells = codes "T13 line N cells"
 form_of code.NoListResource = codes "T14 no resource NAME"
 form_of code.ManySteps = codes "T15 steps ORDER"
+form_of code.SuccessorColumn = codes "T16 column NAME"
+form_of code.Workbook = codes "T18 WORKBOOK"
+form_of code.HighNeed = codes "T19 line N need RESOURCE above CAPACITY"
 form_of code.NeedsTooMuch = codes "S1 activity A resource R"
 form_of code.UnknownRule = codes "S3 unknown rule"
 form_of code.MachineClosed = codes "S4 machine M closed"
@@ -236,7 +245,7 @@ form_of code.Input = codes "I1 file"
 form_of code.Socket = codes "I2 socket"
 form_of code.Output = codes "I3 output"
 
--- what it means
+-- its meaning
 abbrev pub meaning_of : Code → List ℕ
 meaning_of code.TooLong = codes "The file is larger than 1,048,576 bytes."
 meaning_of code.NotText = codes "Line N contains a zero byte, so the file isn't text."
@@ -254,19 +263,22 @@ meaning_of code.NoInstance = codes "The file has no instance of this name. N is 
 meaning_of code.BadMachine = codes "A machine number in line N is too large. Machines are numbered from 0 to one less than their count."
 meaning_of code.LongTable = codes "The table, or the project file that it becomes, is larger than 1,048,576 bytes."
 meaning_of code.NoTableText = codes "Line N isn't UTF-8, or a name or a predecessor in it contains a control character."
-meaning_of code.NoDurations = codes "No column has the header duration (with --shop: order, machine or time); or the table is empty."
+meaning_of code.NoDurations = codes "No column has the header duration (in a list of orders: order, machine or time); or the table is empty."
 meaning_of code.ColumnTwice = codes "Two columns have the same header, or two words for one column: name and task, or predecessors, after and depends on."
 meaning_of code.BadDuration = codes "The duration or time in line N isn't a number: one to nine digits, no sign, no fraction."
-meaning_of code.BadId = codes "The id in line N is empty, has more than 32 characters, or contains a blank, a comma, a semicolon or a control character. With --shop: the name of an order or a machine is empty."
+meaning_of code.BadId = codes "The id in line N is empty, has more than 32 characters, or contains a blank, a comma, a semicolon or a control character. In a list of orders: the name of an order or a machine is empty."
 meaning_of code.IdTwice = codes "The id in line N is the id of an earlier row."
 meaning_of code.NoPredecessor = codes "A predecessor in line N is the id of no row."
 meaning_of code.BadNeed = codes "The need of this resource in line N, or its capacity, isn't a number: one to nine digits, no sign, no fraction."
 meaning_of code.NoCapacity = codes "The resource has no capacity."
 meaning_of code.TableCycle = codes "The rows with these ids form a cycle: each precedes the next, and the last precedes A."
-meaning_of code.TableLimit = codes "A limit is exceeded in line N: 1 to 500 rows, 16 resources, durations and amounts up to 10,000, all durations together up to 1,000,000, names up to 200 bytes. With --shop: 1 to 50 orders and 1 to 20 machines. Line 0 is the whole list."
+meaning_of code.TableLimit = codes "A limit is exceeded in line N: 1 to 500 rows, 16 resources, durations and amounts up to 10,000, all durations together up to 1,000,000, names up to 200 bytes. In a list of orders: 1 to 50 orders and 1 to 20 machines. Line 0 is the whole list."
 meaning_of code.BadCells = codes "Line N has more cells than the header, or a quote that opens in line N isn't closed."
 meaning_of code.NoListResource = codes "The option --capacity names a resource that no column of the list has."
 meaning_of code.ManySteps = codes "The order has more steps than the list has machines."
+meaning_of code.SuccessorColumn = codes "The column gives successors, and a list has predecessors."
+meaning_of code.Workbook = codes "The file is a workbook, not a text: an .xlsx, .xls or .ods file, or a project of Microsoft Project (.mpp)."
+meaning_of code.HighNeed = codes "The activity in line N takes time and needs more of the resource than its capacity, so it can never start."
 meaning_of code.NeedsTooMuch = codes "Activity A takes time and needs more of resource R than its capacity, so it can never start. A is the first such activity and R its first such resource."
 meaning_of code.UnknownRule = codes "No priority rule has this name."
 meaning_of code.MachineClosed = codes "Machine M is bound to a code with capacity 0, and a step that takes time needs it. M is the first such machine, counted from 0."
@@ -311,7 +323,7 @@ meaning_of code.Input = codes "The file or standard input can't be read: it does
 meaning_of code.Socket = codes "The server can't listen on the port, because another program does, because this user may not (ports below 1024 are reserved) or for another cause; or no connection could be accepted a hundred times in a row, for example because too many files are open."
 meaning_of code.Output = codes "The output can't be written completely: the disk is full, or the reader of the pipe has exited."
 
--- what to do
+-- its remedy
 abbrev pub remedy_of : Code → List ℕ
 remedy_of code.TooLong = codes "Delete comments and blank lines, or split the project."
 remedy_of code.NotText = codes "Save it as plain text (UTF-8 or ASCII, not UTF-16)."
@@ -342,6 +354,9 @@ remedy_of code.TableLimit = codes "Choose a coarser time unit, or split the proj
 remedy_of code.BadCells = codes "Delete the extra cells, put quotes around a cell with a separator, or close the quote."
 remedy_of code.NoListResource = codes "Correct the name, or delete the option."
 remedy_of code.ManySteps = codes "Merge steps of the order, or split the order."
+remedy_of code.SuccessorColumn = codes "Give the predecessors of each row instead. If the column is a resource, add its capacity."
+remedy_of code.Workbook = codes "Open it in its program, and save it as CSV UTF-8."
+remedy_of code.HighNeed = codes "Raise the capacity, or lower the need."
 remedy_of code.NeedsTooMuch = codes "Raise the capacity, or lower the need."
 remedy_of code.UnknownRule = codes "Use lft, slk, spt, mts or num for a project, spt, mwkr or fcfs for a job shop, in lower case."
 remedy_of code.MachineClosed = codes "Publish a capacity of 1 or more for the code, or bind the machine to another code."
@@ -390,6 +405,6 @@ remedy_of code.Output = codes "Make room or keep the pipe open, and run the comm
 abbrev pub ended : List ℕ → List ℕ
 ended text = text ++ codes "\n"
 
--- the lines of a code: its form, the meaning and what to do
+-- the lines of a code: its form, meaning and remedy
 unfoldable pub entry_of : Code → List ℕ
 entry_of code = ended (form_of code) ++ (ended (meaning_of code) ++ ended (remedy_of code))

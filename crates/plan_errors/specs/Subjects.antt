@@ -53,8 +53,6 @@ plan_cause contents.Unknown code = cause_of code
 abbrev pub list_cause : Contents → Code → List ℕ
 list_cause contents.ActivityList code.NoDurations =
     codes "this is a list of activities; leave out --shop"
-list_cause contents.OrderList code.NoDurations =
-    codes "this is a list of orders; give the option --shop"
 list_cause _ code = cause_of code
 
 -- the likely cause of an error of starts

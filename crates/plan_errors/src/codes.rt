@@ -1,5 +1,5 @@
-//! The codes of error lines: the likely cause and the text of `plan explain` for each. Written by
-//! docs/entries from docs/errors.md.
+//! The codes of error lines, their likely causes, and the texts that `plan explain` prints for
+//! them. Written by docs/entries from docs/errors.md.
 
 ghost use Rattle.std.specs.Prelude.{◌≡◌, IfSome, IfNone};
 ghost use Rattle.plan_errors.specs.Codes.{name_of, cause_of, carries_error};
@@ -38,6 +38,9 @@ pub enum Code {
     BadCells,
     NoListResource,
     ManySteps,
+    SuccessorColumn,
+    Workbook,
+    HighNeed,
     NeedsTooMuch,
     UnknownRule,
     MachineClosed,
@@ -119,6 +122,9 @@ impl Code {
             "T13" => Some(Code::BadCells),
             "T14" => Some(Code::NoListResource),
             "T15" => Some(Code::ManySteps),
+            "T16" => Some(Code::SuccessorColumn),
+            "T18" => Some(Code::Workbook),
+            "T19" => Some(Code::HighNeed),
             "S1" => Some(Code::NeedsTooMuch),
             "S3" => Some(Code::UnknownRule),
             "S4" => Some(Code::MachineClosed),
@@ -200,6 +206,9 @@ impl Code {
             Code::BadCells => "T13",
             Code::NoListResource => "T14",
             Code::ManySteps => "T15",
+            Code::SuccessorColumn => "T16",
+            Code::Workbook => "T18",
+            Code::HighNeed => "T19",
             Code::NeedsTooMuch => "S1",
             Code::UnknownRule => "S3",
             Code::MachineClosed => "S4",
@@ -246,7 +255,7 @@ impl Code {
         }
     }
 
-    /// Returns the likely cause in a few words.
+    /// Returns its likely cause, in a few words.
     pub(crate) fn cause(self) -> &'static str
         ensures { result.now ≡ cause_of self }
     {
@@ -280,6 +289,9 @@ impl Code {
             Code::BadCells => "a cell too many, or an open quote",
             Code::NoListResource => "no such resource in the list",
             Code::ManySteps => "an order has too many steps",
+            Code::SuccessorColumn => "a column of successors: give predecessors instead",
+            Code::Workbook => "the file is a workbook, not a text",
+            Code::HighNeed => "a need exceeds the capacity",
             Code::NeedsTooMuch => "a need exceeds the capacity",
             Code::UnknownRule => "no such priority rule",
             Code::MachineClosed => "a machine is closed",
@@ -367,6 +379,9 @@ impl Code {
             Code::BadCells => "T13 line N cells",
             Code::NoListResource => "T14 no resource NAME",
             Code::ManySteps => "T15 steps ORDER",
+            Code::SuccessorColumn => "T16 column NAME",
+            Code::Workbook => "T18 WORKBOOK",
+            Code::HighNeed => "T19 line N need RESOURCE above CAPACITY",
             Code::NeedsTooMuch => "S1 activity A resource R",
             Code::UnknownRule => "S3 unknown rule",
             Code::MachineClosed => "S4 machine M closed",
@@ -413,7 +428,7 @@ impl Code {
         }
     }
 
-    /// Returns what it means.
+    /// Returns its meaning.
     pub fn meaning(self) -> &'static str
         ensures { result.now ≡ meaning_of self }
     {
@@ -455,7 +470,7 @@ impl Code {
                 "Line N isn't UTF-8, or a name or a predecessor in it contains a control character."
             }
             Code::NoDurations => {
-                "No column has the header duration (with --shop: order, machine or time); or the table is empty."
+                "No column has the header duration (in a list of orders: order, machine or time); or the table is empty."
             }
             Code::ColumnTwice => {
                 "Two columns have the same header, or two words for one column: name and task, or predecessors, after and depends on."
@@ -464,7 +479,7 @@ impl Code {
                 "The duration or time in line N isn't a number: one to nine digits, no sign, no fraction."
             }
             Code::BadId => {
-                "The id in line N is empty, has more than 32 characters, or contains a blank, a comma, a semicolon or a control character. With --shop: the name of an order or a machine is empty."
+                "The id in line N is empty, has more than 32 characters, or contains a blank, a comma, a semicolon or a control character. In a list of orders: the name of an order or a machine is empty."
             }
             Code::IdTwice => "The id in line N is the id of an earlier row.",
             Code::NoPredecessor => "A predecessor in line N is the id of no row.",
@@ -476,7 +491,7 @@ impl Code {
                 "The rows with these ids form a cycle: each precedes the next, and the last precedes A."
             }
             Code::TableLimit => {
-                "A limit is exceeded in line N: 1 to 500 rows, 16 resources, durations and amounts up to 10,000, all durations together up to 1,000,000, names up to 200 bytes. With --shop: 1 to 50 orders and 1 to 20 machines. Line 0 is the whole list."
+                "A limit is exceeded in line N: 1 to 500 rows, 16 resources, durations and amounts up to 10,000, all durations together up to 1,000,000, names up to 200 bytes. In a list of orders: 1 to 50 orders and 1 to 20 machines. Line 0 is the whole list."
             }
             Code::BadCells => {
                 "Line N has more cells than the header, or a quote that opens in line N isn't closed."
@@ -485,6 +500,13 @@ impl Code {
                 "The option --capacity names a resource that no column of the list has."
             }
             Code::ManySteps => "The order has more steps than the list has machines.",
+            Code::SuccessorColumn => "The column gives successors, and a list has predecessors.",
+            Code::Workbook => {
+                "The file is a workbook, not a text: an .xlsx, .xls or .ods file, or a project of Microsoft Project (.mpp)."
+            }
+            Code::HighNeed => {
+                "The activity in line N takes time and needs more of the resource than its capacity, so it can never start."
+            }
             Code::NeedsTooMuch => {
                 "Activity A takes time and needs more of resource R than its capacity, so it can never start. A is the first such activity and R its first such resource."
             }
@@ -581,7 +603,7 @@ impl Code {
         }
     }
 
-    /// Returns what to do.
+    /// Returns its remedy.
     pub fn remedy(self) -> &'static str
         ensures { result.now ≡ remedy_of self }
     {
@@ -629,6 +651,11 @@ impl Code {
             }
             Code::NoListResource => "Correct the name, or delete the option.",
             Code::ManySteps => "Merge steps of the order, or split the order.",
+            Code::SuccessorColumn => {
+                "Give the predecessors of each row instead. If the column is a resource, add its capacity."
+            }
+            Code::Workbook => "Open it in its program, and save it as CSV UTF-8.",
+            Code::HighNeed => "Raise the capacity, or lower the need.",
             Code::NeedsTooMuch => "Raise the capacity, or lower the need.",
             Code::UnknownRule => {
                 "Use lft, slk, spt, mts or num for a project, spt, mwkr or fcfs for a job shop, in lower case."

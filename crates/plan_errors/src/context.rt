@@ -170,8 +170,6 @@ fn list_cause(contents: Contents, code: Code) -> &'static str
     match (contents, code) {
         (Contents::ActivityList, Code::NoDurations) =>
             "this is a list of activities; leave out --shop",
-        (Contents::OrderList, Code::NoDurations) =>
-            "this is a list of orders; give the option --shop",
         _ => code.cause(),
     }
 }

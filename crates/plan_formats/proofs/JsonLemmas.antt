@@ -4,12 +4,13 @@ use Rattle.std.proofs.lemmas.List.{drop_all}
 use Rattle.std.specs.Cmp.Lexicographic.{slice_cmp}
 use Rattle.std.specs.Ordering.{nat_cmp, match_ordering}
 use Rattle.std.specs.List.{zip}
+use Rattle.std.specs.Str.Lossy.{utf8_lossy}
 use Rattle.serde_json.specs.Data.{Data, Members, no_members, member, object, array, string, put, depth, members_depth, items_depth}
 use Rattle.serde_json.specs.Written.{has_float, members_have_float, items_have_float}
 use Rattle.serde_json.specs.View.{items_of}
 use Rattle.plan_formats.specs.Cells.{Cell, number, above, below, text, flag, empty, value_of}
 use Rattle.plan_formats.specs.Columns.{Column}
-use Rattle.plan_formats.specs.TableLines.{Line, optimal, between, budget, duration, makespan, chain, summary}
+use Rattle.plan_formats.specs.TableLines.{Line, optimal, between, budget, duration, makespan, chain, id_chain, summary}
 use Rattle.plan_formats.specs.Tables.{Table, cells_of}
 use Rattle.plan_formats.specs.JsonData as json
 use Rattle.plan_formats.specs.declared.cell.Cell as declared
@@ -100,6 +101,15 @@ chain_fits (Some js) =
     let less : 1 ≤ 2 = omega arith in
     deeper 1 2 (array (items_of (map json.number_data js))) less (array_fits 0 (map json.number_data js) (numbers_fit js))
 
+texts_fit : (words : List (List ℕ)) → AllFit 0 (map (λ word. string (utf8_lossy word)) words)
+texts_fit [] = tt
+texts_fit (word ∷ words) = ((refl, omega arith), texts_fit words)
+
+words_fit : (words : List (List ℕ)) → Fits 2 (json.words_data words)
+words_fit words =
+    let less : 1 ≤ 2 = omega arith in
+    deeper 1 2 (json.words_data words) less (array_fits 0 (map (λ word. string (utf8_lossy word)) words) (texts_fit words))
+
 line_fits : (line : Line) (ms : Members) → MembersFit 2 ms → MembersFit 2 (json.with_line ms line)
 line_fits (optimal n) ms fit = bounds_fit n n _ (string_fits (codes "status") (codes "optimal") ms fit)
 line_fits (between lower upper) ms fit = bounds_fit lower upper _ (string_fits (codes "status") (codes "between") ms fit)
@@ -107,6 +117,8 @@ line_fits (budget n) ms fit = number_fits (codes "upper_bound") n _ (string_fits
 line_fits (duration n) ms fit = number_fits (codes "project_duration") n _ (number_fits (codes "T") n ms fit)
 line_fits (makespan n) ms fit = number_fits (codes "makespan") n ms fit
 line_fits (chain js) ms fit = put_fits 2 (codes "chain") (json.chain_data js) ms (chain_fits js) fit
+line_fits (id_chain js ids) ms fit =
+    put_fits 2 (codes "chain_ids") (json.words_data ids) _ (words_fit ids) (put_fits 2 (codes "chain") (json.chain_data (Some js)) ms (chain_fits (Some js)) fit)
 line_fits (summary name n verdict) ms fit =
     string_fits (codes "verdict_" ++ name) verdict _ (number_fits (codes "makespan_" ++ name) n ms fit)
 

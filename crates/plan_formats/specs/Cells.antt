@@ -1,6 +1,6 @@
 -- Cells of a table: in the text, in CSV and in JSON (docs/definitions.md, "Formats").
-use Rattle.std.specs.Prelude.{ℕ, ℤ, Bool, if◌then◌else◌, List, [], ◌∷◌, ◌++◌, codes, decimal, pos}
-use Rattle.std.specs.Prelude.{neg_ℤ}
+use Rattle.std.specs.Prelude.{ℕ, ℤ, Bool, true, false, if◌then◌else◌, List, [], ◌∷◌, ◌++◌, codes}
+use Rattle.std.specs.Prelude.{decimal, pos, neg_ℤ}
 use Rattle.std.specs.Str.Lossy.{utf8_lossy}
 use Rattle.serde_json.specs.Data as data_of
 use Rattle.serde_json.specs.Find.{of_integer}
@@ -58,3 +58,12 @@ text_of (below n) = codes "-" ++ decimal n
 text_of (text t) = t
 text_of (flag b) = if b then codes "true" else codes "false"
 text_of empty = codes "-"
+
+-- whether a cell is empty
+abbrev pub is_empty : Cell → Bool
+is_empty (number n) = false
+is_empty (above n) = false
+is_empty (below n) = false
+is_empty (text t) = false
+is_empty (flag b) = false
+is_empty empty = true

@@ -27,6 +27,8 @@ is_label (layout.Right places) = false
 is_label layout.Mark = false
 is_label layout.Label = true
 is_label layout.Line = false
+is_label layout.Field = false
+is_label layout.Member = false
 
 -- the column is a whole line
 abbrev pub is_line : Layout → Bool
@@ -34,6 +36,8 @@ is_line (layout.Right places) = false
 is_line layout.Mark = false
 is_line layout.Label = false
 is_line layout.Line = true
+is_line layout.Field = false
+is_line layout.Member = false
 
 -- the mark of a row whose cell is the flag `true`
 abbrev pub mark_of : Cell → List ℕ
@@ -44,12 +48,24 @@ mark_of (text t) = []
 mark_of (flag b) = if b then codes " *" else []
 mark_of empty = []
 
--- a cell at the place of its column; a label stands behind the row, not in it
+-- CSV has the column
+abbrev pub has_field : Layout → Bool
+has_field (layout.Right places) = true
+has_field layout.Mark = true
+has_field layout.Label = true
+has_field layout.Line = true
+has_field layout.Field = true
+has_field layout.Member = false
+
+-- a cell at the place of its column; a label stands behind the row, not in it, and a field or a
+-- member has no place in the text
 abbrev pub placed : Layout → Cell → List ℕ
 placed (layout.Right places) cell = column places (text_of cell)
 placed layout.Mark cell = mark_of cell
 placed layout.Label cell = []
 placed layout.Line cell = text_of cell
+placed layout.Field cell = []
+placed layout.Member cell = []
 
 -- a heading at the place of its column: only columns that are aligned right have one in the row
 abbrev pub placed_heading : Layout → List ℕ → List ℕ
@@ -57,3 +73,5 @@ placed_heading (layout.Right places) heading = column places heading
 placed_heading layout.Mark heading = []
 placed_heading layout.Label heading = []
 placed_heading layout.Line heading = []
+placed_heading layout.Field heading = []
+placed_heading layout.Member heading = []

@@ -1,6 +1,7 @@
 -- Tables as JSON (docs/definitions.md, "Formats").
 use Rattle.std.specs.Prelude.{ℕ, List, ◌++◌, Option, Some, None, map, fold, codes}
 use Rattle.std.specs.List.{zip}
+use Rattle.std.specs.Str.Lossy.{utf8_lossy}
 use Rattle.serde_json.specs.Data.{Data, array, object, string, null, unsigned}
 use Rattle.serde_json.specs.Data.{Members, no_members, put}
 use Rattle.serde_json.specs.Data as json
@@ -8,7 +9,7 @@ use Rattle.serde_json.specs.View.{items_of}
 use Rattle.plan_formats.specs.Cells.{Cell, value_of}
 use Rattle.plan_formats.specs.Columns.{Column}
 use Rattle.plan_formats.specs.TableLines.{Line, optimal, between, budget, duration, makespan}
-use Rattle.plan_formats.specs.TableLines.{chain, summary}
+use Rattle.plan_formats.specs.TableLines.{chain, id_chain, summary}
 use Rattle.plan_formats.specs.Tables.{Table}
 
 abbrev pub number_data : ℕ → Data
@@ -49,6 +50,15 @@ abbrev pub chain_data : Option (List ℕ) → Data
 chain_data None = null
 chain_data (Some js) = array (items_of (map number_data js))
 
+-- words as an array; each maximal part that isn't UTF-8 becomes U+FFFD
+abbrev pub words_data : List (List ℕ) → Data
+words_data words = array (items_of (map (λ word. string (utf8_lossy word)) words))
+
+-- members with a chain and the ids of its activities
+abbrev pub with_id_chain : List ℕ → List (List ℕ) → Members → Members
+with_id_chain js ids members =
+    put (codes "chain_ids") (words_data ids) (put (codes "chain") (chain_data (Some js)) members)
+
 -- members with the makespan and the verdict of a schedule
 abbrev pub with_summary : List ℕ → ℕ → List ℕ → Members → Members
 with_summary name n verdict members =
@@ -66,6 +76,7 @@ with_line members (duration n) =
     with_number (codes "project_duration") n (with_number (codes "T") n members)
 with_line members (makespan n) = with_number (codes "makespan") n members
 with_line members (chain js) = put (codes "chain") (chain_data js) members
+with_line members (id_chain js ids) = with_id_chain js ids members
 with_line members (summary name n verdict) = with_summary name n verdict members
 
 -- members with the values of lines

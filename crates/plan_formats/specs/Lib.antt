@@ -4,6 +4,7 @@ pub mod TableLines
 pub mod Tables
 pub mod TableText
 pub mod NamedTables
+pub mod IdTables
 pub mod CsvText
 pub mod JsonData
 pub mod JsonText

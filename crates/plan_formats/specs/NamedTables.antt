@@ -16,11 +16,15 @@ name_column = record { heading = codes "name"; word = codes "name"; layout = lay
 abbrev pub with_name : List Name → List Cell → List Cell
 with_name names row = row ++ name_of_cell names (slice_get row 0) ∷ []
 
--- a table with the names of its rows
-abbrev pub with_names : List Name → Table → Table
-with_names names t = record {
+-- a table with one more column: for each row the first text of the number in its first cell
+abbrev pub with_column : Column → List Name → Table → Table
+with_column c texts t = record {
   above = t.above;
-  columns = t.columns ++ name_column ∷ [];
-  rows = map (with_name names) t.rows;
+  columns = t.columns ++ c ∷ [];
+  rows = map (with_name texts) t.rows;
   below = t.below;
 }
+
+-- a table with the names of its rows
+abbrev pub with_names : List Name → Table → Table
+with_names names t = with_column name_column names t

@@ -1,5 +1,5 @@
 -- The lines above and below the rows of a table (docs/definitions.md, "Formats").
-use Rattle.std.specs.Prelude.{ℕ, List, ◌++◌, Option, Some, None, Vec, codes, decimal}
+use Rattle.std.specs.Prelude.{ℕ, List, ◌++◌, Option, Some, None, Vec, codes, decimal, map}
 use Rattle.std.specs.Prelude.{string_bytes}
 use Rattle.std.specs.List.{flat_map}
 use Rattle.std.specs.declared.alloc.Global.{Global}
@@ -14,6 +14,8 @@ pub data Line : Type 0 where
   duration : ℕ → Line
   makespan : ℕ → Line
   chain : Option (List ℕ) → Line
+  -- the numbers of a chain, and the ids of those that have one
+  id_chain : List ℕ → List (List ℕ) → Line
   -- a name, a makespan and a verdict
   summary : List ℕ → ℕ → List ℕ → Line
 
@@ -30,11 +32,16 @@ line_of (kept.Budget n) = budget n
 line_of (kept.Duration n) = duration n
 line_of (kept.Makespan n) = makespan n
 line_of (kept.Chain js) = chain (chain_of js)
+line_of (kept.IdChain js ids) = id_chain js.items (map (λ id. id.items) ids.items)
 line_of (kept.Summary name n verdict) = summary name.now n (string_bytes verdict)
 
 -- numbers, each behind a blank
 abbrev pub spaced_numbers : List ℕ → List ℕ
 spaced_numbers ns = flat_map (λ n. codes " " ++ decimal n) ns
+
+-- words, each behind a blank
+abbrev pub spaced_words : List (List ℕ) → List ℕ
+spaced_words words = flat_map (λ word. codes " " ++ word) words
 
 -- a chain, if there is one
 abbrev pub chain_text : Option (List ℕ) → List ℕ
@@ -50,6 +57,7 @@ line_words (budget n) = codes "budget " ++ decimal n
 line_words (duration n) = codes "T " ++ decimal n
 line_words (makespan n) = codes "makespan " ++ decimal n
 line_words (chain js) = chain_text js
+line_words (id_chain js ids) = codes "chain" ++ spaced_words ids
 line_words (summary name n verdict) =
     name ++ codes " makespan " ++ decimal n ++ codes ": " ++ verdict
 

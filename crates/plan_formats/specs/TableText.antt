@@ -1,8 +1,8 @@
 -- The text of a table (docs/definitions.md, "Formats").
-use Rattle.std.specs.Prelude.{ℕ, ◌-◌, Bool, true, false, if◌then◌else◌, List, [], ◌∷◌, ◌++◌}
+use Rattle.std.specs.Prelude.{ℕ, ◌-◌, Bool, if◌then◌else◌, List, [], ◌∷◌, ◌++◌}
 use Rattle.std.specs.Prelude.{map, fold, max, length, replicate, codes}
 use Rattle.std.specs.List.{flat_map, list_any, zip}
-use Rattle.plan_formats.specs.Cells.{Cell, number, above, below, text, flag, empty}
+use Rattle.plan_formats.specs.Cells.{Cell, text, empty, is_empty}
 use Rattle.plan_formats.specs.Cells as cells
 use Rattle.plan_formats.specs.Columns.{Column, is_label, is_line, placed, placed_heading}
 use Rattle.plan_formats.specs.TableLines.{lines_text}
@@ -62,15 +62,6 @@ headings columns = if has_lines columns then [] else heading_row columns ∷ []
 -- the rows of the text
 abbrev pub text_rows : List Column → List (List Cell) → List TextRow
 text_rows columns rows = headings columns ++ map (row_of columns) rows
-
--- whether a cell is empty
-abbrev pub is_empty : Cell → Bool
-is_empty (number n) = false
-is_empty (above n) = false
-is_empty (below n) = false
-is_empty (text t) = false
-is_empty (flag b) = false
-is_empty empty = true
 
 -- the length of a row that has a label, 0 for another row
 abbrev pub labelled_length : TextRow → ℕ

@@ -34,3 +34,10 @@ pub fn day_cell<'a>(date: Date) -> Cell<'a>
         day: plain.day,
     }
 }
+
+/// Whether a cell is empty.
+pub(crate) fn is_empty(cell: &Cell<'_>) -> bool
+    ensures { result ≡ spec.is_empty (spec.cell_of cell.now) }
+{
+    matches!(cell, Cell::Empty)
+}

@@ -12,6 +12,10 @@ pub enum Layout {
     Label,
     /// The text of the cell. A table with such a column has no line of headings.
     Line,
+    /// No place in the text: a field of CSV and a member of JSON.
+    Field,
+    /// No place in the text and no field in CSV: a member of JSON.
+    Member,
 }
 
 /// A column: its heading in the text, in CSV and in JSON, and its word, a second name in JSON.

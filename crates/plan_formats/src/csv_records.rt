@@ -5,12 +5,12 @@ ghost use Rattle.csv.specs.Records.{fields_of, partial_of};
 ghost use Rattle.csv.specs.Writing.{default_writer, row_text};
 ghost use Rattle.plan_formats.specs.Cells as cells;
 ghost use Rattle.plan_formats.specs.Cells.{cell_of, field_of};
-ghost use Rattle.plan_formats.specs.Columns.{column_of};
+ghost use Rattle.plan_formats.specs.Columns.{column_of, has_field as with_field};
 ghost use Rattle.plan_formats.specs.Tables.{cells_of, rows_of, table_of};
 ghost use Rattle.plan_formats.specs.CsvText as spec;
 
 use crate::cell::Cell;
-use crate::column::Column;
+use crate::column::{Column, Layout};
 use crate::day_text::day_text;
 use crate::table::Table;
 use csv::{ByteRecord, Error, WriterBuilder};
@@ -96,15 +96,63 @@ fn push_cell(alloc: Global, row: &mut ByteRecord, cell: &Cell<'_>) -> Result<(),
     }
 }
 
+// Whether CSV has a column.
+fn has_field(layout: Layout) -> bool
+    ensures { result ≡ with_field layout }
+{
+    !matches!(layout, Layout::Member)
+}
+
+// Appends a cell as the field in its column, if CSV has the column.
+fn push_field(
+    alloc: Global,
+    row: &mut ByteRecord,
+    column: &Column,
+    cell: &Cell<'_>,
+) -> Result<(), AllocError>
+    requires { partial_of row.old ≡ [] }
+    ensures fields { OnOk result (fields_of row.new ≡ fields_of row.old
+        ++ spec.field_in (column_of column.now) (field_of (cell_of cell.now))) }
+    ensures whole { OnOk result (partial_of row.new ≡ []) }
+{
+    if has_field(column.layout) {
+        return push_cell(alloc, row, cell);
+    }
+    Ok(())
+}
+
 // Returns the record of a row.
-fn row_record(alloc: Global, cells: &[Cell<'_>]) -> Result<ByteRecord, AllocError>
-    ensures { IfOk result (λ row. fields_of row ≡ map field_of (cells_of cells.now)) }
+fn row_record(
+    alloc: Global,
+    columns: &[Column],
+    cells: &[Cell<'_>],
+) -> Result<ByteRecord, AllocError>
+    ensures { IfOk result (λ row. fields_of row
+        ≡ spec.row_record (map column_of columns.now) (cells_of cells.now)) }
 {
     let mut row = ByteRecord::new(alloc);
+    let mut left = columns;
     for cell in cells {
-        push_cell(alloc, &mut row, cell)?;
+        let [column, rest @ ..] = left else {
+            return Ok(row);
+        };
+        push_field(alloc, &mut row, column, cell)?;
+        left = rest;
     }
     Ok(row)
+}
+
+// Appends the heading of a column, if CSV has the column.
+fn push_heading(row: &mut ByteRecord, column: &Column) -> Result<(), AllocError>
+    requires { partial_of row.old ≡ [] }
+    ensures fields { OnOk result (fields_of row.new ≡ fields_of row.old
+        ++ spec.field_in (column_of column.now) column.now.heading.now) }
+    ensures whole { OnOk result (partial_of row.new ≡ []) }
+{
+    if has_field(column.layout) {
+        return row.push_field(column.heading.as_bytes());
+    }
+    Ok(())
 }
 
 // Returns the record with the headings of columns.
@@ -114,27 +162,37 @@ fn heading_record(alloc: Global, columns: &[Column]) -> Result<ByteRecord, Alloc
 {
     let mut row = ByteRecord::new(alloc);
     for column in columns {
-        row.push_field(column.heading.as_bytes())?;
+        push_heading(&mut row, column)?;
     }
     Ok(row)
 }
 
 // Appends the record of a row.
-fn push_row(alloc: Global, text: &mut Vec<u8>, cells: &[Cell<'_>]) -> Result<(), AllocError>
-    ensures { OnOk result (text.new.items ≡ text.old.items
-        ++ row_text default_writer (map field_of (cells_of cells.now))) }
+fn push_row(
+    alloc: Global,
+    text: &mut Vec<u8>,
+    columns: &[Column],
+    cells: &[Cell<'_>],
+) -> Result<(), AllocError>
+    ensures { OnOk result (text.new.items ≡ text.old.items ++ row_text default_writer
+        (spec.row_record (map column_of columns.now) (cells_of cells.now))) }
 {
-    let row = row_record(alloc, cells)?;
+    let row = row_record(alloc, columns, cells)?;
     push_record(alloc, text, &row)
 }
 
 // Appends the records of rows.
-fn push_rows(alloc: Global, text: &mut Vec<u8>, rows: &[Vec<Cell<'_>>]) -> Result<(), AllocError>
-    ensures { OnOk result (text.new.items
-        ≡ text.old.items ++ spec.csv_text_of (spec.records_of_rows (rows_of rows.now))) }
+fn push_rows(
+    alloc: Global,
+    text: &mut Vec<u8>,
+    columns: &[Column],
+    rows: &[Vec<Cell<'_>>],
+) -> Result<(), AllocError>
+    ensures { OnOk result (text.new.items ≡ text.old.items ++ spec.csv_text_of
+        (spec.records_of_rows (map column_of columns.now) (rows_of rows.now))) }
 {
     for row in rows {
-        push_row(alloc, text, row)?;
+        push_row(alloc, text, columns, row)?;
     }
     Ok(())
 }
@@ -147,13 +205,13 @@ fn records_text(alloc: Global, table: &Table<'_>) -> Result<Vec<u8>, AllocError>
     let mut text = Vec::new(alloc);
     let headings = heading_record(alloc, &table.columns)?;
     push_record(alloc, &mut text, &headings)?;
-    push_rows(alloc, &mut text, &table.rows)?;
+    push_rows(alloc, &mut text, &table.columns, &table.rows)?;
     Ok(text)
 }
 
 /// Returns a table as CSV (RFC 4180, with LF): a record with the headings, then one for each row.
-/// The lines above and below the rows are left out. A number is its digits, a flag `true` or
-/// `false`, and an empty cell an empty field.
+/// The lines above and below the rows and the columns for JSON alone are left out. A number is its
+/// digits, a flag `true` or `false`, and an empty cell an empty field.
 pub fn csv_text(alloc: Global, table: &Table<'_>) -> Result<Vec<u8>, AllocError>
     ensures text { IfOk result (λ text.
         text.items ≡ spec.csv_text_of (spec.records_of (table_of table.now))) }

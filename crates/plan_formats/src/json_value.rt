@@ -163,6 +163,32 @@ fn chain_value(alloc: Global, chain: &Option<Vec<u32>>) -> Result<Value, AllocEr
     }
 }
 
+// Returns words as an array.
+fn words_value(alloc: Global, words: &[Vec<u8>]) -> Result<Value, AllocError>
+    ensures { IfOk result (λ value.
+        view value ≡ spec.words_data (map (λ word. word.items) words.now)) }
+{
+    let mut list = Vec::new(alloc);
+    for word in words {
+        list.push(Value::String(String::from_utf8_lossy(alloc, word)?))?;
+    }
+    Ok(Value::Array(list))
+}
+
+// Sets a chain and the ids of its activities.
+fn put_id_chain(
+    alloc: Global,
+    object: &mut Map<String, Value>,
+    numbers: &[u32],
+    ids: &[Vec<u8>],
+) -> Result<(), AllocError>
+    ensures { OnOk result (members_view object.new.entries ≡ spec.with_id_chain numbers.now
+        (map (λ id. id.items) ids.now) (members_view object.old.entries)) }
+{
+    put(object, alloc, "chain", numbers_value(alloc, numbers)?)?;
+    put(object, alloc, "chain_ids", words_value(alloc, ids)?)
+}
+
 // Sets the makespan and the verdict of a schedule.
 fn put_summary(
     alloc: Global,
@@ -192,6 +218,7 @@ fn put_line(alloc: Global, object: &mut Map<String, Value>, line: &Line) -> Resu
         Line::Duration(n) => put_duration(alloc, object, *n),
         Line::Makespan(n) => put_number(alloc, object, "makespan", *n),
         Line::Chain(chain) => put(object, alloc, "chain", chain_value(alloc, chain)?),
+        Line::IdChain(numbers, ids) => put_id_chain(alloc, object, numbers, ids),
         Line::Summary {
             name,
             makespan,

@@ -15,6 +15,8 @@ pub enum Line {
     Makespan(u64),
     /// `chain 1 2 5` or `no chain`: activities that determine the makespan.
     Chain(Option<Vec<u32>>),
+    /// `chain A B E`: the same activities, and the ids of those that have one.
+    IdChain(Vec<u32>, Vec<Vec<u8>>),
     /// `A makespan 7: active`: the name, the makespan and the verdict of a schedule.
     Summary {
         name: &'static str,

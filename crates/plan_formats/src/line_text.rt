@@ -72,23 +72,46 @@ fn chain_text(alloc: Global, chain: &Option<Vec<u32>>) -> Result<String, AllocEr
     Ok(text)
 }
 
+// Appends words, each behind a blank.
+fn push_words(text: &mut Vec<u8>, words: &[Vec<u8>]) -> Result<(), AllocError>
+    ensures { OnOk result (text.new.items
+        ≡ text.old.items ++ spec.spaced_words (map (λ word. word.items) words.now)) }
+{
+    for word in words {
+        text.push(b' ')?;
+        text.extend_from_slice(word)?;
+    }
+    Ok(())
+}
+
+// Returns the text of a chain by the ids of its activities.
+fn id_chain_text(alloc: Global, ids: &[Vec<u8>]) -> Result<Vec<u8>, AllocError>
+    ensures { IfOk result (λ text. text.items
+        ≡ codes "chain" ++ spec.spaced_words (map (λ id. id.items) ids.now)) }
+{
+    let mut text = Vec::new(alloc);
+    text.extend_from_slice(b"chain")?;
+    push_words(&mut text, ids)?;
+    Ok(text)
+}
+
 // Returns the text of a line, without its line feed.
-fn line_words(alloc: Global, line: &Line) -> Result<String, AllocError>
-    ensures { IfOk result (λ text.
-        string_bytes text ≡ spec.line_words (spec.line_of line.now)) }
+fn line_words(alloc: Global, line: &Line) -> Result<Vec<u8>, AllocError>
+    ensures { IfOk result (λ text. text.items ≡ spec.line_words (spec.line_of line.now)) }
 {
     match line {
-        Line::Optimal(n) => worded(alloc, "optimal", *n),
-        Line::Between(lower, upper) => bounds_words(alloc, *lower, *upper),
-        Line::Budget(n) => worded(alloc, "budget", *n),
-        Line::Duration(n) => worded(alloc, "T", *n),
-        Line::Makespan(n) => worded(alloc, "makespan", *n),
-        Line::Chain(chain) => chain_text(alloc, chain),
+        Line::Optimal(n) => Ok(worded(alloc, "optimal", *n)?.into_bytes()),
+        Line::Between(lower, upper) => Ok(bounds_words(alloc, *lower, *upper)?.into_bytes()),
+        Line::Budget(n) => Ok(worded(alloc, "budget", *n)?.into_bytes()),
+        Line::Duration(n) => Ok(worded(alloc, "T", *n)?.into_bytes()),
+        Line::Makespan(n) => Ok(worded(alloc, "makespan", *n)?.into_bytes()),
+        Line::Chain(chain) => Ok(chain_text(alloc, chain)?.into_bytes()),
+        Line::IdChain(_, ids) => id_chain_text(alloc, ids),
         Line::Summary {
             name,
             makespan,
             verdict,
-        } => summary_words(alloc, name, *makespan, verdict),
+        } => Ok(summary_words(alloc, name, *makespan, verdict)?.into_bytes()),
     }
 }
 
@@ -103,7 +126,7 @@ pub(crate) fn push_lines(
 {
     for line in lines {
         let words = line_words(alloc, line)?;
-        text.extend_from_slice(words.as_bytes())?;
+        text.extend_from_slice(&words)?;
         text.push(b'\n')?;
     }
     Ok(())

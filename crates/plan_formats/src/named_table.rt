@@ -2,6 +2,7 @@
 
 ghost use Rattle.std.specs.Prelude.{◌≡◌, map, IfOk};
 ghost use Rattle.plan_table.specs.Names.{name_of};
+ghost use Rattle.plan_formats.specs.Columns.{column_of};
 ghost use Rattle.plan_formats.specs.Tables.{cells_of, rows_of, table_of};
 ghost use Rattle.plan_formats.specs.NamedTables as spec;
 
@@ -43,6 +44,28 @@ fn named_rows<'a>(
     Ok(made)
 }
 
+/// Returns a table with one more column: for each row the first text of the number in its first
+/// cell, or an empty cell if it has none.
+pub fn with_column<'a>(
+    alloc: Global,
+    table: Table<'a>,
+    column: Column,
+    texts: &[NameLine<'a>],
+) -> Result<Table<'a>, AllocError>
+    ensures { IfOk result (λ made. table_of made
+        ≡ spec.with_column (column_of column) (map name_of texts.now) (table_of table.entry)) }
+{
+    let rows = named_rows(alloc, texts, &table.rows)?;
+    let mut columns = table.columns;
+    columns.push(column)?;
+    Ok(Table {
+        above: table.above,
+        columns,
+        rows,
+        below: table.below,
+    })
+}
+
 /// Returns a table with one more column, `name`: for each row the first name of the number in its
 /// first cell, or an empty cell if it has none. In the text the names follow the rows.
 pub fn with_names<'a>(
@@ -53,17 +76,10 @@ pub fn with_names<'a>(
     ensures { IfOk result (λ made. table_of made
         ≡ spec.with_names (map name_of names.now) (table_of table.entry)) }
 {
-    let rows = named_rows(alloc, names, &table.rows)?;
-    let mut columns = table.columns;
-    columns.push(Column {
+    let column = Column {
         heading: "name",
         word: "name",
         layout: Layout::Label,
-    })?;
-    Ok(Table {
-        above: table.above,
-        columns,
-        rows,
-        below: table.below,
-    })
+    };
+    with_column(alloc, table, column, names)
 }

@@ -7,7 +7,7 @@ ghost use Rattle.plan_formats.specs.Columns.{column, column_of, mark_of, placed,
 ghost use Rattle.plan_formats.specs.Tables.{cells_of, rows_of, table_of};
 ghost use Rattle.plan_formats.specs.TableText as spec;
 
-use crate::cell::Cell;
+use crate::cell::{Cell, is_empty};
 use crate::column::{Column, Layout};
 use crate::day_text::day_text;
 use crate::line_text::push_lines;
@@ -88,7 +88,7 @@ fn push_placed(
     match layout {
         Layout::Right(places) => push_right(text, places, &cell_text(alloc, cell)?),
         Layout::Mark => push_mark(text, cell),
-        Layout::Label => Ok(()),
+        Layout::Label | Layout::Field | Layout::Member => Ok(()),
         Layout::Line => text.extend_from_slice(&cell_text(alloc, cell)?),
     }
 }
@@ -152,7 +152,7 @@ fn push_heading(text: &mut Vec<u8>, column: &Column) -> Result<(), AllocError>
 {
     match column.layout {
         Layout::Right(places) => push_right(text, places, column.heading.as_bytes()),
-        Layout::Mark | Layout::Label | Layout::Line => Ok(()),
+        Layout::Mark | Layout::Label | Layout::Line | Layout::Field | Layout::Member => Ok(()),
     }
 }
 
@@ -230,13 +230,6 @@ fn text_rows<'a>(
         made.push(TextRow { base, label })?;
     }
     Ok(made)
-}
-
-// Whether a cell is empty.
-fn is_empty(cell: &Cell<'_>) -> bool
-    ensures { result ≡ spec.is_empty (cells.cell_of cell.now) }
-{
-    matches!(cell, Cell::Empty)
 }
 
 // Returns the length of a row that has a label, 0 for another row.

@@ -2,22 +2,22 @@
 -- negation fails.
 use Rattle.std.proofs.Common.{◌≡◌, ◌∙◌, ℕ, suc, ◌+◌, ◌-◌, ◌*◌, ◌/◌, ◌%◌, ◌≤◌, ◌<◌, ◌⊎◌, inl, inr, List, cond, nat_eq, nat_lt, nat_le, get_or, refl, ap, arith}
 use Rattle.std.proofs.lemmas.Bool.{cases_eq, cond_both, cond-true, cond-false, eq-eqb, ne_eqb, lt-ltb, le-ltb, ltb-true}
-use Rattle.plan_sgs.specs.Problem.{Problem, count, duration, makespan}
+use Rattle.plan_sgs.specs.Problem.{Problem, count, duration}
 use Rattle.plan_sgs.proofs.TotalLemmas.{greatest_above}
 use Rattle.plan_kernel.specs.declared.literal.TheConstants.{LIMIT}
 use Rattle.plan_kernel.specs.declared.literal.Literal.{Literal}
 use Rattle.plan_kernel.specs.declared.input.Order.{Order}
 use Rattle.plan_kernel.specs.declared.input.Input.{Input}
 use Rattle.plan_kernel.specs.Inputs.{problem_of}
+use Rattle.plan_kernel.specs.Plans.{tail, reach_of, cost}
 use Rattle.plan_kernel.specs.Literals.{at, order_of, no_order, order_at, quantity, level, Holds, Fails, opposite, negated}
 use Rattle.plan_kernel.specs.Clauses.{IsShorter}
 
--- an activity ends before the upper bound
+-- an activity ends, with its tail, before the upper bound
 pub ends_before : (input : Input) (upper : ℕ) (starts : List ℕ) (i : ℕ) → IsShorter input upper starts → i < count (problem_of input)
-    → at starts i + duration (problem_of input) i < upper
+    → at starts i + duration (problem_of input) i + tail input i < upper
 ends_before input upper starts i short inside =
-    let p = problem_of input in
-    omega (arith, short.less, greatest_above (count p) (λ j. get_or starts j 0 + duration p j) i inside)
+    omega (arith, short.less, greatest_above (count (problem_of input)) (reach_of input starts) i inside)
 
 -- an order is 1 or 0
 pub order_small : (p : Problem) (starts : List ℕ) (o : Order) → order_of p starts o ≤ 1
@@ -28,9 +28,9 @@ pub quantity_within : (input : Input) (upper : ℕ) (starts : List ℕ) (x : ℕ
 quantity_within input upper starts x short limit =
     let p = problem_of input in
     let o : Order = get_or input.orders.items (x - suc (count p)) no_order in
-    cond_both (nat_lt x (count p)) (at starts x) (cond (nat_eq x (count p)) (makespan p starts) (order_at input starts x)) (λ q. q ≤ LIMIT)
+    cond_both (nat_lt x (count p)) (at starts x) (cond (nat_eq x (count p)) (cost input starts) (order_at input starts x)) (λ q. q ≤ LIMIT)
     (λ inside. omega (arith, limit, ends_before input upper starts x short (ltb-true x (count p) inside)))
-    (λ _. cond_both (nat_eq x (count p)) (makespan p starts) (order_at input starts x) (λ q. q ≤ LIMIT)
+    (λ _. cond_both (nat_eq x (count p)) (cost input starts) (order_at input starts x) (λ q. q ≤ LIMIT)
     (λ _. omega (arith, limit, short.less))
     (λ _. omega (arith, order_small p starts o)))
 
@@ -38,15 +38,15 @@ quantity_within input upper starts x short limit =
 pub quantity_start : (input : Input) (starts : List ℕ) (x : ℕ) → x < count (problem_of input) → quantity input starts x ≡ at starts x
 quantity_start input starts x inside =
     let p = problem_of input in
-    cond-true (nat_lt x (count p)) (at starts x) (cond (nat_eq x (count p)) (makespan p starts) (order_at input starts x)) (lt-ltb x (count p) inside)
+    cond-true (nat_lt x (count p)) (at starts x) (cond (nat_eq x (count p)) (cost input starts) (order_at input starts x)) (lt-ltb x (count p) inside)
 
 -- the quantity behind the activities
-pub quantity_makespan : (input : Input) (starts : List ℕ) → quantity input starts (count (problem_of input)) ≡ makespan (problem_of input) starts
-quantity_makespan input starts =
+pub quantity_cost : (input : Input) (starts : List ℕ) → quantity input starts (count (problem_of input)) ≡ cost input starts
+quantity_cost input starts =
     let p = problem_of input in
     let n = count p in
-    cond-false (nat_lt n n) (at starts n) (cond (nat_eq n n) (makespan p starts) (order_at input starts n)) (le-ltb n n (omega arith))
-    ∙ cond-true (nat_eq n n) (makespan p starts) (order_at input starts n) (eq-eqb n n refl)
+    cond-false (nat_lt n n) (at starts n) (cond (nat_eq n n) (cost input starts) (order_at input starts n)) (le-ltb n n (omega arith))
+    ∙ cond-true (nat_eq n n) (cost input starts) (order_at input starts n) (eq-eqb n n refl)
 
 -- the quantity of an order
 pub quantity_order : (input : Input) (starts : List ℕ) (x place : ℕ) → x ≡ suc (count (problem_of input)) + place
@@ -55,8 +55,8 @@ quantity_order input starts x place is =
     let p = problem_of input in
     let back : x - suc (count p) ≡ place = omega (arith, is) in
     let apart : (x ≡ count p) → ⊥ = λ same. omega (arith, is, same) in
-    cond-false (nat_lt x (count p)) (at starts x) (cond (nat_eq x (count p)) (makespan p starts) (order_at input starts x)) (le-ltb x (count p) (omega (arith, is)))
-    ∙ cond-false (nat_eq x (count p)) (makespan p starts) (order_at input starts x) (ne_eqb x (count p) apart)
+    cond-false (nat_lt x (count p)) (at starts x) (cond (nat_eq x (count p)) (cost input starts) (order_at input starts x)) (le-ltb x (count p) (omega (arith, is)))
+    ∙ cond-false (nat_eq x (count p)) (cost input starts) (order_at input starts x) (ne_eqb x (count p) apart)
     ∙ ap (λ (k : ℕ). order_of p starts (get_or input.orders.items k no_order)) back
 
 -- an even half is at the quantity

@@ -1,4 +1,5 @@
 pub mod InputLemmas
+pub mod PlanLemmas
 pub mod LevelLemmas
 pub mod ConflictLemmas
 pub mod TouchedLemmas

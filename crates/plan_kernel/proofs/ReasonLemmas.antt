@@ -1,11 +1,11 @@
--- Reasons: where all literals of their clauses fail, a list of starts isn't feasible.
+-- Reasons: where all literals of their clauses fail, a list of starts isn't a plan.
 use Rattle.std.proofs.Common.{◌≡◌, ◌∙◌, ℕ, ◌+◌, ◌-◌, ◌*◌, ◌≤◌, ◌<◌, ◌⊎◌, inl, inr, List, [], ◌∷◌, ◌++◌, nat_le, take, length, get_or, sym, ap, subst, arith}
 use Rattle.std.specs.List.{All, AllPairs}
 use Rattle.std.proofs.lemmas.Bool.{cases_eq, cases_Bool, cond-true, cond-false, leb-true, leb-false}
 use Rattle.std.proofs.lemmas.List.Elements.{All-contains, All-more, All-weaker, Contains-append_left, Contains-push, Contains-get_or}
 use Rattle.std.proofs.lemmas.List.{take_more, get_or-take, length-take, get_or_default}
 use Rattle.std.proofs.lemmas.List.Quantifiers.{all_pairs_push}
-use Rattle.plan_sgs.specs.Problem.{Problem, count, duration, need, total, makespan}
+use Rattle.plan_sgs.specs.Problem.{Problem, count, duration, need, total}
 use Rattle.plan_sgs.proofs.TotalLemmas.{greatest_above}
 use Rattle.plan_kernel.specs.declared.literal.TheConstants.{LIMIT}
 use Rattle.plan_kernel.specs.declared.literal.Literal.{Literal}
@@ -15,11 +15,12 @@ use Rattle.plan_kernel.specs.declared.input.Input.{Input}
 use Rattle.plan_kernel.specs.declared.reason.Member.{Member}
 use Rattle.plan_kernel.specs.declared.reason.OrderAt.{OrderAt}
 use Rattle.plan_kernel.specs.Inputs.{problem_of, KeepsArc, amount_at}
+use Rattle.plan_kernel.specs.Plans.{reach_of, cost}
 use Rattle.plan_kernel.specs.Literals.{at, order_of, quantity, Fails}
 use Rattle.plan_kernel.specs.Clauses.{IsShorter}
 use Rattle.plan_kernel.specs.Reasons.{IsWritable, IsOrder, pair_of, at_least, below, AreApart, IsMember, AreMembers, IsOverloaded, IsWithin}
 use Rattle.plan_kernel.proofs.InputLemmas.{count_is, arc_kept, duration_is}
-use Rattle.plan_kernel.proofs.LevelLemmas.{quantity_within, quantity_start, quantity_makespan, quantity_order, level_even, level_odd}
+use Rattle.plan_kernel.proofs.LevelLemmas.{quantity_within, quantity_start, quantity_cost, quantity_order, level_even, level_odd}
 use Rattle.plan_kernel.proofs.EnergyLemmas.{window_need, energy_within, overlap_within}
 
 -- no member in particular
@@ -55,16 +56,16 @@ pub arc_follows : (input : Input) (starts : List ℕ) (arc : Arc) (k value lasts
     → later ≤ value + weight → Fails input starts (below arc.from value) → Fails input starts (at_least arc.to later) → ⊥
 arc_follows input starts arc k value lasts weight later short inside is one other duration_at small most early late =
     let kept : KeepsArc (problem_of input) starts arc =
-    subst (λ (a : Arc). KeepsArc (problem_of input) starts a) (sym is) (arc_kept input starts k arc short.feasible.arcs inside) in
+    subst (λ (a : Arc). KeepsArc (problem_of input) starts a) (sym is) (arc_kept input starts k arc short.plan.feasible.arcs inside) in
     omega (arith, kept, duration_at, duration_is input arc.from, small, most, start_below input starts arc.from value short one early, start_least input starts arc.to later other late)
 
--- the clause of an activity and the makespan
+-- the clause of an activity and the cost
 pub end_follows : (input : Input) (starts : List ℕ) (i n value lasts later : ℕ) → IsShorter input LIMIT starts → IsWritable input i → n ≡ length input.durations.items
-    → lasts ≡ at input.durations.items i → later ≤ value + lasts → Fails input starts (below i value) → Fails input starts (at_least n later) → ⊥
+    → lasts ≡ at input.durations.items i → later ≤ value + lasts + at input.tails.items i → Fails input starts (below i value) → Fails input starts (at_least n later) → ⊥
 end_follows input starts i n value lasts later short is all duration_at most early late =
     let p = problem_of input in
     let same : n ≡ count p = omega (arith, all, count_is input) in
-    let end : at starts i + duration p i ≤ makespan p starts = greatest_above (count p) (λ j. get_or starts j 0 + duration p j) i is.0 in
+    let end : reach_of input starts i ≤ cost input starts = greatest_above (count p) (reach_of input starts) i is.0 in
     omega (
       arith,
       end,
@@ -74,8 +75,13 @@ end_follows input starts i n value lasts later short is all duration_at most ear
       start_below input starts i value short is early,
       least_fails input starts n later late,
       ap (quantity input starts) same,
-      quantity_makespan input starts,
+      quantity_cost input starts,
     )
+
+-- the clause of a start
+pub start_follows : (input : Input) (starts : List ℕ) (i value : ℕ) → IsShorter input LIMIT starts → IsWritable input i
+    → Fails input starts (below i value) → Fails input starts (at_least i value) → ⊥
+start_follows input starts i value short is early late = omega (arith, start_below input starts i value short is early, start_least input starts i value is late)
 
 -- an order that is 1
 order_one : (p : Problem) (starts : List ℕ) (o : Order) → 1 ≤ order_of p starts o → at starts o.first + duration p o.first ≤ at starts o.second
@@ -114,7 +120,7 @@ after_follows input starts o value later short is one other (differ, lasts, too,
     order_none p starts (pair_of o) (omega (arith, least_fails input starts o.quantity 1 first, quantity_of input starts o is)) in
     let before : at starts o.first < at starts o.second + duration p o.second =
     omega (arith, small, start_below input starts o.second value short other early, start_least input starts o.first later one late) in
-    omega (arith, much, overlap_within p starts k o.first o.second short.feasible resource differ one.0 other.0 lasts too overlap before)
+    omega (arith, much, overlap_within p starts k o.first o.second short.plan.feasible resource differ one.0 other.0 lasts too overlap before)
 
 -- a member whose literals fail is in the window for its time
 pub member_within : (input : Input) (from until : ℕ) (m : Member) (starts : List ℕ) → IsMember input from until m → from < until → until ≤ LIMIT
@@ -138,7 +144,7 @@ energy_follows input k from until members starts over short within =
     λ j d below. let m : Member = get_or members j d in let is : IsMember input from until m = over.each.each j d below in
     let at_m : IsWithin input from until starts m = within j d below in
     window_need p starts k from until m over.window is.lasts is.inside at_m.0 at_m.1 in
-    omega (arith, over.more, energy_within p starts k from until members short.feasible over.resource over.each.rising inside needs)
+    omega (arith, over.more, energy_within input starts k from until members short.plan over.resource over.each.rising inside needs)
 
 -- the clause with the literals of one member more
 pub member_fills : (input : Input) (from until : ℕ) (m : Member) (starts : List ℕ) (old middle new : List Literal) (l : Literal) → IsMember input from until m

@@ -1,17 +1,15 @@
--- Clauses, facts and conflicts: what they say of all feasible lists of starts whose makespan is
--- below an upper bound (docs/definitions.md, "Clauses"). Conflict analysis as in Marques-Silva and
--- Sakallah (1999).
+-- Clauses, facts and conflicts: what they say of all plans that cost less than an upper bound
+-- (docs/definitions.md, "Clauses"). Conflict analysis as in Marques-Silva and Sakallah (1999).
 use Rattle.std.specs.Prelude.{◌≡◌, ◌≢◌, ℕ, ◌≤◌, ◌<◌, ◌⊎◌, Bool, not, nat_eq, List, Option, Some, None, All, Contains}
-use Rattle.plan_sgs.specs.Problem.{IsFeasible, makespan}
 use Rattle.plan_kernel.specs.declared.literal.Literal.{Literal}
 use Rattle.plan_kernel.specs.declared.input.Input.{Input}
-use Rattle.plan_kernel.specs.Inputs.{problem_of}
+use Rattle.plan_kernel.specs.Plans.{IsPlan, cost}
 use Rattle.plan_kernel.specs.Literals.{at, level, Fails, negated}
 
--- a feasible list of starts with a makespan below a number
+-- a plan that costs less than a number
 pub record IsShorter (input : Input) (upper : ℕ) (starts : List ℕ) : Type 0 where
-  pub feasible : IsFeasible (problem_of input) starts
-  pub less : makespan (problem_of input) starts < upper
+  pub plan : IsPlan input starts
+  pub less : cost input starts < upper
 
 -- a clause holds in each of them: not all of its literals fail
 abbrev pub IsConsequence : Input → ℕ → List Literal → Type 0

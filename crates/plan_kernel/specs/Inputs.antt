@@ -1,6 +1,6 @@
 -- Scheduling problems as plain numbers (docs/definitions.md, "Schedules").
-use Rattle.std.specs.Prelude.{◌≡◌, ℕ, ◌+◌, ◌≤◌, ◌<◌, List, Some, length, get_or, map}
-use Rattle.plan_sgs.specs.Problem.{Problem, Link, duration, capacity, amount_of, usage, all_placed, IsFeasible, makespan}
+use Rattle.std.specs.Prelude.{ℕ, ◌+◌, ◌≤◌, List, Some, get_or, map}
+use Rattle.plan_sgs.specs.Problem.{Problem, Link, duration, amount_of}
 use Rattle.plan_kernel.specs.declared.input.Arc.{Arc}
 use Rattle.plan_kernel.specs.declared.input.Input.{Input}
 
@@ -28,16 +28,3 @@ amount_at p starts t k i = amount_of p t k i (Some (get_or starts i 0))
 -- an arc is kept
 abbrev pub KeepsArc : Problem → List ℕ → Arc → Type 0
 KeepsArc p starts arc = end_of p starts arc.from + arc.lag ≤ get_or starts arc.to 0
-
--- a resource isn't overloaded at an instant
-abbrev pub FitsFor : Problem → List ℕ → ℕ → ℕ → Type 0
-FitsFor p starts t k = usage p (all_placed starts) t k ≤ capacity p k
-
--- no resource is
-abbrev pub FitsAt : Problem → List ℕ → ℕ → Type 0
-FitsAt p starts t = (k : ℕ) → k < length p.capacities → FitsFor p starts t k
-
--- a list of starts is feasible, and has this makespan
-pub record IsMakespanOf (input : Input) (starts : List ℕ) (end : ℕ) : Type 0 where
-  pub feasible : IsFeasible (problem_of input) starts
-  pub makespan_is : end ≡ makespan (problem_of input) starts

@@ -2,7 +2,7 @@
 use Rattle.std.specs.Prelude.{◌≡◌, ℕ, suc, ◌+◌, ◌-◌, ◌*◌, max, min, ◌≤◌, ◌<◌, ◌⊎◌, true, List, [], Vec, Option, Some, None, ◌∷◌, All, Contains, length, get_or}
 use Rattle.std.specs.declared.alloc.Global.{Global}
 use Rattle.std.specs.List.Sorted.{IsPermutation}
-use Rattle.plan_sgs.specs.Problem.{IsFeasible, makespan, greatest_below}
+use Rattle.plan_sgs.specs.Problem.{greatest_below}
 use Rattle.plan_kernel.specs.declared.literal.TheConstants.{LIMIT}
 use Rattle.plan_kernel.specs.declared.input.Input.{Input}
 use Rattle.plan_kernel.specs.declared.literal.Literal.{Literal}
@@ -11,24 +11,19 @@ use Rattle.plan_kernel.specs.declared.known.Lesson.{Lesson}
 use Rattle.plan_kernel.specs.declared.known.Lesson.TheVariants.{Refuted, Fact, Clause}
 use Rattle.plan_kernel.specs.Literals.{at}
 use Rattle.plan_kernel.specs.declared.conflict.Conflict.{Conflict}
-use Rattle.plan_kernel.specs.Inputs.{problem_of}
+use Rattle.plan_kernel.specs.Plans.{IsPlan, cost}
+pub use Rattle.plan_kernel.specs.Plans.{IsLowerBound}
 use Rattle.plan_kernel.specs.Clauses.{IsShorter, IsConsequence, AreFacts, IsConflict, NoneIsShorter, IsListed, IsNegated}
 
--- a feasible list of starts with its makespan
+-- a plan with its cost
 pub record IsBest (input : Input) (starts : List ℕ) (upper : ℕ) : Type 0 where
-  pub feasible : IsFeasible (problem_of input) starts
-  pub makespan_is : makespan (problem_of input) starts ≡ upper
+  pub plan : IsPlan input starts
+  pub cost_is : cost input starts ≡ upper
 
--- no feasible list of starts has a makespan below a number
-abbrev pub IsLowerBound : Input → ℕ → Type 0
-IsLowerBound input lower =
-    (starts : List ℕ) → IsFeasible (problem_of input) starts
-    → lower ≤ makespan (problem_of input) starts
-
--- each shorter list of starts has a makespan of at least a number
-abbrev pub IsEndReached : Input → ℕ → ℕ → Type 0
-IsEndReached input upper end =
-    (starts : List ℕ) → IsShorter input upper starts → end ≤ makespan (problem_of input) starts
+-- each plan that costs less than the upper bound costs at least a number
+abbrev pub IsCostReached : Input → ℕ → ℕ → Type 0
+IsCostReached input upper end =
+    (starts : List ℕ) → IsShorter input upper starts → end ≤ cost input starts
 
 -- a place for a clause: the clause that is kept there, if there is one
 abbrev pub Kept : Type 0
@@ -39,9 +34,9 @@ abbrev pub IsKept : Input → ℕ → Kept → Type 0
 IsKept input upper None = Unit {0}
 IsKept input upper (Some clause) = IsConsequence input upper clause.items
 
--- What is known is true: facts and clauses hold in each shorter list of starts. If the upper bound
--- is refuted, there is no such list. The best list, if one was found, is feasible, and its makespan
--- is the upper bound.
+-- What is known is true: facts and clauses hold in each plan that costs less than the upper bound.
+-- If the upper bound is refuted, there is no such plan. The best list, if one was found, is a plan,
+-- and its cost is the upper bound.
 pub record AreKnown (known : Known) : Type 0 where
   pub limit : known.upper ≤ LIMIT
   pub best : known.found ≡ true → IsBest known.input known.best.items known.upper
@@ -61,32 +56,36 @@ pub record IsUnchanged (old new : Known) : Type 0 where
   pub literals : new.literals ≡ old.literals
   pub refuted : new.refuted ≡ old.refuted
 
--- what is known is true, and the literals of the conflict, if it is open, hold together in no
--- shorter list
+-- what is known is true, and the literals of the conflict, if it is open, hold together in no plan
+-- that costs less
 pub record IsTrueOf (known : Known) (conflict : Conflict) : Type 0 where
   pub holds : AreKnown known
   pub apart : conflict.open ≡ true → IsConflict known.input known.upper conflict.values.items
   pub listed : IsListed conflict.values.items conflict.touched.items
 
--- how many halves there are: two for each activity, for the makespan and for each order
+-- how many halves there are: two for each activity, for the cost and for each order
 abbrev pub count_halves : Input → ℕ
 count_halves input = 2 * (suc (length input.durations.items) + length input.orders.items)
 
--- the facts say of the first n activities that they end before the upper bound, as far as numbers
--- go
+-- the facts say of the first n activities that they end, with their tails, before the upper bound,
+-- as far as numbers go
 abbrev pub AreLatest : Input → ℕ → List ℕ → ℕ → Type 0
 AreLatest input upper facts n =
     (i : ℕ) → i < n → 2 * i + 1 < length facts
-    → min (LIMIT - upper + 1 + at input.durations.items i) 4294967295 ≤ at facts (2 * i + 1)
+    → min (LIMIT - upper + 1 + at input.durations.items i + at input.tails.items i) 4294967295
+    ≤ at facts (2 * i + 1)
 
--- the greatest known start with its duration, or the known makespan if that is greater
-abbrev pub end_in : Input → List ℕ → ℕ
-end_in input facts =
+-- the greatest known start with its duration and tail, or the known cost if that is greater
+abbrev pub cost_in : Input → List ℕ → ℕ
+cost_in input facts =
     let n = length input.durations.items in
-    max (greatest_below n (λ i. at facts (2 * i) + at input.durations.items i)) (at facts (2 * n))
+    max
+    (greatest_below n
+    (λ i. at facts (2 * i) + at input.durations.items i + at input.tails.items i))
+    (at facts (2 * n))
 
-abbrev pub known_end : Known → ℕ
-known_end known = end_in known.input known.facts.items
+abbrev pub known_cost : Known → ℕ
+known_cost known = cost_in known.input known.facts.items
 
 -- what became of a clause: without literals it refutes, with one it is a fact, unless there is no
 -- such half, and else it is kept

@@ -1,4 +1,5 @@
 pub mod Inputs
+pub mod Plans
 pub mod Literals
 pub mod Clauses
 pub mod Reasons

@@ -2,14 +2,16 @@
 -- in Schutt, Feydt, Stuckey and Wallace (2011).
 use Rattle.std.specs.Prelude.{◌≡◌, ◌≢◌, ℕ, suc, ◌+◌, ◌*◌, ◌-◌, ◌≤◌, ◌<◌, List, sum_by, length, get_or, All}
 use Rattle.std.specs.List.{AllPairs}
-use Rattle.plan_sgs.specs.Problem.{Problem, count, duration, need, capacity}
+use Rattle.plan_sgs.specs.Problem.{Problem, count, duration, need, capacity, total}
 use Rattle.plan_kernel.specs.declared.literal.TheConstants.{LIMIT}
 use Rattle.plan_kernel.specs.declared.literal.Literal.{Literal}
 use Rattle.plan_kernel.specs.declared.input.Input.{Input}
+use Rattle.plan_kernel.specs.declared.input.Absence.{Absence}
 use Rattle.plan_kernel.specs.declared.input.Order.{Order}
 use Rattle.plan_kernel.specs.declared.reason.Member.{Member}
 use Rattle.plan_kernel.specs.declared.reason.OrderAt.{OrderAt}
 use Rattle.plan_kernel.specs.Inputs.{problem_of}
+use Rattle.plan_kernel.specs.Plans.{taken_by, absent}
 use Rattle.plan_kernel.specs.Literals.{no_order, Fails}
 use Rattle.plan_kernel.specs.Clauses.{IsShorter}
 
@@ -56,13 +58,23 @@ pub record AreMembers (input : Input) (from until : ℕ) (members : List Member)
 abbrev pub energy_of : Problem → ℕ → List Member → ℕ
 energy_of p k members = sum_by (λ m. need p m.activity k * m.time) members
 
--- a window is too short for its members
+-- what an absence takes of a resource in a window, over time
+abbrev pub taken_in : ℕ → ℕ → ℕ → Absence → ℕ
+taken_in k from until a = total (until - from) (λ x. taken_by (from + x) k a)
+
+-- what is absent of a resource in a window, over time
+abbrev pub absent_in : Input → ℕ → ℕ → ℕ → ℕ
+absent_in input k from until = total (until - from) (λ x. absent input (from + x) k)
+
+-- a window is too short for its members beside what is absent
 pub record IsOverloaded (input : Input) (k from until : ℕ) (members : List Member) : Type 0 where
   pub window : from < until
   pub limit : until ≤ LIMIT
   pub resource : k < length (problem_of input).capacities
   pub each : AreMembers input from until members
-  pub more : capacity (problem_of input) k * (until - from) < energy_of (problem_of input) k members
+  pub more :
+      capacity (problem_of input) k * (until - from)
+      < energy_of (problem_of input) k members + absent_in input k from until
 
 -- where the literals of a member fail it is in the window for its time
 abbrev pub IsWithin : Input → ℕ → ℕ → List ℕ → Member → Type 0

@@ -4,6 +4,7 @@ ghost use Rattle.std.specs.Prelude.{◌≡◌, ◌<◌, ◌^◌, All, map, IfOk}
 ghost use Rattle.plan_sgs.specs.Instances as instances;
 ghost use Rattle.plan_sgs.specs.Problem as problems;
 ghost use Rattle.plan_kernel.specs.Inputs as spec;
+ghost use Rattle.plan_kernel.specs.Plans.{IsPlain, HasSameNumbers};
 
 use crate::literal::at;
 use plan_sgs::Instance;
@@ -26,6 +27,24 @@ pub struct Order {
     pub second: u32,
 }
 
+/// The activity starts at `earliest` or later, and at `latest` or earlier. An appointment is a window
+/// of one instant.
+#[derive(Clone, Copy, Drop)]
+pub struct StartWindow {
+    pub activity: u32,
+    pub earliest: u32,
+    pub latest: u32,
+}
+
+/// So much of a resource is missing from instant `from` on, before instant `until`.
+#[derive(Clone, Copy, Drop)]
+pub struct Absence {
+    pub resource: u32,
+    pub from: u32,
+    pub until: u32,
+    pub amount: u32,
+}
+
 /// The numbers of a scheduling problem, and the orders that clauses may speak of. Activities and
 /// resources are numbered from 0.
 #[derive(Drop)]
@@ -39,6 +58,13 @@ pub struct Input {
     pub capacities: Vec<u64>,
     /// Any two activities; only the clauses of orders depend on them.
     pub orders: Vec<Order>,
+    /// Bounds of starts. An activity may have none, or several.
+    pub windows: Vec<StartWindow>,
+    /// What is missing of resources. Absences of one resource add up.
+    pub absences: Vec<Absence>,
+    /// For each activity what its end adds to the cost of a plan beyond the end itself, 0 where the
+    /// list is shorter.
+    pub tails: Vec<u32>,
 }
 
 /// What an activity needs of a resource, 0 if there is no such activity or resource.
@@ -61,6 +87,14 @@ pub fn capacity(input: &Input, resource: usize) -> u64
     } else {
         0
     }
+}
+
+/// The same problem with other orders.
+pub fn with_orders(input: Input, orders: Vec<Order>) -> Input
+    ensures same { HasSameNumbers result input }
+    ensures orders { result.orders ≡ orders }
+{
+    Input { orders, ..input }
 }
 
 // The numbers of a list, of which none is above 2^32 - 1.
@@ -116,14 +150,13 @@ fn needs_of(alloc: Global, instance: &Instance) -> Result<Vec<Vec<u32>>, AllocEr
 }
 
 impl Input {
-    /// The numbers of a project and its capacities.
+    /// The numbers of a project and its capacities, without windows, absences and tails.
     pub fn of_instance(
         alloc: Global,
         instance: &Instance,
         orders: Vec<Order>,
     ) -> Result<Input, AllocError>
-        ensures problem { IfOk result (λ input.
-            spec.problem_of input ≡ instances.problem_of instance.now) }
+        ensures problem { IfOk result (λ input. IsPlain input (instances.problem_of instance.now)) }
         ensures orders { IfOk result (λ input. input.orders ≡ orders) }
     {
         Ok(Input {
@@ -132,6 +165,9 @@ impl Input {
             needs: needs_of(alloc, instance)?,
             capacities: Vec::from_slice(alloc, instance.caps())?,
             orders,
+            windows: Vec::new(alloc),
+            absences: Vec::new(alloc),
+            tails: Vec::new(alloc),
         })
     }
 }

@@ -14,8 +14,8 @@ use std::alloc::{AllocError, Global};
 use std::marker::Model;
 
 /// Facts and clauses about the starts of a scheduling problem, and at most one conflict. All of it
-/// is true of each feasible list of starts whose makespan is below the upper bound, which is the
-/// makespan of the best list handed in.
+/// is true of each plan that costs less than the upper bound, which is the cost of the best plan
+/// handed in.
 ///
 /// Nothing but these calls changes what a kernel holds, so whatever calls them, in whatever order,
 /// can make it hold nothing false. Every call returns for every argument.
@@ -37,21 +37,37 @@ impl Model for Kernel {
 
 impl Kernel {
     ghost use Rattle.std.specs.Prelude.{◌≡◌, ◌≤◌, ℕ, true, false, length, IfOk, IfSome, IfNone, IsTrue, IsFalse, IsErrOf, OnErr, OnOk, min, ◌&&◌, ◌<◌};
-    ghost use Rattle.plan_sgs.specs.Problem.{IsShortest};
-    ghost use Rattle.plan_kernel.specs.Inputs.{problem_of};
+    ghost use Rattle.plan_kernel.specs.Plans.{IsLeastCost};
     ghost use Rattle.plan_kernel.specs.Literals as literals;
     ghost use Rattle.plan_kernel.specs.Clauses as clauses;
     ghost use Rattle.plan_kernel.specs.Kernels as spec;
 
-    /// A kernel of a problem, with no list of starts yet: its upper bound is [`LIMIT`].
+    /// A kernel of a problem, with no plan yet: its upper bound is [`LIMIT`].
     pub fn new(alloc: Global, input: Input) -> Result<Kernel, AllocError>
         ensures input { IfOk result (λ kernel. kernel.known.input ≡ input) }
+        ensures upper { IfOk result (λ kernel. kernel.known.upper ≡ LIMIT) }
+        ensures found { IfOk result (λ kernel. kernel.known.found ≡ false) }
         ensures halves { IfOk result (λ kernel.
             length kernel.known.facts.items ≡ spec.count_halves input) }
         ensures values { IfOk result (λ kernel.
             length kernel.conflict.values.items ≡ spec.count_halves input) }
     {
-        let known = first_known(alloc, input)?;
+        Kernel::below(alloc, input, LIMIT)
+    }
+
+    /// A kernel of the plans of a problem that cost less than a number, at most [`LIMIT`]. It has no
+    /// plan yet, and the number is its upper bound.
+    pub fn below(alloc: Global, input: Input, upper: u32) -> Result<Kernel, AllocError>
+        requires { upper ≤ LIMIT }
+        ensures input { IfOk result (λ kernel. kernel.known.input ≡ input) }
+        ensures upper { IfOk result (λ kernel. kernel.known.upper ≡ upper) }
+        ensures found { IfOk result (λ kernel. kernel.known.found ≡ false) }
+        ensures halves { IfOk result (λ kernel.
+            length kernel.known.facts.items ≡ spec.count_halves input) }
+        ensures values { IfOk result (λ kernel.
+            length kernel.conflict.values.items ≡ spec.count_halves input) }
+    {
+        let known = first_known(alloc, input, upper)?;
         let conflict = no_conflict(alloc, known.facts.len())?;
         Ok(Kernel { known, conflict })
     }
@@ -63,7 +79,7 @@ impl Kernel {
         &self.known.input
     }
 
-    /// The makespan of the best list of starts, or [`LIMIT`] if there is none yet.
+    /// The cost of the best plan, or the first upper bound if there is none yet.
     pub fn upper(&self) -> u32
         ensures value { result ≡ self.now.known.upper }
         ensures limit { result ≤ LIMIT }
@@ -71,7 +87,7 @@ impl Kernel {
         self.known.upper
     }
 
-    /// The best list of starts, if one was found.
+    /// The best plan, if one was found.
     pub fn best(&self) -> Option<&[u32]>
         ensures some { IfSome result (λ starts.
             spec.IsBest self.now.known.input starts.now self.now.known.upper) }
@@ -84,29 +100,29 @@ impl Kernel {
         }
     }
 
-    /// A number that no makespan of a feasible list of starts is below: the known makespan, or the
-    /// greatest known start with its duration if that is greater; or the upper bound if that is less
-    /// or nothing is below it.
+    /// A number that no cost of a plan is below: the known cost, or the greatest known start with its
+    /// duration and tail if that is greater; or the upper bound if that is less or nothing is below
+    /// it.
     pub fn lower_bound(&self) -> u32
         ensures lower { spec.IsLowerBound self.now.known.input result }
         ensures below { result ≤ self.now.known.upper }
         ensures refuted { self.now.known.refuted ≡ true → result ≡ self.now.known.upper }
         ensures known { self.now.known.refuted ≡ false
-            → result ≡ min (spec.known_end self.now.known) self.now.known.upper }
+            → result ≡ min (spec.known_cost self.now.known) self.now.known.upper }
     {
         lower_bound(&self.known)
     }
 
-    /// Whether the best list of starts is proved to be a shortest one.
+    /// Whether the best plan is proved to be one of least cost.
     pub fn is_optimal(&self) -> bool
-        ensures shortest { IsTrue result
-            → IsShortest (problem_of self.now.known.input) self.now.known.best.items }
+        ensures least { IsTrue result
+            → IsLeastCost self.now.known.input self.now.known.best.items }
         ensures value { result ≡ (self.now.known.found && self.now.known.refuted) }
     {
         self.known.found && self.known.refuted
     }
 
-    /// How many halves there are: two for each activity, for the makespan and for each order.
+    /// How many halves there are: two for each activity, for the cost and for each order.
     pub fn halves(&self) -> usize
         ensures { result ≡ length self.now.known.facts.items }
     {
@@ -208,8 +224,8 @@ impl Kernel {
         Ok(lesson)
     }
 
-    /// Takes a list of starts if it is feasible and its makespan is below the upper bound, and
-    /// lowers the upper bound to it. Facts follow: each activity ends before the upper bound.
+    /// Takes a list of starts if it is a plan and its cost is below the upper bound, and lowers the
+    /// upper bound to it. Facts follow: each activity ends, with its tail, before the upper bound.
     ///
     /// Returns whether the list was taken. If not, the kernel is as it was.
     pub fn lower(&mut self, starts: Vec<u32>) -> bool

@@ -5,9 +5,9 @@ ghost use Rattle.plan_kernel.specs.Clauses.{IsShorter, IsConsequence};
 ghost use Rattle.plan_kernel.specs.Kernels as spec;
 ghost use Rattle.plan_kernel.specs.declared.fault.KernelFault.TheVariants.{NoConflict};
 
-use crate::facts::{first_facts, greatest_end, raise, raise_latest};
+use crate::facts::{first_facts, greatest_cost, raise, raise_latest};
 use crate::fault::KernelFault;
-use crate::feasible::makespan_of;
+use crate::feasible::cost_of;
 use crate::input::Input;
 use crate::literal::{LIMIT, Literal};
 use std::alloc::{AllocError, Global};
@@ -22,7 +22,7 @@ pub const PER_CLAUSE: u64 = 6;
 /// What a conflict has taught.
 #[derive(Clone, Copy, Drop)]
 pub enum Lesson {
-    /// No feasible list of starts has a makespan below the upper bound.
+    /// No plan costs less than the upper bound.
     Refuted,
     /// The fact of this half has risen.
     Fact(u32),
@@ -30,12 +30,12 @@ pub enum Lesson {
     Clause(u32),
 }
 
-/// What is known of a problem: the best list of starts, and facts and clauses that hold in all
-/// shorter ones.
+/// What is known of a problem: the best plan, and facts and clauses that hold in all plans that cost
+/// less.
 #[derive(Drop)]
 pub struct Known {
     pub input: Input,
-    /// The makespan of the best list, or the limit.
+    /// The cost of the best plan, or the first upper bound.
     pub upper: u32,
     pub found: bool,
     pub best: Vec<u32>,
@@ -47,21 +47,24 @@ pub struct Known {
     pub free: Vec<u32>,
     /// How many literals are kept, with an allowance for each clause.
     pub literals: u64,
-    /// Whether no feasible list of starts has a makespan below the upper bound.
+    /// Whether no plan costs less than the upper bound.
     pub refuted: bool,
 }
 
-/// What is known of a problem at first.
-pub fn first_known(alloc: Global, input: Input) -> Result<Known, AllocError>
+/// What is known at first of the plans of a problem that cost less than an upper bound.
+pub fn first_known(alloc: Global, input: Input, upper: u32) -> Result<Known, AllocError>
+    requires { upper ≤ LIMIT }
     ensures input { IfOk result (λ known. known.input ≡ input) }
+    ensures upper { IfOk result (λ known. known.upper ≡ upper) }
+    ensures found { IfOk result (λ known. known.found ≡ false) }
     ensures holds { IfOk result spec.AreKnown }
     ensures size { IfOk result (λ known.
         length known.facts.items ≡ spec.count_halves known.input) }
 {
-    let facts = first_facts(alloc, &input)?;
+    let facts = first_facts(alloc, &input, upper)?;
     Ok(Known {
         input,
-        upper: LIMIT,
+        upper,
         found: false,
         best: Vec::new(alloc),
         facts,
@@ -72,19 +75,19 @@ pub fn first_known(alloc: Global, input: Input) -> Result<Known, AllocError>
     })
 }
 
-/// A number that no makespan of a feasible list of starts is below.
+/// A number that no cost of a plan is below.
 pub fn lower_bound(known: &Known) -> u32
     requires { spec.AreKnown known.now }
     ensures lower { spec.IsLowerBound known.now.input result }
     ensures below { result ≤ known.now.upper }
     ensures refuted { known.now.refuted ≡ true → result ≡ known.now.upper }
     ensures known { known.now.refuted ≡ false
-        → result ≡ min (spec.known_end known.now) known.now.upper }
+        → result ≡ min (spec.known_cost known.now) known.now.upper }
 {
     if known.refuted {
         known.upper
     } else {
-        greatest_end(&known.facts, &known.input, known.upper).min(known.upper)
+        greatest_cost(&known.facts, &known.input, known.upper).min(known.upper)
     }
 }
 
@@ -101,7 +104,7 @@ pub fn clause_of(clauses: &[Option<Vec<Literal>>], clause: u32) -> &[Literal]
     }
 }
 
-/// Takes a list of starts if it is feasible and shorter than the best one.
+/// Takes a list of starts if it is a plan that costs less than the best one.
 pub fn lower(known: &mut Known, starts: Vec<u32>) -> bool
     requires { spec.AreKnown known.old }
     ensures holds { spec.AreKnown known.new }
@@ -113,13 +116,13 @@ pub fn lower(known: &mut Known, starts: Vec<u32>) -> bool
         → IsShorter known.old.input known.old.upper starts.items → ⊥ }
     ensures unchanged { IsFalse result → known.new ≡ known.old }
 {
-    let Some(makespan) = makespan_of(&known.input, &starts) else {
+    let Some(cost) = cost_of(&known.input, &starts) else {
         return false;
     };
-    if makespan >= known.upper as u64 {
+    if cost >= known.upper as u64 {
         return false;
     }
-    known.upper = makespan as u32;
+    known.upper = cost as u32;
     known.found = true;
     known.best = starts;
     raise_latest(&mut known.facts, &known.input, known.upper);

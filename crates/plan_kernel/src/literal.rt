@@ -3,11 +3,11 @@
 ghost use Rattle.std.specs.Prelude.{◌≡◌, ◌≤◌, length};
 ghost use Rattle.plan_kernel.specs.Literals as spec;
 
-/// No start and no makespan that a clause speaks of is greater.
+/// No start and no cost that a clause speaks of is greater.
 pub const LIMIT: u32 = 1_073_741_824;
 
 /// A bound of a quantity `x`. For `x` below the number `n` of activities it is the start of activity
-/// `x`, for `x = n` the makespan, and above it 1 or 0 for order `x - n - 1`: whether its first
+/// `x`, for `x = n` the cost, and above it 1 or 0 for order `x - n - 1`: whether its first
 /// activity ends before its second starts.
 ///
 /// Half `2 * x` with value `v` says that the quantity is at least `v`. Half `2 * x + 1` with value

@@ -1,11 +1,11 @@
-//! Reasons: the clauses that hold in every feasible schedule.
+//! Reasons: the clauses that hold in every plan.
 
 ghost use Rattle.std.specs.Prelude.{◌≡◌, ◌+◌, ◌≤◌, ◌<◌, IfOk, IfSome, IsTrue, OnOk};
 ghost use Rattle.plan_kernel.specs.Inputs.{problem_of};
 ghost use Rattle.plan_kernel.specs.Clauses.{IsConsequence};
 ghost use Rattle.plan_kernel.specs.Reasons as spec;
 
-use crate::input::{Arc, Input, capacity, need};
+use crate::input::{Absence, Arc, Input, capacity, need};
 use crate::literal::{LIMIT, Literal, at};
 use std::alloc::AllocError;
 
@@ -16,8 +16,7 @@ pub struct Member {
     pub time: u32,
 }
 
-/// A clause that holds in every feasible schedule that is shorter than the best one, by what makes
-/// it hold.
+/// A clause that holds in every plan that costs less than the best one, by what makes it hold.
 #[derive(Clone, Copy, Drop)]
 pub enum Reason<'a> {
     /// The kept clause of this number.
@@ -28,9 +27,14 @@ pub enum Reason<'a> {
         arc: u32,
         value: u32,
     },
-    /// The makespan: the activity starts before `value`, or the makespan is at least `value` +
-    /// duration of the activity.
+    /// The cost: the activity starts before `value`, or the cost is at least `value` + duration and
+    /// tail of the activity.
     End {
+        activity: u32,
+        value: u32,
+    },
+    /// A start: the activity starts before `value`, or at `value` or later.
+    Start {
         activity: u32,
         value: u32,
     },
@@ -46,8 +50,8 @@ pub enum Reason<'a> {
         order: u32,
         value: u32,
     },
-    /// The window from `from` to `until` is too short for its members, which rise by their numbers:
-    /// one of them, which should be in it for `time`, starts before `from` + `time` - duration or
+    /// The window from `from` to `until` is too short, beside what is absent in it, for its members,
+    /// which rise by their numbers: one of them, which should be in it for `time`, starts before `from` + `time` - duration or
     /// after `until` - `time`.
     Energy {
         resource: u32,
@@ -158,7 +162,7 @@ fn fill_arc(
     Ok(true)
 }
 
-// The clause of the makespan and an activity.
+// The clause of the cost and an activity.
 fn fill_end(
     input: &Input,
     activity: u32,
@@ -172,9 +176,30 @@ fn fill_end(
         return Ok(false);
     }
     let end = value.saturating_add(at(&input.durations, activity as usize));
+    let tail = at(&input.tails, activity as usize);
+    let reach = end.saturating_add(tail);
     clause.clear();
     clause.push(below(activity, value))?;
-    clause.push(at_least(count as u32, end))?;
+    clause.push(at_least(count as u32, reach))?;
+    Ok(true)
+}
+
+// The clause of a start.
+fn fill_start(
+    input: &Input,
+    activity: u32,
+    value: u32,
+    clause: &mut Vec<Literal>,
+) -> Result<bool, AllocError>
+    ensures { IfOk result (λ is. IsTrue is → IsConsequence input.now LIMIT clause.new.items) }
+{
+    if !is_activity(input, activity) {
+        return Ok(false);
+    }
+    let early = below(activity, value);
+    clause.clear();
+    clause.push(early)?;
+    clause.push(at_least(activity, value))?;
     Ok(true)
 }
 
@@ -263,7 +288,33 @@ fn energy(input: &Input, resource: u32, members: &[Member]) -> u64
     sum
 }
 
-// Whether a window is too short for members.
+// What an absence takes of a resource in a window, over time.
+fn taken(absence: Absence, resource: u32, from: u32, until: u32) -> u64
+    ensures { result ≤ spec.taken_in resource from until absence }
+{
+    if absence.resource != resource {
+        return 0;
+    }
+    let first = absence.from.max(from);
+    let behind = absence.until.min(until);
+    if behind <= first {
+        return 0;
+    }
+    (absence.amount as u64).saturating_mul((behind - first) as u64)
+}
+
+// What is absent of a resource in a window, over time. A sum beyond all limits may be less.
+fn absent(input: &Input, resource: u32, from: u32, until: u32) -> u64
+    ensures { result ≤ spec.absent_in input.now resource from until }
+{
+    let mut sum: u64 = 0;
+    for &absence in &input.absences {
+        sum = sum.saturating_add(taken(absence, resource, from, until));
+    }
+    sum
+}
+
+// Whether a window is too short for members beside what is absent.
 fn is_overloaded(input: &Input, resource: u32, from: u32, until: u32, members: &[Member]) -> bool
     ensures { IsTrue result → spec.IsOverloaded input.now resource from until members.now }
 {
@@ -271,7 +322,9 @@ fn is_overloaded(input: &Input, resource: u32, from: u32, until: u32, members: &
         return false;
     }
     let room = capacity(input, resource as usize).saturating_mul((until - from) as u64);
-    are_members(input, from, until, members) && energy(input, resource, members) > room
+    let missing = absent(input, resource, from, until);
+    let taken = energy(input, resource, members).saturating_add(missing);
+    are_members(input, from, until, members) && taken > room
 }
 
 // Adds the literals of a member: it starts too early for its time in the window, or too late.
@@ -326,6 +379,7 @@ pub fn fill(input: &Input, reason: Reason, clause: &mut Vec<Literal>) -> Result<
         Reason::Kept(_) => Ok(false),
         Reason::Arc { arc, value } => fill_arc(input, arc, value, clause),
         Reason::End { activity, value } => fill_end(input, activity, value, clause),
+        Reason::Start { activity, value } => fill_start(input, activity, value, clause),
         Reason::Before { order, value } => fill_before(input, order, value, clause),
         Reason::After { order, value } => fill_after(input, order, value, clause),
         Reason::Energy {

@@ -4,6 +4,7 @@ ghost use Rattle.std.specs.Prelude.{◌≡◌, ◌<◌, ◌≤◌, map, replicat
 ghost use Rattle.plan_shop.specs.Shop as shops;
 ghost use Rattle.plan_shop.specs.Docs.{IsSmallShop};
 ghost use Rattle.plan_kernel.specs.Inputs as spec;
+ghost use Rattle.plan_kernel.specs.Plans.{IsPlain};
 ghost use Rattle.plan_kernel.specs.Shops.{next_steps, needs_of_step};
 
 use crate::input::{Arc, Input, Order};
@@ -80,10 +81,9 @@ fn ones(alloc: Global, machines: u32) -> Result<Vec<u64>, AllocError>
 
 impl Input {
     /// The numbers of a job shop: its steps by their flat numbers, one after another in their jobs,
-    /// and its machines as resources of capacity 1.
+    /// and its machines as resources of capacity 1, without windows, absences and tails.
     pub fn of_shop(alloc: Global, shop: &Shop, orders: Vec<Order>) -> Result<Input, AllocError>
-        ensures problem { IfOk result (λ input.
-            spec.problem_of input ≡ shops.problem_of shop.now) }
+        ensures problem { IfOk result (λ input. IsPlain input (shops.problem_of shop.now)) }
         ensures orders { IfOk result (λ input. input.orders ≡ orders) }
     {
         Ok(Input {
@@ -92,6 +92,9 @@ impl Input {
             needs: rows_of(alloc, shop)?,
             capacities: ones(alloc, shop.machines())?,
             orders,
+            windows: Vec::new(alloc),
+            absences: Vec::new(alloc),
+            tails: Vec::new(alloc),
         })
     }
 }

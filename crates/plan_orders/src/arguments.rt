@@ -345,7 +345,7 @@ const LIST_COMMANDS: [Entry; 2] = [
         examples: "Examples:\n  \
             plan import examples/house.csv\n  \
             plan import --capacity crew=6 examples/house.csv\n  \
-            plan import --shop examples/shop.csv",
+            plan import examples/shop.csv",
         arguments: &[
             FILE,
             Argument {
@@ -356,7 +356,7 @@ const LIST_COMMANDS: [Entry; 2] = [
             Argument {
                 name: "shop",
                 form: Form::Flag,
-                help: "convert a list of orders to a job shop file",
+                help: "read the list as a list of orders",
             },
         ],
     },

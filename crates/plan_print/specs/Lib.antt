@@ -1,4 +1,5 @@
 pub mod Digests
+pub mod Layouts
 pub mod Margins
 pub mod Sheets
 pub mod Prints

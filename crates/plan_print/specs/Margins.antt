@@ -4,8 +4,10 @@ use Rattle.std.specs.List.{range_with_len}
 use Rattle.plan_net.specs.Network.{Net, count_of}
 use Rattle.plan_cpm.specs.Dates.{DateTable, AreDates, total_float_of}
 use Rattle.plan_sgs.specs.Problem.{Problem, makespan}
-use Rattle.plan_sgs.specs.Instances.{Planned, problem_of}
+use Rattle.plan_sgs.specs.Instances.{problem_of}
 use Rattle.plan_report.specs.Slack.{AreSlacks}
+use Rattle.plan_cli.specs.declared.documents.Plan.{Plan}
+use Rattle.plan_cli.specs.declared.documents.Plan.TheVariants as plan
 
 -- the total floats of so many activities, from 1 on
 abbrev pub floats_in : DateTable → ℕ → List ℕ
@@ -21,11 +23,20 @@ abbrev pub AreShownSlacks : Problem → List ℕ → List ℕ → Type 0
 AreShownSlacks p starts slacks =
     AreSlacks p starts slacks ⊎ ((10000000 < makespan p starts) × (slacks ≡ []))
 
+-- the floats and the slacks of a plan; a job shop has none
+abbrev pub HasFloats : Plan → List ℕ → Type 0
+HasFloats (plan.Project i) floats = AreFloats i.project.network floats
+HasFloats (plan.Shop s) floats = floats ≡ []
+
+abbrev pub HasSlacks : Plan → List ℕ → List ℕ → Type 0
+HasSlacks (plan.Project i) starts slacks = AreShownSlacks (problem_of i) starts slacks
+HasSlacks (plan.Shop s) starts slacks = slacks ≡ []
+
 -- a relation holds for the floats and the slacks of starts
-pub record HasMargins (i : Planned) (starts : List ℕ) (Holds : List ℕ → List ℕ → Type 0)
+pub record HasMargins (p : Plan) (starts : List ℕ) (Holds : List ℕ → List ℕ → Type 0)
     : Type 0 where
   pub floats : List ℕ
-  pub total : AreFloats i.project.network floats
+  pub total : HasFloats p floats
   pub slacks : List ℕ
-  pub shown : AreShownSlacks (problem_of i) starts slacks
+  pub shown : HasSlacks p starts slacks
   pub holds : Holds floats slacks

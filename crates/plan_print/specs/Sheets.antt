@@ -3,21 +3,20 @@ use Rattle.std.specs.Prelude.{◌≡◌, ◌⊎◌, ℕ, Bool, false, List, [], 
 use Rattle.plan_calendar.specs.WorkingDay.{Workdays}
 use Rattle.plan_table.specs.Names.{Name, names_behind, resource_key}
 use Rattle.plan_table.specs.ShopNames.{instance_names, order_key}
-use Rattle.plan_sheet.specs.Plans.{IsProjectIcs, IsProjectBeyond, project_svg}
-use Rattle.plan_sheet.specs.Plans.{IsShopIcs, IsShopBeyond, shop_svg}
-use Rattle.plan_sheet.specs.Reports.{project_page, IsDatedReport, IsReportBeyond}
-use Rattle.plan_sheet.specs.Reports.{shop_page, IsDatedShopReport, IsShopReportBeyond}
+use Rattle.plan_sheet.specs.Plans.{layout_svg}
+use Rattle.plan_sheet.specs.Plans as plans
+use Rattle.plan_sheet.specs.Reports.{layout_page, IsDatedReport, IsReportBeyond}
 use Rattle.plan_sheet.specs.declared.page.Heading.{Heading}
 use Rattle.plan_cli.specs.DaysRun.{ShowsDays, TellsNoDays}
 use Rattle.plan_cli.specs.Documents.{names_of_rows, names_of_lines}
 use Rattle.plan_cli.specs.Scheduled.{IsBoundFrom, IsScheduleFrom, TellsNotMade}
 use Rattle.plan_cli.specs.declared.calendars.Dates.{Dates}
 use Rattle.plan_cli.specs.declared.documents.Plan.{Plan}
-use Rattle.plan_cli.specs.declared.documents.Plan.TheVariants as plan
 use Rattle.plan_cli.specs.declared.documents.Subject.{Subject}
 use Rattle.plan_cli.specs.declared.documents.Subject.TheVariants as subject
 use Rattle.plan_cli.specs.declared.origins.Origin.{Origin}
 use Rattle.plan_print.specs.Digests.{file_digest, instance_digest}
+use Rattle.plan_print.specs.Layouts.{layout_of}
 use Rattle.plan_print.specs.Margins.{HasMargins}
 use Rattle.plan_print.specs.declared.sheets.Sheet.{Sheet}
 use Rattle.plan_print.specs.declared.sheets.Sheet.TheVariants as sheet
@@ -29,13 +28,11 @@ digest_of (subject.Shop instance) file = instance_digest file instance.now
 
 -- a text is the calendar file of starts, with this digest and these names
 abbrev pub IsIcs : List ℕ → List Name → Plan → List ℕ → Workdays → List ℕ → Type 0
-IsIcs digest names (plan.Project i) starts c = IsProjectIcs digest names i.project.network starts c
-IsIcs digest names (plan.Shop s) starts c = IsShopIcs digest names s starts c
+IsIcs digest names p starts c = plans.IsIcs digest names (layout_of p false) starts c
 
 -- a day that it needs would be after the last date
 abbrev pub IsIcsBeyond : Plan → List ℕ → Workdays → Type 0
-IsIcsBeyond (plan.Project i) starts c = IsProjectBeyond i.project.network starts c
-IsIcsBeyond (plan.Shop s) starts c = IsShopBeyond s starts c
+IsIcsBeyond p starts c = plans.IsIcsBeyond (layout_of p false) starts c
 
 -- a text is the calendar file of starts, with the names in the file
 abbrev pub AreEvents : Subject → List ℕ → Plan → List ℕ → Workdays → List ℕ → Type 0
@@ -43,8 +40,7 @@ AreEvents of file p starts c text = IsIcs (digest_of of file) (names_of_rows of 
 
 -- the chart of starts with these names of its lines and rows: a line for each activity or machine
 abbrev pub svg_of : List ℕ → List Name → List Name → Plan → List ℕ → List ℕ
-svg_of title lines rows (plan.Project i) starts = project_svg title lines i.project.network starts
-svg_of title lines rows (plan.Shop s) starts = shop_svg title lines rows s starts false
+svg_of title lines rows p starts = layout_svg title lines rows (layout_of p false) starts
 
 -- a text is the chart of starts, with the names in the file
 abbrev pub IsChart : List ℕ → Subject → List ℕ → Plan → List ℕ → List ℕ → Type 0
@@ -58,25 +54,20 @@ legend_names (subject.Shop instance) file = instance_names order_key instance.no
 
 -- a text is the report of starts without a calendar, with this heading and these names
 abbrev pub IsPlainPage : Heading → List Name → List Name → Bool → Plan → List ℕ → List ℕ → Type 0
-IsPlainPage h lines legend by_job (plan.Project i) starts text =
-    HasMargins i starts (λ floats slacks.
-    text ≡ project_page h.title.now h.lower lines legend i starts false [] floats slacks)
-IsPlainPage h lines legend by_job (plan.Shop s) starts text =
-    text ≡ shop_page h.title.now h.lower lines legend s starts by_job false []
+IsPlainPage h lines legend by_job p starts text =
+    HasMargins p starts (λ floats slacks. text ≡ layout_page h.title.now h.lower lines legend
+    (layout_of p by_job) starts false [] floats slacks)
 
 -- a text is the report of starts on a calendar, with this heading and these names
 abbrev pub IsDatedPage : Heading → List Name → List Name → Bool → Plan → List ℕ → Workdays → List ℕ
     → Type 0
-IsDatedPage h lines legend by_job (plan.Project i) starts c text =
-    HasMargins i starts (λ floats slacks.
-    IsDatedReport h.title.now h.lower lines legend i starts floats slacks c text)
-IsDatedPage h lines legend by_job (plan.Shop s) starts c text =
-    IsDatedShopReport h.title.now h.lower lines legend s starts by_job c text
+IsDatedPage h lines legend by_job p starts c text =
+    HasMargins p starts (λ floats slacks. IsDatedReport h.title.now h.lower lines legend
+    (layout_of p by_job) starts floats slacks c text)
 
 -- a day that it shows would be after the last date
 abbrev pub IsPageBeyond : Bool → Plan → List ℕ → Workdays → Type 0
-IsPageBeyond by_job (plan.Project i) starts c = IsReportBeyond i starts c
-IsPageBeyond by_job (plan.Shop s) starts c = IsShopReportBeyond s starts by_job c
+IsPageBeyond by_job p starts c = IsReportBeyond (layout_of p by_job) starts c
 
 -- a text is the report of starts, on the dates if there are dates, with the names in the file
 abbrev pub IsReport : Heading → Option Dates → Bool → Subject → List ℕ → Plan → List ℕ → List ℕ

@@ -6,9 +6,10 @@ ghost use Rattle.plan_cli.specs.Run.{IfText};
 ghost use Rattle.plan_cli.specs.Scheduled.{CanBeShown};
 ghost use Rattle.plan_print.specs.Sheets as spec;
 
+use crate::layouts::layout_of;
 use plan_cli::{CliFault, Plan, Subject, names_of_lines, names_of_rows};
 use plan_sgs::Schedule;
-use plan_sheet::{project_svg, shop_svg};
+use plan_sheet::{SheetNames, svg_file};
 use std::alloc::Global;
 
 /// Returns the chart of a plan's schedule, with the names in its file.
@@ -26,13 +27,11 @@ pub(crate) fn chart_text(
     ensures refused { IfErr result (λ e. e ≡ CliFault.Memory) }
 {
     let lines = names_of_lines(alloc, subject, file)?;
-    let rows = names_of_rows(alloc, subject, file)?;
-    let starts = &schedule.starts;
-    match plan {
-        Plan::Project(instance) => {
-            let network = instance.network();
-            Ok(project_svg(alloc, title, &lines, network, starts)?)
-        }
-        Plan::Shop(shop) => Ok(shop_svg(alloc, title, &lines, &rows, shop, starts, false)?),
-    }
+    let legend = names_of_rows(alloc, subject, file)?;
+    let names = SheetNames {
+        lines: &lines,
+        legend: &legend,
+    };
+    let layout = layout_of(plan, false);
+    Ok(svg_file(alloc, title, &names, layout, &schedule.starts)?)
 }

@@ -10,10 +10,11 @@ ghost use Rattle.plan_cli.specs.DaysRun.{ShowsDays, TellsBeyond, TellsNoDays};
 ghost use Rattle.plan_print.specs.Sheets as spec;
 
 use crate::digests::{file_digest, instance_digest};
+use crate::layouts::layout_of;
 use plan_cli::{CliFault, Dates, Plan, Subject, calendar_of, days_refusal, names_of_rows};
 use plan_gantt::{Calendar, DaysFault};
 use plan_sgs::Schedule;
-use plan_sheet::{project_ics, shop_ics};
+use plan_sheet::ics_file;
 use plan_table::NameLine;
 use std::alloc::{AllocError, Global};
 
@@ -42,13 +43,8 @@ fn plan_ics(
     ensures beyond { IsErrOf result DaysFault.BeyondCalendar →
         spec.IsIcsBeyond plan.now schedule.now.starts.items calendar.now }
 {
-    let starts = &schedule.starts;
-    match plan {
-        Plan::Project(instance) => {
-            project_ics(alloc, digest, names, instance.network(), starts, calendar)
-        }
-        Plan::Shop(shop) => shop_ics(alloc, digest, names, shop, starts, calendar),
-    }
+    let layout = layout_of(plan, false);
+    ics_file(alloc, digest, names, layout, &schedule.starts, calendar)
 }
 
 // Returns the same, or its error as a line.

@@ -5,6 +5,7 @@
 mod charts;
 mod digests;
 mod events;
+mod layouts;
 mod margins;
 mod prints;
 mod reports;

@@ -10,7 +10,8 @@ ghost use Rattle.plan_print.specs.Prints as spec;
 
 use crate::sheets::{Sheet, read_sheet};
 use plan_cli::{
-    CliFault, Dates, Inputs, Origin, ProofWatcher, SolveWatcher, Subject, SystemInputs, read_named,
+    CliFault, Dates, Inputs, NoteWatcher, Origin, ProofWatcher, SolveWatcher, Subject,
+    SystemInputs, notes_of, read_named,
 };
 use plan_errors::{About, write_text};
 use plan_io::Sink;
@@ -85,7 +86,7 @@ fn sheet_with<'a>(sheet: Sheet<'a>, holidays: &'a [u8]) -> Sheet<'a>
 
 // Prints a sheet of a file that was read.
 #[tactic(auto, using(plan_errors::proofs::RefusalLemmas::refuses_unread, plan_errors::proofs::RefusalLemmas::output_unread,))]
-fn print_read<W: Sink, V: ProofWatcher + SolveWatcher>(
+fn print_read<W: Sink, V: ProofWatcher + SolveWatcher + NoteWatcher>(
     alloc: Global,
     sheet: Sheet<'_>,
     subject: Subject<'_>,
@@ -105,12 +106,15 @@ fn print_read<W: Sink, V: ProofWatcher + SolveWatcher>(
     ensures output { IsErrOf result CliFault.Output → HasSinkFailed W.Sink writer.old writer.new }
 {
     let text = read_sheet(alloc, sheet, subject, origin, file, watcher)?;
+    if let Ok(Some(line)) = notes_of(alloc, &[], file) {
+        watcher.note(line);
+    }
     write_text(writer, text.as_bytes())
 }
 
 // Prints a sheet of the file with this name.
 #[tactic(auto, using(plan_errors::proofs::RefusalLemmas::input_unread))]
-fn print_from<I: Inputs, W: Sink, V: ProofWatcher + SolveWatcher>(
+fn print_from<I: Inputs, W: Sink, V: ProofWatcher + SolveWatcher + NoteWatcher>(
     alloc: Global,
     inputs: &I,
     sheet: Sheet<'_>,
@@ -135,7 +139,7 @@ fn print_from<I: Inputs, W: Sink, V: ProofWatcher + SolveWatcher>(
 // Prints a sheet of the file with this name. If the schedule has its starts in a file, that one is
 // read first.
 #[tactic(auto, using(plan_errors::proofs::RefusalLemmas::input_unread))]
-fn print_by<I: Inputs, W: Sink, V: ProofWatcher + SolveWatcher>(
+fn print_by<I: Inputs, W: Sink, V: ProofWatcher + SolveWatcher + NoteWatcher>(
     alloc: Global,
     inputs: &I,
     sheet: Sheet<'_>,
@@ -191,14 +195,14 @@ fn print_by<I: Inputs, W: Sink, V: ProofWatcher + SolveWatcher>(
 
 /// Prints a sheet. The file of the holidays is read first, then that of the starts, then that of
 /// the project or the job shop. A list is read as the file that `plan import` makes of it. The
-/// watcher is called during a search, and can stop it. A file that can't be opened or read is
-/// [`CliFault::Input`] of its argument.
+/// watcher is called during a search, and can stop it; it is told the notes on a list. A file that
+/// can't be opened or read is [`CliFault::Input`] of its argument.
 ///
 /// Nothing is written unless the whole sheet was made. If several errors apply, that of the file
 /// comes first, then those of the capacities, of the schedule, of the calendar, and of a day after
 /// 9999-12-31.
 #[tactic(auto, using(plan_errors::proofs::RefusalLemmas::input_unread))]
-pub fn print_on_named<I: Inputs, W: Sink, V: ProofWatcher + SolveWatcher>(
+pub fn print_on_named<I: Inputs, W: Sink, V: ProofWatcher + SolveWatcher + NoteWatcher>(
     alloc: Global,
     inputs: &I,
     print: Print<'_>,
@@ -240,7 +244,7 @@ pub fn print_on_named<I: Inputs, W: Sink, V: ProofWatcher + SolveWatcher>(
 }
 
 /// Calls [`print_on_named`] with the system's files and standard input.
-pub fn print_on_files<R: Files + Input + AllocGlobal, W: Sink, V: ProofWatcher + SolveWatcher>(
+pub fn print_on_files<R: Files + Input + AllocGlobal, W: Sink, V: ProofWatcher + SolveWatcher + NoteWatcher>(
     rt: &R,
     print: Print<'_>,
     watcher: &mut V,

@@ -7,9 +7,9 @@ use crate::progress::ProgressLine;
 use crate::status::Status;
 use crate::verification::do_verify;
 use plan_cli::{
-    CliFault, Log, ProofWatcher, Rows, SolveWatcher, Subject, SystemInputs, Task, Unlogged,
-    Unwatched, check_text, explain_run, explain_run_in, read_named, run_on_file, run_on_files,
-    template_run,
+    CliFault, Log, NoteWatcher, ProofWatcher, Rows, SolveWatcher, Subject, SystemInputs, Task,
+    Unlogged, check_text, explain_run, explain_run_in, notes_of, read_named, run_on_file,
+    run_on_files, template_run,
 };
 use plan_errors::{About, write_text};
 use plan_io::{Sink, StdSink};
@@ -19,7 +19,7 @@ use std::alloc::Global;
 use std::io;
 
 // Runs a task on a file, and writes to standard output.
-fn do_task<V: ProofWatcher + SolveWatcher, L: Log>(
+fn do_task<V: ProofWatcher + SolveWatcher + NoteWatcher, L: Log>(
     rt: &HostRuntime,
     task: Task<'_>,
     rows: Rows,
@@ -44,6 +44,9 @@ fn do_check(
     let file = read_named(rt.alloc(), &inputs, About::Plan, path)?;
     let checked = check_text(rt.alloc(), rows, &starts, subject, &file)?;
     write_text(&mut StdSink::new(io::writer(rt)), &checked.text)?;
+    if let Ok(Some(line)) = notes_of(rt.alloc(), &[], &file) {
+        let _ = eprintln!(rt; "{line}");
+    }
     Ok(Status::of(checked.verdict))
 }
 
@@ -71,6 +74,7 @@ fn do_solve(
     let ended = log.end(rt, matches!(done, Ok(()) | Err(CliFault::Output)));
     done?;
     ended?;
+    line.print_notes();
     Ok(())
 }
 
@@ -78,12 +82,10 @@ fn do_solve(
 fn do_file_order(rt: &HostRuntime, order: FileOrder<'_>, rows: Rows) -> Result<Status, FileFault> {
     let mut writer = StdSink::new(io::writer(rt));
     match order {
-        FileOrder::Task(task, path) => {
-            do_task(rt, task, rows, &mut Unwatched, &mut Unlogged, path)?;
-        }
-        FileOrder::Watched(task, path) => {
+        FileOrder::Task(task, path) | FileOrder::Watched(task, path) => {
             let mut line = ProgressLine::new(rt);
             do_task(rt, task, rows, &mut line, &mut Unlogged, path)?;
+            line.print_notes();
         }
         FileOrder::Solve {
             task,
@@ -99,6 +101,7 @@ fn do_file_order(rt: &HostRuntime, order: FileOrder<'_>, rows: Rows) -> Result<S
         } => {
             let mut line = ProgressLine::within(rt, seconds);
             run_on_files(rt, task, rows, &mut line, texts, file, &mut writer)?;
+            line.print_notes();
         }
         FileOrder::Check {
             subject,
@@ -113,6 +116,7 @@ fn do_file_order(rt: &HostRuntime, order: FileOrder<'_>, rows: Rows) -> Result<S
         FileOrder::Print(print, seconds) => {
             let mut line = ProgressLine::within(rt, seconds);
             print_on_files(rt, print, &mut line, &mut writer)?;
+            line.print_notes();
         }
         FileOrder::New(template) => template_run(template, &mut writer)?,
         FileOrder::Explain(words) => {

@@ -1,6 +1,6 @@
-//! A line of progress on standard error, and the time limit of a search.
+//! A line of progress on standard error, the time limit of a search, and the notes on a list.
 
-use plan_cli::{ProofWatcher, SolveWatcher};
+use plan_cli::{NoteWatcher, ProofWatcher, SolveWatcher};
 use std::io::IsTerminal;
 use std::time::Instant;
 
@@ -17,6 +17,8 @@ pub(crate) struct ProgressLine<'a> {
     start: Option<Instant>,
     /// The second of the last line, counted from the start.
     last: Option<u64>,
+    /// The notes on the list that was read.
+    notes: Option<String>,
 }
 
 impl<'a> ProgressLine<'a> {
@@ -34,6 +36,15 @@ impl<'a> ProgressLine<'a> {
             limit,
             start: Instant::now(rt).ok(),
             last: None,
+            notes: None,
+        }
+    }
+
+    /// Prints the notes on the list that was read, if there are notes.
+    pub fn print_notes(&self) {
+        let rt = self.rt;
+        if let Some(line) = &self.notes {
+            let _ = eprintln!(rt; "{line}");
         }
     }
 
@@ -76,6 +87,12 @@ impl<'a> ProgressLine<'a> {
             let _ = eprint!(rt; "\r\x1b[K");
         }
         self.is_shown = false;
+    }
+}
+
+impl<'a> NoteWatcher for ProgressLine<'a> {
+    fn note(&mut self, line: String) {
+        self.notes = Some(line);
     }
 }
 

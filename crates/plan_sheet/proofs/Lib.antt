@@ -7,4 +7,5 @@ pub mod MarkupLemmas
 pub mod PieceLemmas
 pub mod UseLemmas
 pub mod ChangeLemmas
+pub mod CutLemmas
 pub mod ReportMarkupLemmas

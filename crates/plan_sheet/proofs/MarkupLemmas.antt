@@ -1,14 +1,15 @@
 -- The markup of a chart doesn't depend on names.
-use Rattle.std.proofs.Common.{◌≡◌, ℕ, ◌+◌, ◌*◌, ◌==◌, Bool, true, false, if◌then◌else◌, List, [], ◌∷◌, ◌++◌, flat_map, codes, refl, sym, ap, ap₂, ◌∙◌, cond}
+use Rattle.std.proofs.Common.{◌≡◌, ℕ, ◌+◌, ◌*◌, ◌==◌, Bool, true, false, if◌then◌else◌, nat_lt, List, [], ◌∷◌, ◌++◌, flat_map, codes, refl, sym, ap, ap₂, ◌∙◌, cond}
 use Rattle.std.specs.List.{filter, list_any, range_with_len}
 use Rattle.std.specs.Fmt.{decimal}
 use Rattle.std.proofs.lemmas.List.Elements.{filter-append}
 use Rattle.plan_table.specs.Names.{Name}
+use Rattle.plan_sheet.specs.Cuts.{cut}
 use Rattle.plan_sheet.specs.Escape.{is_markup, markup_of, escaped}
 use Rattle.plan_sheet.specs.Marks.{marks}
 use Rattle.plan_sheet.specs.Names.{label}
 use Rattle.plan_sheet.specs.Place.{extent}
-use Rattle.plan_sheet.specs.Chart.{Chart, renamed, left_of, right_of, tip_of, diamond, rectangle_head, rectangle, number_of, bar_of, bar_in, bars_of, line_head, line_of, lines_of, image_tag, image_head, image_of}
+use Rattle.plan_sheet.specs.Chart.{Chart, renamed, left_of, right_of, tip_of, diamond, rectangle_head, rectangle, slack_of, tight_class, tail_of, number_of, milestone_of, block_of, bar_of, bar_in, bars_of, label_room, line_head, line_of, lines_of, image_tag, image_head, image_of}
 use Rattle.plan_sheet.specs.declared.bars.Bar.{Bar}
 use Rattle.plan_sheet.proofs.EscapeLemmas.{no_markup, or_left, or_right}
 
@@ -41,26 +42,37 @@ same_flat_map f g (x ∷ xs) each = same_append (f x) (flat_map f xs) (g x) (fla
 same_diamond : (x : ℕ) (a b : List ℕ) → markup_of (diamond x (escaped a)) ≡ markup_of (diamond x (escaped b))
 unfolding diamond
 same_diamond x a b =
-    same_shown (codes "<path class=\"bar\" d=\"M" ++ decimal x ++ codes " 2l6 6-6 6-6-6z\"><title>") (codes "</title></path>\n") a b
+    same_shown (codes "<path class=\"bar\" d=\"M" ++ decimal x ++ codes " 3l7 7-7 7-7-7z\"><title>") (codes "</title></path>\n") a b
 
-same_rectangle : (x width : ℕ) (a b : List ℕ) → markup_of (rectangle x width (escaped a)) ≡ markup_of (rectangle x width (escaped b))
+same_rectangle : (tight : List ℕ) (x width : ℕ) (a b : List ℕ) →
+    markup_of (rectangle tight x width (escaped a)) ≡ markup_of (rectangle tight x width (escaped b))
 unfolding rectangle
-same_rectangle x width a b =
-    same_shown (rectangle_head x width) (codes "</title></rect>\n") a b
+same_rectangle tight x width a b =
+    same_shown (rectangle_head tight x width) (codes "</title></rect>\n") a b
 
-same_bar : (chart : Chart) (rows names : List Name) (bar : Bar) → markup_of (bar_of chart bar) ≡ markup_of (bar_of (renamed chart rows names) bar)
-unfolding bar_of left_of right_of
-same_bar chart rows names bar =
+same_block : (chart : Chart) (rows names : List Name) (bar : Bar) → markup_of (block_of chart bar) ≡ markup_of (block_of (renamed chart rows names) bar)
+unfolding block_of left_of right_of
+same_block chart rows names bar =
     let other = renamed chart rows names in
     let one = tip_of chart.names bar in
     let two = tip_of names bar in
     let x = left_of chart bar in
     let width = extent x (right_of chart bar) in
-    same_if (bar.from == bar.to) (diamond (right_of chart bar) (escaped one)) (rectangle x width (escaped one) ++ number_of chart bar)
-    (diamond (right_of chart bar) (escaped two)) (rectangle x width (escaped two) ++ number_of other bar)
-    (same_diamond (right_of chart bar) one two)
-    (same_append (rectangle x width (escaped one)) (number_of chart bar) (rectangle x width (escaped two)) (number_of other bar)
-    (same_rectangle x width one two) refl)
+    let tight = tight_class (slack_of chart bar) in
+    let a = rectangle tight x width (escaped one) in
+    let b = rectangle tight x width (escaped two) in
+    same_append (a ++ tail_of chart bar) (number_of chart bar) (b ++ tail_of other bar) (number_of other bar)
+    (same_append a (tail_of chart bar) b (tail_of other bar) (same_rectangle tight x width one two) refl) refl
+
+same_bar : (chart : Chart) (rows names : List Name) (bar : Bar) → markup_of (bar_of chart bar) ≡ markup_of (bar_of (renamed chart rows names) bar)
+unfolding bar_of left_of right_of
+same_bar chart rows names bar =
+    let other = renamed chart rows names in
+    let one = diamond (right_of chart bar) (escaped (tip_of chart.names bar)) in
+    let two = diamond (right_of chart bar) (escaped (tip_of names bar)) in
+    same_if (bar.from == bar.to) (milestone_of chart bar) (block_of chart bar) (milestone_of other bar) (block_of other bar)
+    (same_if (nat_lt bar.step 1) one [] two [] (same_diamond (right_of chart bar) (tip_of chart.names bar) (tip_of names bar)) refl)
+    (same_block chart rows names bar)
 
 same_bars : (chart : Chart) (rows names : List Name) (n : ℕ) → markup_of (bars_of chart n) ≡ markup_of (bars_of (renamed chart rows names) n)
 same_bars chart rows names n =
@@ -72,17 +84,17 @@ same_head : (y : ℕ) (a b : List ℕ) → markup_of (line_head y (escaped a)) �
 unfolding line_head
 same_head y a b =
     same_shown
-    (codes "<g transform=\"translate(0," ++ decimal y ++ codes ")\"><svg width=\"232\" height=\"16\"><text x=\"4\" y=\"12\">")
+    (codes "<g transform=\"translate(0," ++ decimal y ++ codes ")\"><svg width=\"322\" height=\"20\"><text x=\"4\" y=\"15\">")
     (codes "</text></svg>\n") a b
 
 same_line : (chart : Chart) (rows names : List Name) (k n : ℕ) → markup_of (line_of chart k n) ≡ markup_of (line_of (renamed chart rows names) k n)
 unfolding line_of
 same_line chart rows names k n =
     let other = renamed chart rows names in
-    let one = line_head (16 * k + 24) (escaped (label chart.rows n)) in
-    let two = line_head (16 * k + 24) (escaped (label rows n)) in
+    let one = line_head (20 * k + 22) (escaped (cut label_room (label chart.rows n))) in
+    let two = line_head (20 * k + 22) (escaped (cut label_room (label rows n))) in
     same_append (one ++ bars_of chart n) (codes "</g>\n") (two ++ bars_of other n) (codes "</g>\n")
-    (same_append one (bars_of chart n) two (bars_of other n) (same_head (16 * k + 24) (label chart.rows n) (label rows n))
+    (same_append one (bars_of chart n) two (bars_of other n) (same_head (20 * k + 22) (cut label_room (label chart.rows n)) (cut label_room (label rows n)))
     (same_bars chart rows names n)) refl
 
 same_lines : (chart : Chart) (rows names : List Name) (first count : ℕ) →
@@ -103,9 +115,9 @@ pub same_image : (opening a b : List ℕ) (chart : Chart) (rows names : List Nam
 unfolding image_of
 same_image opening a b chart rows names first count =
     let other = renamed chart rows names in
-    let one = image_head (16 * count + 28) opening (escaped a) in
-    let two = image_head (16 * count + 28) opening (escaped b) in
-    let axis = marks chart.span chart.days (16 * count + 10) in
+    let one = image_head (20 * count + 26) opening (escaped a) in
+    let two = image_head (20 * count + 26) opening (escaped b) in
+    let axis = marks chart.span chart.days (20 * count + 5) in
     same_append (one ++ axis ++ lines_of chart first count) (codes "</svg>\n") (two ++ axis ++ lines_of other first count) (codes "</svg>\n")
     (same_append (one ++ axis) (lines_of chart first count) (two ++ axis) (lines_of other first count)
-    (same_append one axis two axis (same_image_head (16 * count + 28) opening a b) refl) (same_lines chart rows names first count)) refl
+    (same_append one axis two axis (same_image_head (20 * count + 26) opening a b) refl) (same_lines chart rows names first count)) refl

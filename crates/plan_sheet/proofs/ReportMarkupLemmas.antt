@@ -1,27 +1,27 @@
 -- The markup of a report doesn't depend on names.
-use Rattle.std.proofs.Common.{◌≡◌, ℕ, ◌+◌, ◌-◌, ◌*◌, Bool, true, false, if◌then◌else◌, nat_lt, List, [], ◌++◌, Option, codes, min, refl}
+use Rattle.std.proofs.Common.{◌≡◌, ℕ, ◌+◌, ◌-◌, ◌*◌, Bool, if◌then◌else◌, nat_lt, List, [], ◌++◌, Option, length, codes, min, refl}
 use Rattle.std.specs.List.{range_with_len}
 use Rattle.std.specs.Int.{div_ceil}
 use Rattle.std.specs.Prelude.{slice_index}
 use Rattle.jiff_core.specs.declared.civil.date.Date.{Date}
-use Rattle.plan_net.specs.Network.{count_of}
 use Rattle.plan_sgs.specs.Instances.{Planned}
-use Rattle.plan_shop.specs.Shop.{JobShop}
 use Rattle.plan_table.specs.Names.{Name}
-use Rattle.plan_sheet.specs.Bars.{activity_bars, step_bars, greatest_end}
-use Rattle.plan_sheet.specs.Chart.{Chart, renamed, image_head, image_of}
+use Rattle.plan_sheet.specs.Bars.{greatest_end}
+use Rattle.plan_sheet.specs.Chart.{Chart, renamed, image_head, image_of, styled_opening}
+use Rattle.plan_sheet.specs.Cuts.{cut}
 use Rattle.plan_sheet.specs.Escape.{markup_of, escaped}
+use Rattle.plan_sheet.specs.Layouts.{Layout, activities, steps, bars_of, bar_names, lines_of, machine_names, row_names}
 use Rattle.plan_sheet.specs.Marks.{marks}
 use Rattle.plan_sheet.specs.Names.{label, name_text}
 use Rattle.plan_sheet.specs.Page.{note_of, styles, headings, front, figure, figures, back, page}
 use Rattle.plan_sheet.specs.Pieces.{counted}
-use Rattle.plan_sheet.specs.Plans.{shop_lines}
-use Rattle.plan_sheet.specs.Reports.{project_chart, project_table, project_page, shop_table, shop_page}
-use Rattle.plan_sheet.specs.Table.{Table, last_heads, heads, number_text, first_cells, name_cell, machine_cell, time_cells, last_cells, row_front, row_of, rows_of, table_text}
-use Rattle.plan_sheet.specs.Usage.{use_area, use_labels, use_image, use_figure, use_figures, use_section, resource_count}
+use Rattle.plan_sheet.specs.Plans.{layout_svg}
+use Rattle.plan_sheet.specs.Reports.{layout_chart, layout_table, layout_page, section_of}
+use Rattle.plan_sheet.specs.Table.{Table, text_if, last_heads, heads, number_text, first_cells, name_cell, machine_cell, time_cells, last_cells, row_front, row_of, rows_of, table_text}
+use Rattle.plan_sheet.specs.Usage.{use_area, use_labels, use_image, use_figure, use_figures, use_room, use_section, resource_count}
 use Rattle.plan_sheet.specs.Uses.{uses_of}
 use Rattle.plan_sheet.specs.declared.bars.Bar.{Bar}
-use Rattle.plan_sheet.specs.declared.styles.TheConstants.{HEAD, NOTE_TO, STYLES_TO, TITLE_TO, CAPACITY_LINE, USE_NAME, ROW_NUMBER, ROW_NAME, NAME_CELL, PAGE_TO, TABLE_FROM, TABLE_TITLE, TABLE_TO}
+use Rattle.plan_sheet.specs.declared.styles.TheConstants.{HEAD, LEGEND, NOTE_TO, STYLES_TO, TITLE_TO, CAPACITY_LINE, USE_NAME, ROW_NUMBER, ROW_NAME, NAME_CELL, PAGE_TO, TABLE_FROM, TABLE_TITLE, TABLE_TO}
 use Rattle.plan_sheet.specs.declared.uses.Use.{Use}
 use Rattle.plan_sheet.proofs.MarkupLemmas.{same_append, same_shown, same_if, same_flat_map, same_image, same_image_head}
 
@@ -66,28 +66,31 @@ same_use_labels : (capacity : ℕ) (a b : List ℕ) → markup_of (use_labels ca
 unfolding use_labels
 same_use_labels capacity a b = same_shown (counted CAPACITY_LINE.now capacity ++ USE_NAME.now) (codes "</text></svg>\n") a b
 
-same_use_image : (span : ℕ) (days : List Date) (a b : List ℕ) (capacity : ℕ) (uses : List Use) (makespan : ℕ) →
-    markup_of (use_image span days (escaped a) capacity uses makespan) ≡ markup_of (use_image span days (escaped b) capacity uses makespan)
+same_use_image : (span : ℕ) (days : List Date) (a b s t : List ℕ) (capacity : ℕ) (uses : List Use) (makespan : ℕ) →
+    markup_of (use_image span days (escaped a) (escaped s) capacity uses makespan) ≡ markup_of (use_image span days (escaped b) (escaped t) capacity uses makespan)
 unfolding use_image
-same_use_image span days a b capacity uses makespan =
-    let one = image_head 106 [] (escaped a) in
-    let two = image_head 106 [] (escaped b) in
-    let axis = marks span days 88 in
+same_use_image span days a b s t capacity uses makespan =
+    let one = image_head 112 [] (escaped a) in
+    let two = image_head 112 [] (escaped b) in
+    let axis = marks span days 89 in
     let area = use_area span days capacity uses makespan in
-    behind (one ++ axis ++ area ++ use_labels capacity (escaped a)) (two ++ axis ++ area ++ use_labels capacity (escaped b)) (codes "</svg>\n")
-    (same_append (one ++ axis ++ area) (use_labels capacity (escaped a)) (two ++ axis ++ area) (use_labels capacity (escaped b))
-    (behind (one ++ axis) (two ++ axis) area (behind one two axis (same_image_head 106 [] a b))) (same_use_labels capacity a b))
+    behind (one ++ area ++ axis ++ use_labels capacity (escaped s)) (two ++ area ++ axis ++ use_labels capacity (escaped t)) (codes "</svg>\n")
+    (same_append (one ++ area ++ axis) (use_labels capacity (escaped s)) (two ++ area ++ axis) (use_labels capacity (escaped t))
+    (behind (one ++ area) (two ++ area) axis (behind one two area (same_image_head 112 [] a b))) (same_use_labels capacity s t))
 
 same_use_figure : (chart : Chart) (rows names resources others : List Name) (i : Planned) (starts : List ℕ) (makespan k : ℕ) →
     markup_of (use_figure chart resources i starts makespan k) ≡ markup_of (use_figure (renamed chart rows names) others i starts makespan k)
 unfolding use_figure
 same_use_figure chart rows names resources others i starts makespan k =
-    let one = use_image chart.span chart.days (escaped (label resources (k + 1))) (slice_index i.capacities k) (uses_of i starts (k + 1)) makespan in
-    let two = use_image chart.span chart.days (escaped (label others (k + 1))) (slice_index i.capacities k) (uses_of i starts (k + 1)) makespan in
+    let a = label resources (k + 1) in
+    let b = label others (k + 1) in
+    let capacity = slice_index i.capacities k in
+    let uses = uses_of i starts (k + 1) in
+    let one = use_image chart.span chart.days (escaped a) (escaped (cut use_room a)) capacity uses makespan in
+    let two = use_image chart.span chart.days (escaped b) (escaped (cut use_room b)) capacity uses makespan in
     behind (codes "<figure>\n" ++ one) (codes "<figure>\n" ++ two) (codes "</figure>\n")
     (before (codes "<figure>\n") one two
-    (same_use_image chart.span chart.days (label resources (k + 1)) (label others (k + 1)) (slice_index i.capacities k)
-    (uses_of i starts (k + 1)) makespan))
+    (same_use_image chart.span chart.days a b (cut use_room a) (cut use_room b) capacity uses makespan))
 
 same_use_section : (chart : Chart) (rows names resources others : List Name) (i : Planned) (starts : List ℕ) (makespan : ℕ) →
     markup_of (use_section chart resources i starts makespan) ≡ markup_of (use_section (renamed chart rows names) others i starts makespan)
@@ -174,33 +177,41 @@ same_page : (a b : List ℕ) (lower : Option ℕ) (makespan : ℕ) (table : Tabl
 unfolding page
 same_page a b lower makespan table rows names machines first count section other same =
     let note = note_of lower table.chart.days makespan in
+    let key = text_if (length table.slacks) LEGEND.now in
     let one = figures table.chart first count in
     let two = figures (renamed table.chart rows names) first count in
-    same_append (front (escaped a) note ++ one ++ section) (back table) (front (escaped b) note ++ two ++ other)
+    same_append (front (escaped a) note ++ key ++ one ++ section) (back table) (front (escaped b) note ++ key ++ two ++ other)
     (back (retitled table rows names machines))
-    (same_append (front (escaped a) note ++ one) section (front (escaped b) note ++ two) other
-    (same_append (front (escaped a) note) one (front (escaped b) note) two (same_front a b note)
+    (same_append (front (escaped a) note ++ key ++ one) section (front (escaped b) note ++ key ++ two) other
+    (same_append (front (escaped a) note ++ key) one (front (escaped b) note ++ key) two
+    (same_append (front (escaped a) note) key (front (escaped b) note) key (same_front a b note) refl)
     (same_figures table.chart rows names first count)) same) (same_back table rows names machines)
 
--- the report of a project has the same markup whatever its title and its names are
-pub same_project : (title : List ℕ) (lower : Option ℕ) (names resources : List Name) (i : Planned) (starts : List ℕ) (dated : Bool) (days : List Date) (floats slacks : List ℕ) →
-    markup_of (project_page title lower names resources i starts dated days floats slacks)
-    ≡ markup_of (project_page [] lower [] [] i starts dated days floats slacks)
-unfolding project_page
-same_project title lower names resources i starts dated days floats slacks =
-    let makespan = greatest_end (activity_bars i.project.network starts) in
-    let chart = project_chart names i starts days in
-    same_page title [] lower makespan (project_table names i starts dated days floats slacks) [] [] [] 1 (count_of i.project.network)
-    (use_section chart resources i starts makespan) (use_section (renamed chart [] []) [] i starts makespan)
-    (same_use_section chart [] [] resources [] i starts makespan)
+same_section : (l : Layout) (chart : Chart) (rows names legend others : List Name) (starts : List ℕ) (makespan : ℕ) →
+    markup_of (section_of l chart legend starts makespan) ≡ markup_of (section_of l (renamed chart rows names) others starts makespan)
+same_section (activities i) chart rows names legend others starts makespan = same_use_section chart rows names legend others i starts makespan
+same_section (steps s by_job) chart rows names legend others starts makespan = refl
 
--- the report of a job shop has the same markup whatever its title and its names are
-pub same_shop : (title : List ℕ) (lower : Option ℕ) (machines orders : List Name) (s : JobShop) (starts : List ℕ) (by_job dated : Bool) (days : List Date) →
-    markup_of (shop_page title lower machines orders s starts by_job dated days) ≡ markup_of (shop_page [] lower [] [] s starts by_job dated days)
-unfolding shop_page
-same_shop title lower machines orders s starts true dated days =
-    same_page title [] lower (greatest_end (step_bars s starts true)) (shop_table machines orders s starts true dated days) [] [] []
-    (shop_lines s true).0 (shop_lines s true).1 [] [] refl
-same_shop title lower machines orders s starts false dated days =
-    same_page title [] lower (greatest_end (step_bars s starts false)) (shop_table machines orders s starts false dated days) [] [] []
-    (shop_lines s false).0 (shop_lines s false).1 [] [] refl
+-- the report of a schedule has the same markup whatever its title and its names are
+pub same_layout : (title : List ℕ) (lower : Option ℕ) (lines legend : List Name) (l : Layout) (starts : List ℕ) (dated : Bool) (days : List Date) (floats slacks : List ℕ) →
+    markup_of (layout_page title lower lines legend l starts dated days floats slacks)
+    ≡ markup_of (layout_page [] lower [] [] l starts dated days floats slacks)
+unfolding layout_page
+same_layout title lower lines legend l starts dated days floats slacks =
+    let makespan = greatest_end (bars_of l starts) in
+    let one = layout_chart lines legend l starts days slacks in
+    let two = layout_chart [] [] l starts days slacks in
+    let rows = row_names l [] [] in
+    let names = bar_names l [] [] in
+    same_page title [] lower makespan (layout_table lines legend l starts dated days floats slacks) rows names (machine_names l [])
+    (lines_of l).0 (lines_of l).1 (section_of l one legend starts makespan) (section_of l two [] starts makespan)
+    (same_section l one rows names legend [] starts makespan)
+
+-- the chart of a schedule has the same markup whatever its title and its names are
+pub same_svg : (title : List ℕ) (lines legend : List Name) (l : Layout) (starts : List ℕ) →
+    markup_of (layout_svg title lines legend l starts) ≡ markup_of (layout_svg [] [] [] l starts)
+same_svg title lines legend l starts =
+    let bars = bars_of l starts in
+    same_image styled_opening title []
+    (record { span = greatest_end bars; days = []; rows = row_names l lines legend; names = bar_names l lines legend; bars = bars; slacks = [] })
+    (row_names l [] []) (bar_names l [] []) (lines_of l).0 (lines_of l).1

@@ -73,10 +73,11 @@ unfoldable pub is_labelled_week : ℕ → List Date → ℕ → Bool
 is_labelled_week span days t = (week_at days t - week_at days 0) % week_distance span == 0
 
 -- instant t has a label: the first one has, and the first one of each labelled week that has room
--- for it beside that
+-- for it, between the first label and the end of the image
 unfoldable pub has_label : ℕ → List Date → ℕ → Bool
 has_label span days t =
-    if nat_lt t 1 then true else if nat_lt (place span (axis_from days t)) 312 then false
+    if nat_lt t 1 then true else if nat_lt (place span (axis_from days t)) 436 then false
+    else if nat_lt 1291 (place span (axis_from days t)) then false
     else if starts_week days t then is_labelled_week span days t else false
 
 -- the number of days that have a mark

@@ -3,10 +3,13 @@ pub mod Names
 pub mod Pieces
 pub mod Place
 pub mod Bars
+pub mod Layouts
 pub mod Axis
 pub mod Days
+pub mod DayLabels
 pub mod Marks
 pub mod Titles
+pub mod Cuts
 pub mod Chart
 pub mod Uses
 pub mod Changes

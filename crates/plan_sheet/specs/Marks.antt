@@ -4,14 +4,14 @@ use Rattle.std.specs.List.{flat_map, range_with_len}
 use Rattle.std.specs.Fmt.{decimal}
 use Rattle.jiff_core.specs.declared.civil.date.Date.{Date}
 use Rattle.plan_sheet.specs.Axis.{axis_from, axis_to, day_count, has_label, mark_count, shade_count, starts_week, tick_distance}
-use Rattle.plan_sheet.specs.Days.{day_text}
+use Rattle.plan_sheet.specs.DayLabels.{axis_label}
 use Rattle.plan_sheet.specs.Place.{place}
 
 -- the line of a mark at a place, of this height, and the start of its label
 unfoldable pub tick_head : ℕ → ℕ → List ℕ
 tick_head height x =
-    codes "<path class=\"tick\" d=\"M" ++ decimal x ++ codes " 16v" ++ decimal height ++ codes "\"/><text x=\"" ++ decimal x
-    ++ codes "\" y=\"11\" dx=\"3\">"
+    codes "<path class=\"tick\" d=\"M" ++ decimal x ++ codes " 19v" ++ decimal height ++ codes "\"/><text x=\"" ++ decimal x
+    ++ codes "\" y=\"14\" dx=\"3\">"
 
 -- a mark at a place: its line, and its label
 unfoldable pub tick : ℕ → ℕ → List ℕ → List ℕ
@@ -28,7 +28,7 @@ unit_ticks span height = flat_map (unit_tick span height) (range_with_len 0 (mar
 -- the area of this height between two places
 unfoldable pub area : ℕ → ℕ → ℕ → List ℕ
 area height from to =
-    codes "M" ++ decimal from ++ codes " 16H" ++ decimal to ++ codes "v" ++ decimal height ++ codes "H" ++ decimal from ++ codes "z"
+    codes "M" ++ decimal from ++ codes " 19H" ++ decimal to ++ codes "v" ++ decimal height ++ codes "H" ++ decimal from ++ codes "z"
 
 -- the days without work before that of instant t
 abbrev pub gap_at : ℕ → List Date → ℕ → ℕ → List ℕ
@@ -43,7 +43,7 @@ gaps span days height =
 
 -- the mark of a week at a place
 unfoldable pub week_mark : ℕ → List ℕ
-week_mark x = codes "M" ++ decimal x ++ codes " 13v3"
+week_mark x = codes "M" ++ decimal x ++ codes " 15v4"
 
 -- the mark of the week that begins at instant t, if one does
 abbrev pub week_at : ℕ → List Date → ℕ → List ℕ
@@ -57,7 +57,7 @@ weeks span days =
 -- the mark of instant t with its day, if it has a label
 abbrev pub day_tick : ℕ → List Date → ℕ → ℕ → List ℕ
 day_tick span days height t =
-    if has_label span days t then tick height (place span (axis_from days t)) (day_text days t) else []
+    if has_label span days t then tick height (place span (axis_from days t)) (axis_label span days t) else []
 
 abbrev pub day_ticks : ℕ → List Date → ℕ → List ℕ
 day_ticks span days height = flat_map (day_tick span days height) (range_with_len 0 (day_count days))

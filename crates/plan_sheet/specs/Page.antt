@@ -7,8 +7,8 @@ use Rattle.jiff_core.specs.declared.civil.date.Date.{Date}
 use Rattle.plan_sheet.specs.Chart.{Chart, image_of}
 use Rattle.plan_sheet.specs.Days.{day_text}
 use Rattle.plan_sheet.specs.Escape.{escaped}
-use Rattle.plan_sheet.specs.Table.{Table, table_text}
-use Rattle.plan_sheet.specs.declared.styles.TheConstants.{CHART_STYLE, COLOURS, HEAD, NOTE_TO, PAGE_STYLE, PAGE_TO, STYLES_FROM, STYLES_TO, TABLE_TITLE, TITLE_TO}
+use Rattle.plan_sheet.specs.Table.{Table, table_text, text_if}
+use Rattle.plan_sheet.specs.declared.styles.TheConstants.{CHART_STYLE, COLOURS, HEAD, LEGEND, NOTE_TO, PAGE_STYLE, PAGE_TO, STYLES_FROM, STYLES_TO, TABLE_TITLE, TITLE_TO}
 
 -- the first and the last day of a plan; nothing without a calendar
 unfoldable pub dates_part : List Date → ℕ → List ℕ
@@ -59,4 +59,6 @@ back table = TABLE_TITLE.now ++ table_text table ++ PAGE_TO.now
 -- resources, and the table
 unfoldable pub page : List ℕ → Option ℕ → ℕ → Table → ℕ → ℕ → List ℕ → List ℕ
 page title lower makespan table first count section =
-    front (escaped title) (note_of lower table.chart.days makespan) ++ figures table.chart first count ++ section ++ back table
+    front (escaped title) (note_of lower table.chart.days makespan)
+    ++ text_if (length table.slacks) LEGEND.now ++ figures table.chart first count ++ section
+    ++ back table

@@ -7,6 +7,7 @@ use Rattle.plan_sgs.specs.Instances.{Planned}
 use Rattle.plan_table.specs.Names.{Name}
 use Rattle.plan_sheet.specs.Axis.{axis_from}
 use Rattle.plan_sheet.specs.Chart.{Chart, image_head}
+use Rattle.plan_sheet.specs.Cuts.{cut}
 use Rattle.plan_sheet.specs.Escape.{escaped}
 use Rattle.plan_sheet.specs.Marks.{marks}
 use Rattle.plan_sheet.specs.Names.{label}
@@ -16,9 +17,9 @@ use Rattle.plan_sheet.specs.Uses.{used_at, used_before, uses_of}
 use Rattle.plan_sheet.specs.declared.styles.TheConstants.{CAPACITY_LINE, USE_FROM, USE_NAME, USE_TO}
 use Rattle.plan_sheet.specs.declared.uses.Use.{Use}
 
--- the height of an amount: 104 for none, 24 for the capacity
+-- the height of an amount: 108 for none, 28 for the capacity
 unfoldable pub level : ℕ → ℕ → ℕ
-level capacity amount = 104 - amount * 80 / max capacity 1
+level capacity amount = 108 - amount * 80 / max capacity 1
 
 -- a step: along to its place, then to its height
 unfoldable pub step : ℕ → ℕ → List ℕ
@@ -43,17 +44,24 @@ use_area span days capacity uses makespan =
 unfoldable pub use_labels : ℕ → List ℕ → List ℕ
 use_labels capacity name = counted CAPACITY_LINE.now capacity ++ USE_NAME.now ++ name ++ codes "</text></svg>\n"
 
--- the image of a resource with this label
-unfoldable pub use_image : ℕ → List Date → List ℕ → ℕ → List Use → ℕ → List ℕ
-use_image span days name capacity uses makespan =
-    image_head 106 [] name ++ marks span days 88 ++ use_area span days capacity uses makespan
-    ++ use_labels capacity name ++ codes "</svg>\n"
+-- the room of a resource's label, in columns of 0.6 em
+abbrev pub use_room : ℕ
+use_room = 27
+
+-- the image of a resource with this label and its short form; the marks cover its use on days
+-- without work
+unfoldable pub use_image : ℕ → List Date → List ℕ → List ℕ → ℕ → List Use → ℕ → List ℕ
+use_image span days name short capacity uses makespan =
+    image_head 112 [] name ++ use_area span days capacity uses makespan ++ marks span days 89
+    ++ use_labels capacity short ++ codes "</svg>\n"
 
 -- the image of resource k + 1
 unfoldable pub use_figure : Chart → List Name → Planned → List ℕ → ℕ → ℕ → List ℕ
 use_figure chart resources i starts makespan k =
     codes "<figure>\n"
-    ++ use_image chart.span chart.days (escaped (label resources (k + 1))) (slice_index i.capacities k) (uses_of i starts (k + 1)) makespan
+    ++ use_image chart.span chart.days (escaped (label resources (k + 1)))
+    (escaped (cut use_room (label resources (k + 1)))) (slice_index i.capacities k)
+    (uses_of i starts (k + 1)) makespan
     ++ codes "</figure>\n"
 
 -- the number of resources that are shown; a project has at most 16

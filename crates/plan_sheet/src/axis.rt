@@ -62,9 +62,9 @@ fn week_distance(span: u32) -> u32
     (first_wide(span + span / 3, &distances) / 7).max(1)
 }
 
-// Returns the number of a day; that of a Monday is a multiple of 7.
+/// Returns the number of a day; that of a Monday is a multiple of 7.
 #[tactic(auto, unfolding(crate::specs::Axis::day_number))]
-fn day_number(day: Date) -> u32
+pub(crate) fn day_number(day: Date) -> u32
     ensures value { result ≡ spec.day_number day }
     ensures bound { result ≤ 7304483 }
 {
@@ -138,7 +138,7 @@ fn is_labelled_week(span: u32, days: &[Date], t: u32) -> bool
     week_at(days, t).saturating_sub(week_at(days, 0)) % distance == 0
 }
 
-/// Returns whether instant `t` has a label.
+/// Returns whether instant `t` has a label, for which there is room on both sides.
 #[tactic(auto, unfolding(crate::specs::Axis::has_label))]
 pub(crate) fn has_label(span: u32, days: &[Date], t: u32) -> bool
     ensures { result ≡ spec.has_label span days.now t }
@@ -146,7 +146,11 @@ pub(crate) fn has_label(span: u32, days: &[Date], t: u32) -> bool
     if t < 1 {
         return true;
     }
-    if place(span, axis_from(days, t)) < 312 {
+    let x = place(span, axis_from(days, t));
+    if x < 436 {
+        return false;
+    }
+    if 1291 < x {
         return false;
     }
     if starts_week(days, t) {

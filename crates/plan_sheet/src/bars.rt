@@ -1,6 +1,6 @@
 //! The bars of a chart.
 
-ghost use Rattle.std.specs.Prelude.{◌≡◌, ◌≤◌, ◌<◌, length, slice_index, EachIndex, IfOk};
+ghost use Rattle.std.specs.Prelude.{◌≡◌, ◌≤◌, ◌<◌, length, slice_index, EachIndex};
 ghost use Rattle.plan_net.specs.Network.{IsActivity, count_of};
 ghost use Rattle.plan_shop.specs.Shop.{count_steps};
 ghost use Rattle.plan_gantt.specs.Limits.{latest_start};
@@ -8,7 +8,6 @@ ghost use Rattle.plan_sheet.specs.Bars as spec;
 
 use plan_net::{Network, index_of};
 use plan_shop::Shop;
-use std::alloc::{AllocError, Global};
 
 /// A bar of a chart, from `from` to `to` on the axis. If both are equal, it is a milestone.
 #[derive(Clone, Copy)]
@@ -28,8 +27,9 @@ pub struct Bar {
     pub to: u32,
 }
 
-// Returns the bar of activity `j`.
-fn activity_bar(network: &Network, starts: &[u64], j: u32) -> Bar
+/// Returns the bar of activity `j`, in the line of its number. Index `k` of `starts` is activity
+/// `k + 1`.
+pub(crate) fn activity_bar(network: &Network, starts: &[u64], j: u32) -> Bar
     requires activity { IsActivity network.now j }
     requires starts { length starts.now ≡ count_of network.now }
     requires limit { EachIndex starts.now (λ k. slice_index starts.now k ≤ latest_start) }
@@ -48,27 +48,9 @@ fn activity_bar(network: &Network, starts: &[u64], j: u32) -> Bar
     }
 }
 
-/// Returns the bars of all activities of a schedule, each in the line of its number. Index `k` of
-/// `starts` is activity `k + 1`.
-pub(crate) fn activity_bars(
-    alloc: Global,
-    network: &Network,
-    starts: &[u64],
-) -> Result<Vec<Bar>, AllocError>
-    requires starts { length starts.now ≡ count_of network.now }
-    requires limit { EachIndex starts.now (λ k. slice_index starts.now k ≤ latest_start) }
-    ensures { IfOk result (λ bars. bars.items ≡ spec.activity_bars network.now starts.now) }
-{
-    let mut bars = Vec::new(alloc);
-    for k in 0..network.len() {
-        let bar = activity_bar(network, starts, k as u32 + 1);
-        bars.push(bar)?;
-    }
-    Ok(bars)
-}
-
-// Returns the bar of step `x`, in the line of its job or of its machine.
-fn step_bar(shop: &Shop, starts: &[u64], by_job: bool, x: u32) -> Bar
+/// Returns the bar of step `x`, in the line of its job or of its machine. Index `x` of `starts` is
+/// flat step `x`.
+pub(crate) fn step_bar(shop: &Shop, starts: &[u64], by_job: bool, x: u32) -> Bar
     requires step { x < count_steps shop.now }
     requires starts { length starts.now ≡ count_steps shop.now }
     requires limit { EachIndex starts.now (λ k. slice_index starts.now k ≤ latest_start) }
@@ -89,31 +71,11 @@ fn step_bar(shop: &Shop, starts: &[u64], by_job: bool, x: u32) -> Bar
     }
 }
 
-// Returns the number of steps of a shop.
+/// Returns the number of steps of a shop.
 pub(crate) fn step_count(shop: &Shop) -> u32
     ensures { result ≡ count_steps shop.now }
 {
     shop.jobs() * shop.machines()
-}
-
-/// Returns the bars of all steps of a schedule, each in the line of its job or of its machine.
-/// Index `x` of `starts` is flat step `x`.
-pub(crate) fn step_bars(
-    alloc: Global,
-    shop: &Shop,
-    starts: &[u64],
-    by_job: bool,
-) -> Result<Vec<Bar>, AllocError>
-    requires starts { length starts.now ≡ count_steps shop.now }
-    requires limit { EachIndex starts.now (λ k. slice_index starts.now k ≤ latest_start) }
-    ensures { IfOk result (λ bars. bars.items ≡ spec.step_bars shop.now starts.now by_job) }
-{
-    let mut bars = Vec::new(alloc);
-    for x in 0..step_count(shop) {
-        let bar = step_bar(shop, starts, by_job, x);
-        bars.push(bar)?;
-    }
-    Ok(bars)
 }
 
 /// Returns the greatest end of bars, 0 if there are none.

@@ -3,22 +3,29 @@
 ghost use Rattle.std.specs.Prelude.{◌≡◌, ◌≤◌, ◌++◌, IfOk, OnOk, map, string_bytes};
 ghost use Rattle.plan_table.specs.Names.{name_of};
 ghost use Rattle.plan_sheet.specs.Chart as spec;
+ghost use Rattle.plan_sheet.specs.Cuts as cuts;
 ghost use Rattle.plan_sheet.specs.Escape as escape;
 ghost use Rattle.plan_sheet.specs.Names as named;
 
 use crate::axis::{axis_from, axis_to};
 use crate::bars::Bar;
+use crate::cuts::cut;
 use crate::escape::escaped;
 use crate::marks::push_marks;
 use crate::names::label;
 use crate::pieces::push_counted;
 use crate::place::{extent, place};
-use crate::styles::{BAR_LEFT, BAR_TIP, BAR_WIDTH, CHART_STYLE, COLOURS, IMAGE};
+use crate::styles::{
+    BAR_LEFT, BAR_TIP, BAR_WIDTH, CHART_STYLE, COLOURS, IMAGE, NARROW_BAR, TIGHT_CLASS, WIDE_BAR,
+};
 use crate::titles::title_of;
 use jiff::civil::Date;
 use plan_table::NameLine;
 use std::alloc::{AllocError, Global};
 use std::fmt::Write;
+
+/// The room of a label beside the axis, in columns of 0.6 em.
+const LABEL_ROOM: u32 = 33;
 
 /// A Gantt chart.
 #[derive(Drop)]
@@ -32,6 +39,8 @@ pub struct Chart<'a> {
     /// The names of its bars.
     pub names: &'a [NameLine<'a>],
     pub bars: &'a [Bar],
+    /// The slacks of activities, from activity 1 on; empty if they aren't shown.
+    pub slacks: &'a [u64],
 }
 
 // Returns the place where a bar begins.
@@ -78,18 +87,68 @@ fn push_diamond(text: &mut String, x: u64, tip: &str) -> Result<(), AllocError>
 {
     write!(
         text,
-        "<path class=\"bar\" d=\"M{x} 2l6 6-6 6-6-6z\"><title>"
+        "<path class=\"bar\" d=\"M{x} 3l7 7-7 7-7-7z\"><title>"
     )?;
     text.push_str(tip)?;
     text.push_str("</title></path>\n")
 }
 
+// Returns the slack of a bar, if it is shown, at most 4,294,967,295.
+fn slack_of(chart: &Chart<'_>, bar: Bar) -> Option<u32>
+    ensures { result ≡ spec.slack_of (spec.chart_of chart.now) bar }
+{
+    match chart.slacks.get(bar.number.saturating_sub(1) as usize) {
+        Some(&slack) => Some(slack.min(4_294_967_295) as u32),
+        None => None,
+    }
+}
+
+// Returns the class of a bar without slack.
+fn tight_class(slack: Option<u32>) -> &'static str
+    ensures { result.now ≡ spec.tight_class slack }
+{
+    match slack {
+        Some(0) => TIGHT_CLASS,
+        _ => "",
+    }
+}
+
+// Appends a thin line up to where a bar could end, if it has slack.
+#[tactic(auto, unfolding(crate::specs::Chart::tail))]
+fn push_tail(text: &mut String, from: u64, to: u64) -> Result<(), AllocError>
+    ensures { OnOk result (string_bytes text.new ≡ string_bytes text.old ++ spec.tail from to) }
+{
+    write!(text, "<path class=\"tail\" d=\"M{from} 10H{to}\"/>\n")
+}
+
+// Appends the tail of a bar: up to where it could end, if it has slack.
+fn push_tail_of(text: &mut String, chart: &Chart<'_>, bar: Bar) -> Result<(), AllocError>
+    ensures { OnOk result (string_bytes text.new
+        ≡ string_bytes text.old ++ spec.tail_of (spec.chart_of chart.now) bar) }
+{
+    let slack = slack_of(chart, bar).unwrap_or(0);
+    if slack < 1 {
+        return Ok(());
+    }
+    let end = axis_to(chart.days, bar.to.saturating_add(slack));
+    push_tail(text, right_of(chart, bar), place(chart.span, end))
+}
+
+// Returns the class of a rectangle: a narrow one has no stroke.
+fn bar_class(width: u64) -> &'static str
+    ensures { result.now ≡ spec.bar_class width }
+{
+    if width < 4 { NARROW_BAR } else { WIDE_BAR }
+}
+
 // Appends the start of a rectangle from a place on, up to its description.
 #[tactic(auto, unfolding(crate::specs::Chart::rectangle_head))]
-fn push_rectangle_head(text: &mut String, x: u64, width: u64) -> Result<(), AllocError>
-    ensures { OnOk result
-        (string_bytes text.new ≡ string_bytes text.old ++ spec.rectangle_head x width) }
+fn push_rectangle_head(text: &mut String, tight: &str, x: u64, width: u64) -> Result<(), AllocError>
+    ensures { OnOk result (string_bytes text.new
+        ≡ string_bytes text.old ++ spec.rectangle_head tight.now x width) }
 {
+    text.push_str(bar_class(width))?;
+    text.push_str(tight)?;
     push_counted(text, BAR_LEFT, x)?;
     push_counted(text, BAR_WIDTH, width)?;
     text.push_str(BAR_TIP)
@@ -97,11 +156,17 @@ fn push_rectangle_head(text: &mut String, x: u64, width: u64) -> Result<(), Allo
 
 // Appends an activity that takes time: a rectangle from a place on, with its description.
 #[tactic(auto, unfolding(crate::specs::Chart::rectangle))]
-fn push_rectangle(text: &mut String, x: u64, width: u64, tip: &str) -> Result<(), AllocError>
-    ensures { OnOk result
-        (string_bytes text.new ≡ string_bytes text.old ++ spec.rectangle x width tip.now) }
+fn push_rectangle(
+    text: &mut String,
+    tight: &str,
+    x: u64,
+    width: u64,
+    tip: &str,
+) -> Result<(), AllocError>
+    ensures { OnOk result (string_bytes text.new
+        ≡ string_bytes text.old ++ spec.rectangle tight.now x width tip.now) }
 {
-    push_rectangle_head(text, x, width)?;
+    push_rectangle_head(text, tight, x, width)?;
     text.push_str(tip)?;
     text.push_str("</title></rect>\n")
 }
@@ -114,11 +179,26 @@ fn push_inner_number(text: &mut String, x: u64, n: u32) -> Result<(), AllocError
 {
     write!(
         text,
-        "<text class=\"on\" x=\"{x}\" y=\"12\" dx=\"2\">{n}</text>\n"
+        "<text class=\"on\" x=\"{x}\" y=\"15\" dx=\"3\">{n}</text>\n"
     )
 }
 
-// Appends the number inside a bar, if it is that of a step and has 24 units of room.
+// Returns the room of a number inside a bar: 10 units for each digit, and 6 beside them.
+fn number_room(n: u32) -> u64
+    ensures { result ≡ spec.number_room n }
+{
+    if n < 10 {
+        16
+    } else if n < 100 {
+        26
+    } else if n < 1000 {
+        36
+    } else {
+        106
+    }
+}
+
+// Appends the number inside a bar, if it is that of a step and has room.
 fn push_number(text: &mut String, chart: &Chart<'_>, bar: Bar) -> Result<(), AllocError>
     ensures { OnOk result (string_bytes text.new
         ≡ string_bytes text.old ++ spec.number_of (spec.chart_of chart.now) bar) }
@@ -128,10 +208,47 @@ fn push_number(text: &mut String, chart: &Chart<'_>, bar: Bar) -> Result<(), All
     if bar.step < 1 {
         return Ok(());
     }
-    if width < 24 {
+    if width < number_room(bar.inside) {
         return Ok(());
     }
     push_inner_number(text, x, bar.inside)
+}
+
+// Appends the diamond of a bar that takes no time, or nothing for a step.
+fn push_milestone(
+    alloc: Global,
+    text: &mut String,
+    chart: &Chart<'_>,
+    bar: Bar,
+) -> Result<(), AllocError>
+    ensures { OnOk result (string_bytes text.new
+        ≡ string_bytes text.old ++ spec.milestone_of (spec.chart_of chart.now) bar) }
+{
+    let tip = shown_tip(alloc, chart.names, bar)?;
+    if bar.step < 1 {
+        push_diamond(text, right_of(chart, bar), &tip)
+    } else {
+        Ok(())
+    }
+}
+
+// Appends the rectangle of a bar that takes time, with its tail and its number.
+#[tactic(auto, unfolding(crate::specs::Chart::block_of))]
+fn push_block(
+    alloc: Global,
+    text: &mut String,
+    chart: &Chart<'_>,
+    bar: Bar,
+) -> Result<(), AllocError>
+    ensures { OnOk result (string_bytes text.new
+        ≡ string_bytes text.old ++ spec.block_of (spec.chart_of chart.now) bar) }
+{
+    let tip = shown_tip(alloc, chart.names, bar)?;
+    let x = left_of(chart, bar);
+    let tight = tight_class(slack_of(chart, bar));
+    push_rectangle(text, tight, x, extent(x, right_of(chart, bar)), &tip)?;
+    push_tail_of(text, chart, bar)?;
+    push_number(text, chart, bar)
 }
 
 // Appends a bar: a diamond where it ends if it takes no time, else a rectangle.
@@ -140,14 +257,10 @@ fn push_bar(alloc: Global, text: &mut String, chart: &Chart<'_>, bar: Bar) -> Re
     ensures { OnOk result (string_bytes text.new
         ≡ string_bytes text.old ++ spec.bar_of (spec.chart_of chart.now) bar) }
 {
-    let tip = shown_tip(alloc, chart.names, bar)?;
-    let x = left_of(chart, bar);
-    let end = right_of(chart, bar);
     if bar.from == bar.to {
-        push_diamond(text, end, &tip)
+        push_milestone(alloc, text, chart, bar)
     } else {
-        push_rectangle(text, x, extent(x, end), &tip)?;
-        push_number(text, chart, bar)
+        push_block(alloc, text, chart, bar)
     }
 }
 
@@ -181,7 +294,7 @@ fn push_bars(alloc: Global, text: &mut String, chart: &Chart<'_>, n: u32) -> Res
     Ok(())
 }
 
-// Appends the label of a line at this height, cut off where the bars begin.
+// Appends the label of a line at this height, cut before the bars.
 #[tactic(auto, unfolding(crate::specs::Chart::line_head))]
 fn push_line_head(text: &mut String, y: u32, label: &str) -> Result<(), AllocError>
     ensures { OnOk result
@@ -189,10 +302,25 @@ fn push_line_head(text: &mut String, y: u32, label: &str) -> Result<(), AllocErr
 {
     write!(
         text,
-        "<g transform=\"translate(0,{y})\"><svg width=\"232\" height=\"16\"><text x=\"4\" y=\"12\">"
+        "<g transform=\"translate(0,{y})\"><svg width=\"322\" height=\"20\"><text x=\"4\" y=\"15\">"
     )?;
     text.push_str(label)?;
     text.push_str("</text></svg>\n")
+}
+
+/// Returns the label of line `n`, cut to the room beside the axis, and escaped.
+pub(crate) fn cut_label(
+    alloc: Global,
+    rows: &[NameLine<'_>],
+    n: u32,
+    room: u32,
+) -> Result<String, AllocError>
+    ensures { IfOk result (λ text. string_bytes text
+        ≡ escape.escaped (cuts.cut room (named.label (map name_of rows.now) n))) }
+{
+    let text = label(alloc, rows, n)?;
+    let shown = cut(alloc, &text, room)?;
+    escaped(alloc, &shown)
 }
 
 /// Returns the label of line `n`, escaped.
@@ -221,8 +349,8 @@ fn push_line(
     ensures { OnOk result (string_bytes text.new
         ≡ string_bytes text.old ++ spec.line_of (spec.chart_of chart.now) k n) }
 {
-    let label = shown_label(alloc, chart.rows, n)?;
-    push_line_head(text, 16 * k + 24, &label)?;
+    let label = cut_label(alloc, chart.rows, n, LABEL_ROOM)?;
+    push_line_head(text, 20 * k + 22, &label)?;
     push_bars(alloc, text, chart, n)?;
     text.push_str("</g>\n")
 }
@@ -253,7 +381,7 @@ fn push_image_tag(text: &mut String, height: u32) -> Result<(), AllocError>
         (string_bytes text.new ≡ string_bytes text.old ++ spec.image_tag height) }
 {
     text.push_str(IMAGE)?;
-    write!(text, "{height}\" viewBox=\"0 0 1320 {height}\">\n")
+    write!(text, "{height}\" viewBox=\"0 0 1390 {height}\">\n")
 }
 
 /// Appends the start of an SVG image of this height, with an opening and a title, which is escaped.
@@ -291,8 +419,8 @@ pub(crate) fn push_chart(
         ++ spec.image_of opening.now title.now (spec.chart_of chart.now) first count) }
 {
     let title = escaped(alloc, title)?;
-    push_image_head(text, 16 * count + 28, opening, &title)?;
-    push_marks(alloc, text, chart.span, chart.days, 16 * count + 10)?;
+    push_image_head(text, 20 * count + 26, opening, &title)?;
+    push_marks(alloc, text, chart.span, chart.days, 20 * count + 5)?;
     push_lines(alloc, text, chart, first, count)?;
     text.push_str("</svg>\n")
 }
@@ -311,7 +439,7 @@ fn styled_opening(alloc: Global) -> Result<String, AllocError>
 
 /// Returns a chart alone, an SVG file (SVG 2): the lines with `count` numbers from `first` on below
 /// one axis, in colours for light and dark backgrounds. Lengths are in units of the viewBox: a line
-/// has 16, the axis 1,000.
+/// has 20, the axis 1,000.
 pub(crate) fn svg_chart(
     alloc: Global,
     title: &str,

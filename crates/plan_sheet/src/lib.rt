@@ -6,10 +6,13 @@ mod axis;
 mod bars;
 mod changes;
 mod chart;
+mod cuts;
+mod day_labels;
 mod days;
 mod escape;
 mod feed;
 mod ics;
+mod layouts;
 mod marks;
 mod names;
 mod page;
@@ -24,8 +27,7 @@ mod usage;
 mod uses;
 
 pub use escape::escaped;
+pub use layouts::{Layout, SheetNames};
 pub use page::Heading;
-pub use plans::{project_ics, project_svg, shop_ics, shop_svg};
-pub use reports::{
-    Margins, ProjectNames, dated_project_report, dated_shop_report, project_report, shop_report,
-};
+pub use plans::{ics_file, svg_file};
+pub use reports::{Margins, dated_report, report};

@@ -8,7 +8,7 @@ ghost use Rattle.plan_sheet.specs.Marks as spec;
 use crate::axis::{
     axis_from, axis_to, day_count, has_label, mark_count, mark_place, shade_count, starts_week,
 };
-use crate::days::day_text;
+use crate::day_labels::axis_label;
 use crate::place::place;
 use jiff::civil::Date;
 use std::alloc::{AllocError, Global};
@@ -22,7 +22,7 @@ fn push_tick_head(text: &mut String, height: u32, x: u64) -> Result<(), AllocErr
 {
     write!(
         text,
-        "<path class=\"tick\" d=\"M{x} 16v{height}\"/><text x=\"{x}\" y=\"11\" dx=\"3\">"
+        "<path class=\"tick\" d=\"M{x} 19v{height}\"/><text x=\"{x}\" y=\"14\" dx=\"3\">"
     )
 }
 
@@ -76,7 +76,7 @@ fn push_area(text: &mut String, height: u32, from: u64, to: u64) -> Result<(), A
     ensures { OnOk result
         (string_bytes text.new ≡ string_bytes text.old ++ spec.area height from to) }
 {
-    write!(text, "M{from} 16H{to}v{height}H{from}z")
+    write!(text, "M{from} 19H{to}v{height}H{from}z")
 }
 
 // Appends the days without work before that of instant `t`.
@@ -131,7 +131,7 @@ fn push_gaps(text: &mut String, span: u32, days: &[Date], height: u32) -> Result
 fn push_week_mark(text: &mut String, x: u64) -> Result<(), AllocError>
     ensures { OnOk result (string_bytes text.new ≡ string_bytes text.old ++ spec.week_mark x) }
 {
-    write!(text, "M{x} 13v3")
+    write!(text, "M{x} 15v4")
 }
 
 // Appends the mark of the week that begins at instant `t`, if one does.
@@ -181,7 +181,7 @@ fn push_day_tick(
         (string_bytes text.new ≡ string_bytes text.old ++ spec.day_tick span days.now height t) }
 {
     if has_label(span, days, t) {
-        let label = day_text(alloc, days, t)?;
+        let label = axis_label(alloc, span, days, t)?;
         push_tick(text, height, place(span, axis_from(days, t)), &label)
     } else {
         Ok(())

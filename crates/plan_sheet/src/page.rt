@@ -9,10 +9,10 @@ use crate::chart::{Chart, push_chart};
 use crate::days::day_text;
 use crate::escape::escaped;
 use crate::styles::{
-    CHART_STYLE, COLOURS, HEAD, NOTE_TO, PAGE_STYLE, PAGE_TO, STYLES_FROM, STYLES_TO, TABLE_TITLE,
-    TITLE_TO,
+    CHART_STYLE, COLOURS, HEAD, LEGEND, NOTE_TO, PAGE_STYLE, PAGE_TO, STYLES_FROM, STYLES_TO,
+    TABLE_TITLE, TITLE_TO,
 };
-use crate::table::{Table, push_table};
+use crate::table::{Table, push_if, push_table};
 use jiff::civil::Date;
 use std::alloc::{AllocError, Global};
 use std::fmt::Write;
@@ -192,6 +192,7 @@ pub(crate) fn page(
     let note = note_of(alloc, heading.lower, table.chart.days, makespan)?;
     let mut text = String::new(alloc);
     push_front(&mut text, &title, &note)?;
+    push_if(&mut text, table.slacks.len(), LEGEND)?;
     push_figures(alloc, &mut text, table.chart, first, count)?;
     text.push_str(section)?;
     push_back(alloc, &mut text, table)?;

@@ -3,18 +3,18 @@
 ghost use Rattle.std.specs.Prelude.{◌≡◌};
 ghost use Rattle.plan_sheet.specs.Place as spec;
 
-/// Returns the place of a point of the axis: names have 240 units, the axis 1,000.
+/// Returns the place of a point of the axis: names have 330 units, the axis 1,000.
 #[tactic(auto, unfolding(crate::specs::Place::place))]
 pub(crate) fn place(span: u32, at: u32) -> u64
     ensures { result ≡ spec.place span at }
 {
-    240 + u64::from(at) * 1000 / u64::from(span.max(1))
+    330 + u64::from(at) * 1000 / u64::from(span.max(1))
 }
 
-/// Returns the length from one place to another, at least 1.
+/// Returns the length from one place to another, at least 3.
 #[tactic(auto, unfolding(crate::specs::Place::extent))]
 pub(crate) fn extent(from: u64, to: u64) -> u64
     ensures { result ≡ spec.extent from to }
 {
-    to.saturating_sub(from).max(1)
+    to.saturating_sub(from).max(3)
 }

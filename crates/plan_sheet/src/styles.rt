@@ -2,34 +2,46 @@
 
 /// The start of an image up to its height.
 pub(crate) const IMAGE: &str = "<svg xmlns=\"http://www.w3.org/2000/svg\" class=\"chart\" \
-role=\"img\" width=\"1320\" height=\"";
+role=\"img\" width=\"1390\" height=\"";
 
-/// The start of a rectangle up to its place.
-pub(crate) const BAR_LEFT: &str = "<rect class=\"bar\" x=\"";
+/// The start of a rectangle with a stroke, up to the end of its class.
+pub(crate) const WIDE_BAR: &str = "<rect class=\"bar wide";
+
+/// The start of a rectangle that is too narrow for a stroke.
+pub(crate) const NARROW_BAR: &str = "<rect class=\"bar";
+
+/// The class of a bar without slack.
+pub(crate) const TIGHT_CLASS: &str = " tight";
+
+/// What is between the class of a rectangle and its place.
+pub(crate) const BAR_LEFT: &str = "\" x=\"";
 
 /// What is between the place of a rectangle and its width.
 pub(crate) const BAR_WIDTH: &str = "\" y=\"2\" width=\"";
 
 /// What is between the width of a rectangle and its description.
-pub(crate) const BAR_TIP: &str = "\" height=\"12\"><title>";
+pub(crate) const BAR_TIP: &str = "\" height=\"16\"><title>";
 
 /// The colours, light and dark.
 pub(crate) const COLOURS: &str =
     ":root{color-scheme:light dark;--ink:#1b1b1b;--soft:#595959;--line:#c4c4c4;--shade:#e9e9e9;\
---bar:#2f6fb3;--tight:#b3392f;--paper:#fff}
+--bar:#5b9bd9;--tight:#8c1d18;--paper:#fff}
 @media(prefers-color-scheme:dark){:root{--ink:#ececec;--soft:#b0b0b0;--line:#555;--shade:#2e2e2e;\
---bar:#6ea8e0;--tight:#f08a7e;--paper:#161616}}
+--bar:#3f6f9f;--tight:#f08a7e;--paper:#161616}}
 @media print{:root{--ink:#000;--soft:#333;--line:#bbb;--shade:#e6e6e6;\
---bar:#2f6fb3;--tight:#b3392f;--paper:#fff}}
+--bar:#7fb2e5;--tight:#8c1d18;--paper:#fff}}
 ";
 
 /// The style of a chart.
 pub(crate) const CHART_STYLE: &str = ".chart{background:var(--paper)}
-.chart text{font:11px system-ui,sans-serif;fill:var(--ink)}
+.chart text{font:16px system-ui,sans-serif;fill:var(--ink)}
 .chart .off{fill:var(--shade)}
 .chart .week,.chart .tick{stroke:var(--line);fill:none}
-.chart .bar{fill:var(--bar);stroke:var(--paper);stroke-width:.5}
-.chart .on{fill:var(--paper)}
+.chart .bar{fill:var(--bar)}
+.chart .wide{stroke:var(--paper)}
+.chart .tight{fill:var(--tight)}
+.chart .tail{stroke:var(--bar);stroke-width:3}
+.chart .on{fill:var(--ink)}
 .chart .use{fill:var(--bar);fill-opacity:.35;stroke:var(--bar)}
 .chart .most{stroke:var(--tight);stroke-dasharray:6 3}
 .chart .end{text-anchor:end}
@@ -51,6 +63,8 @@ h1{font-size:1.4rem;margin:0;overflow-wrap:anywhere}
 h2{font-size:1.1rem;margin:1.2rem 0 .3rem}
 p{margin:.2rem 0 .8rem;color:var(--soft)}
 figure{margin:0 0 1rem;overflow-x:auto}
+.key{margin:0 0 .4rem}
+.key .chart{display:inline-block;width:auto;min-width:0}
 .chart{display:block;width:100%;min-width:60rem;height:auto}
 .scroll{overflow-x:auto}
 table{border-collapse:collapse;font-variant-numeric:tabular-nums}
@@ -59,8 +73,15 @@ white-space:nowrap}
 thead th{border-bottom:2px solid var(--soft);font-weight:600}
 th.name,td.name{text-align:left;white-space:normal;min-width:8rem;max-width:24rem;\
 overflow-wrap:anywhere}
-@page{size:A4 landscape;margin:10mm}
+@page{size:A4 landscape;margin:10mm 10mm 12mm;\
+@bottom-right{content:counter(page) \" of \" counter(pages);font:9pt system-ui,sans-serif}}
 @media print{body{margin:0;font-size:9pt}
+h1{font-size:13pt;line-height:1.2}
+h2{font-size:11pt;line-height:1.2;margin:2mm 0 1mm}
+p{margin:0 0 1mm;line-height:1.3}
+p+h2{display:none}
+figure{margin:0 0 2mm}
+.key{line-height:1.2;margin:0 0 1mm}
 figure,.scroll{overflow:visible}
 figure{break-inside:avoid}
 .chart{min-width:0}
@@ -109,18 +130,18 @@ pub(crate) const ROW_NAME: &str = "</th><td class=\"name\">";
 pub(crate) const NAME_CELL: &str = "<td class=\"name\">";
 
 /// The start of the area of a resource's use.
-pub(crate) const USE_FROM: &str = "<path class=\"use\" d=\"M240 104";
+pub(crate) const USE_FROM: &str = "<path class=\"use\" d=\"M330 108";
 
 /// The end of the area, at the end of the axis.
-pub(crate) const USE_TO: &str = "H1240V104z\"/>\n";
+pub(crate) const USE_TO: &str = "H1330V108z\"/>\n";
 
 /// The line of a capacity, up to its number.
 pub(crate) const CAPACITY_LINE: &str =
-    "<path class=\"most\" d=\"M240 24h1000\"/><text class=\"end\" x=\"234\" y=\"28\">";
+    "<path class=\"most\" d=\"M330 28h1000\"/><text class=\"end\" x=\"324\" y=\"34\">";
 
 /// What is between the number of a capacity and the name of its resource.
 pub(crate) const USE_NAME: &str =
-    "</text>\n<svg width=\"200\" height=\"106\"><text x=\"4\" y=\"62\">";
+    "</text>\n<svg width=\"270\" height=\"112\"><text x=\"4\" y=\"74\">";
 
 /// The end of a page's title, and the start of its styles.
 pub(crate) const STYLES_FROM: &str = "</title>\n<style>\n";
@@ -133,6 +154,13 @@ pub(crate) const TITLE_TO: &str = "</h1>\n<p>";
 
 /// What is between the note of a page and its charts.
 pub(crate) const NOTE_TO: &str = "</p>\n<h2>Gantt chart</h2>\n";
+
+/// What the colours of a chart mean.
+pub(crate) const LEGEND: &str =
+    "<div class=\"key\"><svg width=\"24\" height=\"12\" class=\"chart\">\
+<rect class=\"bar tight\" width=\"24\" height=\"12\"/></svg> no slack \
+<svg width=\"40\" height=\"12\" class=\"chart\"><rect class=\"bar\" width=\"24\" height=\"12\"/>\
+<path class=\"tail\" d=\"M24 6H40\"/></svg> slack, up to the end of the thin line</div>\n";
 
 /// The heading of a table.
 pub(crate) const TABLE_TITLE: &str = "<h2>Table</h2>\n";

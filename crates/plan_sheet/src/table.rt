@@ -36,8 +36,8 @@ pub struct Table<'a> {
     pub slacks: &'a [u64],
 }
 
-// Appends a text, if a list that it stands for has an element.
-fn push_if(text: &mut String, count: usize, part: &str) -> Result<(), AllocError>
+/// Appends a text, if a list that it stands for has an element.
+pub(crate) fn push_if(text: &mut String, count: usize, part: &str) -> Result<(), AllocError>
     ensures { OnOk result
         (string_bytes text.new ≡ string_bytes text.old ++ spec.text_if count part.now) }
 {

@@ -10,7 +10,7 @@ ghost use Rattle.plan_sheet.specs.Usage as spec;
 
 use crate::axis::axis_from;
 use crate::changes::next_change;
-use crate::chart::{Chart, push_image_head, shown_label};
+use crate::chart::{Chart, cut_label, push_image_head, shown_label};
 use crate::marks::push_marks;
 use crate::pieces::push_counted;
 use crate::place::place;
@@ -22,12 +22,15 @@ use plan_table::NameLine;
 use std::alloc::{AllocError, Global};
 use std::fmt::Write;
 
-// Returns the height of an amount: 104 for none, 24 for the capacity.
+/// The room of a resource's label, in columns of 0.6 em.
+const USE_ROOM: u32 = 27;
+
+// Returns the height of an amount: 108 for none, 28 for the capacity.
 #[tactic(auto, unfolding(crate::specs::Usage::level))]
 fn level(capacity: u64, amount: u32) -> u64
     ensures { result ≡ spec.level capacity amount }
 {
-    104_u64.saturating_sub(u64::from(amount) * 80 / capacity.max(1))
+    108_u64.saturating_sub(u64::from(amount) * 80 / capacity.max(1))
 }
 
 // Appends a step: along to its place, then to its height.
@@ -109,24 +112,25 @@ fn push_use_labels(text: &mut String, capacity: u64, name: &str) -> Result<(), A
     text.push_str("</text></svg>\n")
 }
 
-// Appends the image of a resource with this label, which is escaped.
+// Appends the image of a resource with this label and its short form, which are escaped.
 #[tactic(auto, unfolding(crate::specs::Usage::use_image))]
 fn push_use_image(
     alloc: Global,
     text: &mut String,
     chart: &Chart<'_>,
     name: &str,
+    short: &str,
     capacity: u64,
     uses: &[Use],
     makespan: u32,
 ) -> Result<(), AllocError>
     ensures { OnOk result (string_bytes text.new ≡ string_bytes text.old ++ spec.use_image
-        chart.now.span chart.now.days.now name.now capacity uses.now makespan) }
+        chart.now.span chart.now.days.now name.now short.now capacity uses.now makespan) }
 {
-    push_image_head(text, 106, "", name)?;
-    push_marks(alloc, text, chart.span, chart.days, 88)?;
+    push_image_head(text, 112, "", name)?;
     push_use_area(text, chart.span, chart.days, capacity, uses, makespan)?;
-    push_use_labels(text, capacity, name)?;
+    push_marks(alloc, text, chart.span, chart.days, 89)?;
+    push_use_labels(text, capacity, short)?;
     text.push_str("</svg>\n")
 }
 
@@ -151,10 +155,11 @@ fn push_use_figure(
         makespan k) }
 {
     let name = shown_label(alloc, resources, k + 1)?;
+    let short = cut_label(alloc, resources, k + 1, USE_ROOM)?;
     let uses = uses_of(alloc, instance, starts, k + 1)?;
     let capacity = instance.caps()[k as usize];
     text.push_str("<figure>\n")?;
-    push_use_image(alloc, text, chart, &name, capacity, &uses, makespan)?;
+    push_use_image(alloc, text, chart, &name, &short, capacity, &uses, makespan)?;
     text.push_str("</figure>\n")
 }
 

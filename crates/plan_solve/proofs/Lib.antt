@@ -1,2 +1,3 @@
 mod BoundLemmas
 mod ProgressLemmas
+mod PlanAnswerLemmas

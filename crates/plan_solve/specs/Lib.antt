@@ -1,4 +1,5 @@
 pub mod Solutions
+pub mod PlanAnswers
 pub mod Progress
 pub mod Sessions
 pub use Rattle.plan_sgs.specs.Problem

@@ -1,9 +1,8 @@
 -- Searches that can be continued (docs/definitions.md, "Solutions").
-use Rattle.std.specs.Prelude.{◌≡◌}
 use Rattle.plan_sgs.specs.Problem.{Problem}
-use Rattle.plan_kernel.specs.Inputs.{problem_of}
+use Rattle.plan_kernel.specs.Plans.{IsPlain}
 use Rattle.plan_solve.specs.declared.running.Session.{Session}
 
 -- the clauses and facts of a search are those of a problem
 abbrev pub IsSessionOf : Problem → Session → Type 0
-IsSessionOf p session = problem_of session.search.prover.kernel.known.input ≡ p
+IsSessionOf p session = IsPlain session.search.prover.kernel.known.input p

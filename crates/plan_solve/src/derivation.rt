@@ -171,8 +171,8 @@ fn move_forward(users: &mut Vec<u32>, tails: &Tails, from: usize) {
     }
 }
 
-// Returns what an activity needs of a resource.
-fn need(input: &Input, activity: u32, resource: u32) -> u32 {
+/// Returns what an activity needs of a resource.
+pub fn need(input: &Input, activity: u32, resource: u32) -> u32 {
     if (activity as usize) < input.needs.len() {
         at(&input.needs[activity as usize], resource)
     } else {

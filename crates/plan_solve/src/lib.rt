@@ -15,8 +15,11 @@ mod log;
 mod model;
 mod orders;
 mod parts;
+mod plan_orders;
+mod plans;
 mod projects;
 mod propagation;
+mod proposals;
 mod prover;
 mod reduction;
 mod restarts;
@@ -36,7 +39,9 @@ mod work;
 
 pub use fault::SolveFault;
 pub use log::{Log, Unlogged};
+pub use plans::{LATEST_COST, PlanAnswer, SolvedPlan, solve_plan, solve_plan_watched};
 pub use projects::{solve, solve_logged, solve_watched};
+pub use proposals::first_starts;
 pub use running::Session;
 pub use shops::{
     rule_solution, shop_session, solve_shop, solve_shop_from, solve_shop_logged, solve_shop_watched,

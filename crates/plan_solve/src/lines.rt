@@ -85,6 +85,7 @@ fn push_reason(text: &mut String, kernel: &Kernel, reason: Reason) -> Result<(),
             let end = (kernel.input().durations.len() & 0xffff_ffff) as u32;
             push(text, " arc", &[next(activity), next(end), value])
         }
+        Reason::Start { activity, value } => push(text, " start", &[next(activity), value]),
         Reason::Before { order, value } => push(text, " before", &[next(order), value]),
         Reason::After { order, value } => push(text, " after", &[next(order), value]),
         Reason::Energy {

@@ -1,11 +1,11 @@
 //! The numbers of a problem, by what propagation looks up.
 
 use crate::lists::{at, empty_rows, mark, push_to, row};
-use plan_kernel::{Input, Order};
+use plan_kernel::{Absence, Input, Order};
 use std::alloc::{AllocError, Global};
 
-/// Activity `to`, or the makespan if `to` is the number of activities, is no earlier than `weight`
-/// after the start of activity `from`.
+/// Activity `to`, or the cost if `to` is the number of activities, is no earlier than `weight` after
+/// the start of activity `from`.
 #[derive(Clone, Copy, Drop)]
 pub struct Link {
     pub from: u32,
@@ -23,19 +23,22 @@ pub struct Model {
     pub durations: Vec<u32>,
     needs: Vec<u32>,
     capacities: Vec<u32>,
-    // the arcs, and behind them a link to the makespan from each activity without an arc
+    // the arcs, and behind them a link to the cost from each activity without an arc or with a tail
     links: Vec<Link>,
     arcs: u32,
     orders: Vec<Order>,
+    /// What is missing of resources.
+    pub absences: Vec<Absence>,
+    tails: Vec<u32>,
     /// For each activity the links that begin with it.
     pub links_from: Vec<Vec<u32>>,
-    /// For each activity, and then the makespan, the links that end with it.
+    /// For each activity, and then the cost, the links that end with it.
     pub links_to: Vec<Vec<u32>>,
     /// For each activity its orders.
     pub orders_of: Vec<Vec<u32>>,
     /// For each resource the activities that last and need it.
     pub users: Vec<Vec<u32>>,
-    /// The resources of which each user needs all.
+    /// The resources of which each user needs all, and of which nothing is ever missing.
     pub is_unary: Vec<bool>,
     /// For each activity the unary resources that it needs.
     pub unary_of: Vec<Vec<u32>>,
@@ -93,6 +96,8 @@ impl Model {
             links: links_of(alloc, input)?,
             arcs: narrow(input.arcs.len()),
             orders: Vec::from_slice(alloc, input.orders.as_slice())?,
+            absences: Vec::from_slice(alloc, input.absences.as_slice())?,
+            tails: Vec::from_slice(alloc, input.tails.as_slice())?,
             links_from: empty_rows(alloc, count)?,
             links_to: empty_rows(alloc, count.saturating_add(1))?,
             orders_of: empty_rows(alloc, count)?,
@@ -104,6 +109,7 @@ impl Model {
         model.list_links()?;
         model.link_ends()?;
         model.list_orders()?;
+        model.mark_absences();
         for resource in 0..model.kinds {
             model.list_users(resource)?;
             model.list_unary(resource)?;
@@ -119,12 +125,13 @@ impl Model {
         Ok(())
     }
 
-    // Links the activities without successors to the makespan.
+    // Links the activities without successors, and those with tails, to the cost.
     fn link_ends(&mut self) -> Result<(), AllocError> {
         for from in 0..self.count {
-            if row(&self.links_from, from).is_empty() {
-                let (place, weight) = (narrow(self.links.len()), self.duration(from));
-                let to = self.count;
+            let tail = at(&self.tails, from);
+            if tail > 0 || row(&self.links_from, from).is_empty() {
+                let weight = self.duration(from).saturating_add(tail);
+                let (place, to) = (narrow(self.links.len()), self.count);
                 self.links.push(Link { from, to, weight })?;
                 push_to(&mut self.links_from, from, place)?;
                 push_to(&mut self.links_to, to, place)?;
@@ -139,6 +146,13 @@ impl Model {
             push_to(&mut self.orders_of, order.second, narrow(place))?;
         }
         Ok(())
+    }
+
+    // Marks the resources of which something is missing at times.
+    fn mark_absences(&mut self) {
+        for absence in self.absences.iter() {
+            mark(&mut self.is_unary, absence.resource, false);
+        }
     }
 
     fn list_users(&mut self, resource: u32) -> Result<(), AllocError> {
@@ -186,6 +200,24 @@ impl Model {
         at(&self.capacities, resource)
     }
 
+    /// What is absent of a resource at an instant.
+    pub fn absent(&self, resource: u32, instant: u32) -> u64 {
+        self.absent_in(resource, instant, instant.saturating_add(1))
+    }
+
+    /// What is absent of a resource from an instant to another, over time.
+    pub fn absent_in(&self, resource: u32, from: u32, until: u32) -> u64 {
+        let mut sum: u64 = 0;
+        for absence in &self.absences {
+            if absence.resource == resource {
+                let first = absence.from.max(from);
+                let time = absence.until.min(until).saturating_sub(first) as u64;
+                sum = sum.saturating_add(time.saturating_mul(absence.amount as u64));
+            }
+        }
+        sum
+    }
+
     /// How much of a resource an activity leaves to others.
     pub fn room(&self, activity: u32, resource: u32) -> u32 {
         self.capacity(resource)
@@ -222,12 +254,12 @@ impl Model {
         narrow(self.orders.len())
     }
 
-    /// Whether a link is an arc. If not, it leads to the makespan.
+    /// Whether a link is an arc. If not, it leads to the cost.
     pub fn is_arc(&self, place: u32) -> bool {
         place < self.arcs
     }
 
-    /// The quantity of the makespan.
+    /// The quantity of the cost.
     pub fn end(&self) -> u32 {
         self.count
     }
@@ -237,7 +269,7 @@ impl Model {
         self.count.wrapping_add(1).wrapping_add(order)
     }
 
-    /// The order of a quantity behind the makespan.
+    /// The order of a quantity behind the cost.
     pub fn order_of(&self, quantity: u32) -> u32 {
         quantity.wrapping_sub(self.count).wrapping_sub(1)
     }

@@ -1,14 +1,15 @@
-//! How much of each resource is in use by the parts of activities that are fixed.
+//! How much of each resource is absent, or in use by the parts of activities that are fixed.
 
 use crate::lists::{at, put};
 use crate::model::Model;
+use plan_kernel::Absence;
 use std::alloc::{AllocError, Global};
 
 /// The greatest number of instants, over all resources, for which use is counted.
 pub const MOST_CELLS: u64 = 4_000_000;
 
-/// How much of each resource is in use at each instant by the fixed parts of activities: those
-/// between their latest start and their earliest end.
+/// How much of each resource is absent at each instant, or in use by the fixed parts of activities:
+/// those between their latest start and their earliest end.
 #[derive(Drop)]
 pub struct Parts {
     horizon: u32,
@@ -18,16 +19,20 @@ pub struct Parts {
 }
 
 impl Parts {
-    /// Nothing in use before a horizon.
+    /// Nothing in use before a horizon beside what is absent.
     pub fn new(alloc: Global, model: &Model, horizon: u32) -> Result<Parts, AllocError> {
         let cells = (horizon as u64).saturating_mul(model.kinds as u64);
         let cells = if cells <= MOST_CELLS { cells } else { 0 };
-        Ok(Parts {
+        let mut parts = Parts {
             horizon,
             used: vec![in alloc; 0; cells as usize]?,
             from: vec![in alloc; 0; model.durations.len()]?,
             to: vec![in alloc; 0; model.durations.len()]?,
-        })
+        };
+        for absence in &model.absences {
+            parts.add_absence(*absence);
+        }
+        Ok(parts)
     }
 
     /// Whether use is counted at all instants.
@@ -35,13 +40,13 @@ impl Parts {
         self.horizon == 0 || !self.used.is_empty()
     }
 
-    /// How much of a resource is in use at an instant.
+    /// How much of a resource is absent or in use at an instant.
     pub fn at(&self, resource: u32, instant: u32) -> u32 {
         let row = resource.wrapping_mul(self.horizon);
         at(&self.used, row.wrapping_add(instant))
     }
 
-    /// How much of a resource is in use at each instant from one to another.
+    /// How much of a resource is absent or in use at each instant from one to another.
     pub fn slice(&self, resource: u32, from: u32, to: u32) -> &[u32] {
         let row = resource.wrapping_mul(self.horizon) as usize;
         let first = row.saturating_add(from as usize);
@@ -77,6 +82,14 @@ impl Parts {
             for cell in &mut self.used[first..behind] {
                 *cell = cell.wrapping_add(amount);
             }
+        }
+    }
+
+    // Adds what an absence takes before the horizon.
+    fn add_absence(&mut self, absence: Absence) {
+        let until = absence.until.min(self.horizon);
+        if absence.from < until {
+            self.add(absence.resource, absence.from, until, absence.amount);
         }
     }
 

@@ -1,7 +1,7 @@
 //! Searches that start from a schedule and can be continued, each time for some conflicts.
 
 ghost use Rattle.std.specs.Prelude.{◌≡◌, ◌≤◌, IfOk};
-ghost use Rattle.plan_kernel.specs.Inputs as inputs;
+ghost use Rattle.plan_kernel.specs.Plans.{IsPlain};
 ghost use Rattle.plan_solve.specs.Progress.{HearsNothing, HearsTruth};
 ghost use Rattle.plan_solve.specs.Sessions.{IsSessionOf};
 ghost use Rattle.plan_solve.specs.Solutions.{IsLowerBound};
@@ -57,8 +57,7 @@ fn narrowed(alloc: Global, starts: &[u64]) -> Result<Vec<u32>, AllocError> {
 
 // A kernel that knows starts.
 fn kernel_of<S: Solvable>(alloc: Global, source: &S, starts: &[u64]) -> Result<Kernel, AllocError>
-    ensures { IfOk result (λ kernel.
-        inputs.problem_of kernel.known.input ≡ S.problem source.now) }
+    ensures { IfOk result (λ kernel. IsPlain kernel.known.input (S.problem source.now)) }
 {
     let mut kernel = Kernel::new(alloc, source.input(alloc)?)?;
     let _ = kernel.lower(narrowed(alloc, starts)?);
@@ -66,8 +65,9 @@ fn kernel_of<S: Solvable>(alloc: Global, source: &S, starts: &[u64]) -> Result<K
 }
 
 // The greater of two lower bounds: a simple one and the kernel's.
+#[tactic(auto, using(crate::proofs::ProgressLemmas::greater_lower))]
 fn lower_bound<S: Solvable>(source: &S, kernel: &Kernel, simple: u64) -> u64
-    requires problem { inputs.problem_of kernel.now.known.input ≡ S.problem source.now }
+    requires problem { IsPlain kernel.now.known.input (S.problem source.now) }
     requires simple { IsLowerBound (S.problem source.now) simple }
     ensures lower { IsLowerBound (S.problem source.now) result }
     ensures no_lower { simple ≤ result }
@@ -83,7 +83,7 @@ fn tell<S: Solvable, W: Watcher>(
     simple: u64,
     conflicts: u64,
 ) -> bool
-    requires problem { inputs.problem_of kernel.now.known.input ≡ S.problem source.now }
+    requires problem { IsPlain kernel.now.known.input (S.problem source.now) }
     requires simple { IsLowerBound (S.problem source.now) simple }
     ensures { HearsTruth (S.problem source.now) conflicts
         (W.was_told watcher.old) (W.was_told watcher.new) }
@@ -120,9 +120,9 @@ fn log_bound(prover: &mut Prover) -> Result<(), AllocError>
     Ok(())
 }
 
-// Searches until a clause is false. `None` if nothing is left to search for, or the watcher ends
-// it.
-fn next_clash<W: Watcher>(
+/// Searches until a clause is false. `None` if nothing is left to search for, or the watcher ends
+/// it.
+pub fn next_clash<W: Watcher>(
     alloc: Global,
     search: &mut Search,
     watcher: &mut W,
@@ -151,8 +151,7 @@ fn deriving_prover<S: Solvable>(
     starts: &[u64],
     is_logged: bool,
 ) -> Result<Prover, AllocError>
-    ensures { IfOk result (λ prover.
-        inputs.problem_of prover.kernel.known.input ≡ S.problem source.now) }
+    ensures { IfOk result (λ prover. IsPlain prover.kernel.known.input (S.problem source.now)) }
 {
     let kernel = kernel_of(alloc, source, starts)?;
     let mut prover = prover_of(alloc, kernel, is_logged)?;

@@ -1,9 +1,9 @@
 //! The trait of problems that can be solved.
 
-ghost use Rattle.std.specs.Prelude.{◌≡◌, IfOk, IfSome};
+ghost use Rattle.std.specs.Prelude.{IfOk, IfSome};
 ghost use Rattle.plan_sgs.specs.Problem.{Problem};
 ghost use Rattle.plan_sgs.specs.declared.schedule.Schedule.{Schedule};
-ghost use Rattle.plan_kernel.specs.Inputs as inputs;
+ghost use Rattle.plan_kernel.specs.Plans.{IsPlain};
 ghost use Rattle.plan_solve.specs.Solutions.{IsLowerBound};
 
 use plan_kernel::Input;
@@ -20,7 +20,7 @@ pub trait Solvable {
 
     /// Returns the numbers of the problem, with the pairs of activities that can't overlap.
     fn input(&self, alloc: Global) -> Result<Input, AllocError>
-        ensures { IfOk result (λ input. inputs.problem_of input ≡ problem self.now) };
+        ensures { IfOk result (λ input. IsPlain input (problem self.now)) };
 
     /// Returns the shortest schedule of the priority rules.
     fn by_rules(&self, alloc: Global) -> Result<Schedule, AllocError>

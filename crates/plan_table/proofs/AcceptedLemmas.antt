@@ -18,10 +18,10 @@ use Rattle.plan_table.specs.Overrides.{Override, given, or_row, overrides_checke
 use Rattle.plan_table.specs.Predecessors.{Label}
 use Rattle.plan_table.specs.Listing.{known_capacity, or_none, resource_by, resource_read, resources_at, rows_under, table_in}
 use Rattle.plan_table.specs.Acceptance.{KeepsLists}
-use Rattle.plan_table.specs.Settlement.{AreLimited, Body, cell_of, gives_capacity, has_capacity, header, ids_from, ids_place, is_capacities, is_given, is_place, settled}
+use Rattle.plan_table.specs.Settlement.{AreLimited, Body, cell_of, gives_capacity, has_capacity, header, ids_from, ids_place, is_capacities, is_given, is_place, settled, successors_checked}
 use Rattle.plan_table.specs.Table.{Resource, Table}
 use Rattle.plan_table.proofs.LimitLemmas.{check_ok, push_length, same_ok, then_ok}
-use Rattle.plan_table.proofs.SettlementLemmas.{heads_stay}
+use Rattle.plan_table.proofs.SettlementLemmas.{heads_stay, none_are_successors}
 
 -- ---- the place of the ids
 
@@ -34,7 +34,7 @@ later_columns : (place k : ℕ) (heads : List Head) → place < k → IdsElsewhe
 later_columns place k [] past = tt
 later_columns place k (head ∷ heads) past = ((λ e. ne_eqb place k (λ is. omega (arith, is, past))), later_columns place (k + 1) heads (omega (arith, past)))
 
-place_range : (k place : ℕ) (heads : List Head) → place_from columns.Id k heads ≡ Some place → k ≤ place
+pub place_range : (k place : ℕ) (heads : List Head) → place_from columns.Id k heads ≡ Some place → k ≤ place
 place_range k place [] is = absurd (cc)
 place_range k place (head ∷ heads) is = by_kind (place_range (k + 1) place heads) (same_kind columns.Id head.column) is
   where
@@ -314,8 +314,12 @@ keeps_lists overrides first rows heads t read sound is =
     then_ok (entries_in heads rows) _ t is (λ e entries is_rest.
     then_ok (overrides_checked heads overrides) _ t is_rest (λ u checked is_rest.
     then_ok (resources_at overrides (or_none e.capacities) [] heads) _ t is_rest (λ rs resources is_last.
-    let stay : settled overrides rows heads ≡ heads = heads_stay (body_with overrides rows (ids_place overrides heads)) [] 0 heads (limited overrides heads rows e rs entries resources) in
+    let all = limited overrides heads rows e rs entries resources in
+    let stay : settled overrides rows heads ≡ heads = heads_stay (body_with overrides rows (ids_place overrides heads)) [] 0 heads all in
+    let plain : successors_checked overrides rows heads ≡ Ok tt = none_are_successors (body_with overrides rows (ids_place overrides heads)) 0 heads all in
     let read_header : header overrides first rows ≡ Ok heads =
-    ap (λ (r : Result (List Head) Fault). r >>= λ hs. heads_checked first.line (settled overrides rows hs) >>= λ v. Ok (settled overrides rows hs)) read
-    ∙ ap (λ (hs : List Head). heads_checked first.line hs >>= λ v. Ok hs) stay ∙ ap (λ (r : Result (Unit {0}) Fault). r >>= λ v. Ok heads) sound in
+    ap (λ (r : Result (List Head) Fault). r >>= λ hs. heads_checked first.line (settled overrides rows hs) >>= λ v. successors_checked overrides rows hs >>= λ w. Ok (settled overrides rows hs)) read
+    ∙ ap (λ (hs : List Head). heads_checked first.line hs >>= λ v. successors_checked overrides rows heads >>= λ w. Ok hs) stay
+    ∙ ap (λ (r : Result (Unit {0}) Fault). r >>= λ v. successors_checked overrides rows heads >>= λ w. Ok heads) sound
+    ∙ ap (λ (r : Result (Unit {0}) Fault). r >>= λ w. Ok heads) plain in
     ap (λ (r : Result (List Head) Fault). r >>= λ hs. rows_under overrides hs rows) read_header ∙ is)))

@@ -1,14 +1,17 @@
 -- The ids of the activities of a cycle, and what a table is refused for.
-use Rattle.std.proofs.Common.{◌≡◌, inl, ℕ, zero, suc, ◌≤◌, ◌<◌, List, [], ◌∷◌, length, map, get_or, refl, sym, ap, arith}
+use Rattle.std.proofs.Common.{◌≡◌, inl, inr, Ok, ℕ, zero, suc, ◌≤◌, ◌<◌, List, [], ◌∷◌, length, map, get_or, refl, sym, ap, arith}
 use Rattle.std.specs.String.{string_bytes}
 use Rattle.plan_table.specs.declared.table.Activity as declared
 use Rattle.plan_table.specs.declared.fault.ReadError.{ReadError}
 use Rattle.plan_table.specs.declared.fault.ReadError.TheVariants as errors
 use Rattle.plan_table.specs.Reading.{Fails}
-use Rattle.plan_table.specs.Table.{activity_of}
+use Rattle.plan_net.specs.Limits.{IsSound}
+use Rattle.plan_table.specs.Jobs.{network_of, table_jobs}
+use Rattle.plan_table.specs.Needs.{table_fits}
+use Rattle.plan_table.specs.Table.{Table, activity_of}
 use Rattle.plan_table.specs.Listing.{table_read_with}
 use Rattle.plan_table.specs.Overrides.{Override}
-use Rattle.plan_table.specs.Refused.{id_from, IsRefusedWith}
+use Rattle.plan_table.specs.Refused.{id_from, IsCyclic, IsRefusedWith}
 
 -- the id of the activity at a place
 pub id_there : (xs : List declared.Activity) (k : ℕ) (a : declared.Activity) → k < length xs → a ≡ get_or xs k a → id_from (map activity_of xs) k ≡ string_bytes a.id
@@ -25,3 +28,13 @@ no_id (x ∷ xs) (suc k) past = no_id xs k (omega (arith, past))
 pub refused_first : (overrides : List Override) (text : List ℕ) (e : ReadError) → Fails e (table_read_with overrides text) → IsRefusedWith overrides text e
 refused_first overrides text errors.Memory h = tt
 refused_first overrides text (errors.Fault f) h = inl h
+
+-- one that is read is refused for a cycle, or else for a need
+pub refused_cycle : (overrides : List Override) (text : List ℕ) (t : Table) (e : ReadError) → table_read_with overrides text ≡ Ok t → IsCyclic t e → IsRefusedWith overrides text e
+refused_cycle overrides text t errors.Memory read h = tt
+refused_cycle overrides text t (errors.Fault f) read h = inr (t, read, inl h)
+
+pub refused_need : (overrides : List Override) (text : List ℕ) (t : Table) (e : ReadError) → table_read_with overrides text ≡ Ok t → IsSound (network_of (table_jobs t)) →
+    Fails e (table_fits t) → IsRefusedWith overrides text e
+refused_need overrides text t errors.Memory read sound h = tt
+refused_need overrides text t (errors.Fault f) read sound h = inr (t, read, inr (sound, h))

@@ -18,6 +18,7 @@ pub mod LimitLemmas
 pub mod SettlementLemmas
 pub mod TableLimitLemmas
 pub mod AcceptedLemmas
+pub mod IdLemmas
 pub mod CycleLemmas
 pub mod TrimLemmas
 pub mod NameLemmas

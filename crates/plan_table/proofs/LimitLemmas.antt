@@ -19,7 +19,7 @@ use Rattle.plan_table.specs.Csv.{Row}
 use Rattle.plan_table.specs.Durations.{days_in, duration}
 use Rattle.plan_table.specs.Header.{Head, resource_count, resources_in, head_read, heads_at, heads_checked, once, column_of, key_of}
 use Rattle.plan_table.specs.Overrides.{Override}
-use Rattle.plan_table.specs.Settlement.{Body, settled_by, other_column, settled_head, settled_at, settled, ids_place, header}
+use Rattle.plan_table.specs.Settlement.{Body, settled_by, other_column, settled_head, settled_at, settled, ids_place, successors_checked, header}
 use Rattle.plan_table.specs.Rows.{need, cell_read, row_read, activity_read, fresh_activity, id_read, first_cell}
 use Rattle.plan_table.specs.Table.{Activity}
 use Rattle.plan_psplib.specs.Lines.{trim}
@@ -250,10 +250,10 @@ pub activity_draft : (ids before : List Label) (line : ℕ) (id : List ℕ) (hea
     activity_read ids before line id heads cells ≡ Ok b → IsDraft (length ids) (resources_in heads) b
 unfolding activity_read
 activity_draft ids before line id heads cells b e =
-    then_ok (row_read ids before line (fresh_activity id) heads cells) _ b e (λ x is e.
+    then_ok (row_read ids before line (fresh_activity line id) heads cells) _ b e (λ x is e.
     then_ok (check (nat_le (length cells) (length heads)) code.Cells line) _ b e (λ u whole e.
-    let none : IsDraft (length ids) 0 (fresh_activity id) = record { name = record { short = omega arith; trimmed = refl; plain = refl; printable = empty_printable }; duration = omega arith; predecessors = tt; whole = refl; needs = tt } in
-    let draft = row_draft ids before line 0 (fresh_activity id) x heads cells is none in
+    let none : IsDraft (length ids) 0 (fresh_activity line id) = record { name = record { short = omega arith; trimmed = refl; plain = refl; printable = empty_printable }; duration = omega arith; predecessors = tt; whole = refl; needs = tt } in
+    let draft = row_draft ids before line 0 (fresh_activity line id) x heads cells is none in
     subst (λ (y : Activity). IsDraft (length ids) (resources_in heads) y) (same_ok x b e) (more_columns (length ids) (0 + resources_in heads) (resources_in heads) x (omega arith) draft)))
 
 -- ---- the header
@@ -325,8 +325,9 @@ unfolding header
 header_good overrides first rows heads e =
     then_ok (heads_at first.line [] first.cells) _ heads e (λ hs is e.
     then_ok (heads_checked first.line (settled overrides rows hs)) _ heads e (λ u sound e.
+    then_ok (successors_checked overrides rows hs) _ heads e (λ v none e.
     let body : Body = record { overrides = overrides; rows = rows; place = ids_place overrides hs } in
     subst AreHeads (same_ok (settled overrides rows hs) heads e) (record {
       few = few_heads first.line (settled overrides rows hs) u sound;
       names = settled_good body [] 0 hs tt (heads_good first.line [] first.cells hs is tt);
-    })))
+    }))))

@@ -162,6 +162,9 @@ trim_end-word (c ∷ []) word = ap (λ b. cond b [] (c ∷ [])) (inside_first c 
 trim_end-word (c ∷ d ∷ ds) word =
     ap (before_trimmed c) (trim_end-word (d ∷ ds) (and_parts (is_inside c) (list_all is_inside (d ∷ ds)) word).1)
 
+pub solid_word : (text : List ℕ) → 0 < length text → IsWord text → IsSolid text
+solid_word text some word = record { some = some; end = trim_end-word text word }
+
 pub solid_decimal : (n : ℕ) → n < 1000000000 → IsSolid (decimal n)
 solid_decimal n small = record { some = decimal_nonempty n (omega (arith, small)); end = trim_end-word (decimal n) (word_decimal n small) }
 

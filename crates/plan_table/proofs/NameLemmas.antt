@@ -1,10 +1,10 @@
--- The names that the text of a table gives.
-use Rattle.std.proofs.Common.{◌≡◌, ℕ, ◌+◌, ◌≤◌, ◌<◌, Bool, true, false, List, [], ◌∷◌, ◌++◌, Some, None, length, drop, codes, refl, sym, ap, ◌∙◌, subst, append_assoc, append-nil, arith, cond}
-use Rattle.std.specs.Prelude.{nat_lt}
+-- The ids and names that the text of a table gives.
+use Rattle.std.proofs.Common.{◌≡◌, ℕ, ◌+◌, ◌≤◌, ◌<◌, ◌==◌, Bool, true, false, List, [], ◌∷◌, ◌++◌, Some, None, length, drop, codes, refl, sym, ap, ◌∙◌, subst, append_assoc, append-nil, arith, cond}
+use Rattle.std.specs.Prelude.{nat_lt, not}
 use Rattle.std.specs.List.{AllByRecursion, filter_map, cons_option, position, position_or_len}
 use Rattle.std.specs.Fmt.{decimal}
 use Rattle.std.proofs.Math.Seq.{take-append_seam, drop-append_seam}
-use Rattle.std.proofs.lemmas.Bool.{and_parts, and_from, not-true, not_from_false, lt-ltb, or_parts}
+use Rattle.std.proofs.lemmas.Bool.{and_parts, and_from, not-true, not_from_false, lt-ltb, ltb-true, ne_eqb, or_from, or_parts}
 use Rattle.std.proofs.lemmas.List.{length-append}
 use Rattle.std.proofs.lemmas.List.Elements.{filter_map-append}
 use Rattle.plan_psplib.specs.Lines.{is_blank, numbered_from, trim, trim_start, trim_end, before_trimmed}
@@ -12,19 +12,19 @@ use Rattle.plan_psplib.specs.Numbers.{number}
 use Rattle.plan_psplib.specs.Sections.{begins_with, is_title, information_title, availabilities_title}
 use Rattle.plan_table.specs.Columns.{columns}
 use Rattle.plan_table.specs.Jobs.{table_jobs, capacities_of}
-use Rattle.plan_table.specs.Limits.{IsEntry, IsName, IsSupply, IsTable}
-use Rattle.plan_table.specs.Names.{Name, SaysNames, behind, name_at, name_cut, name_in, name_section, named, numbered_name, activity_key, activity_names_of, resource_key, resource_names_of}
+use Rattle.plan_table.specs.Limits.{IsEntry, IsId, IsName, IsSupply, IsTable, IsWithinLimits}
+use Rattle.plan_table.specs.Names.{Name, SaysIds, SaysNames, behind, name_at, name_cut, name_in, name_section, named, names_behind, numbered_name, activity_key, activity_names_of, id_key, ids_from, resource_key, resource_names_of}
 use Rattle.plan_table.specs.Numbered.{numbered}
 use Rattle.plan_table.specs.ProjectText.{project_text, resource_heads}
 use Rattle.plan_table.specs.Table.{Activity, Resource, Table}
-use Rattle.plan_table.proofs.DigitLemmas.{decimal_first, number-decimal}
-use Rattle.plan_table.proofs.LineLemmas.{is_inside, IsWord, IsSolid, word_decimal, trim_start-word, trim_end-before}
+use Rattle.plan_table.proofs.DigitLemmas.{all_weaker, decimal_first, number-decimal}
+use Rattle.plan_table.proofs.LineLemmas.{is_inside, IsWord, IsSolid, solid_word, word_decimal, trim_start-word, trim_end-before}
 use Rattle.plan_table.proofs.SectionLemmas.{none_begins}
 use Rattle.plan_table.proofs.TextLineLemmas.{rule, head_lines, information_lines, precedence_lines, request_lines, availability_lines}
 use Rattle.plan_table.proofs.RowListLemmas.{no_availabilities}
 use Rattle.plan_table.proofs.HeadLemmas.{head_none_begins, information_none}
 use Rattle.plan_table.proofs.LawLemmas.{IsLaidOut, capacities_row, precedence_none, requests_none, resource_heads_are}
-use Rattle.plan_table.proofs.TableTextLemmas.{name_row, name_rows, resource_row, resource_rows, laid_out_table, rest_is}
+use Rattle.plan_table.proofs.TableTextLemmas.{id_row, id_rows, own_rows, names_rest, name_row, name_rows, resource_row, resource_rows, laid_out_table, rest_is}
 
 -- ---- the section of the names
 
@@ -129,7 +129,7 @@ position_word word rest inside =
     ∙ ap (λ b. cond b (Some (length word)) None) (lt-ltb (length word) (length (word ++ 32 ∷ rest)) (omega (arith, size)))
 
 -- a number, a space and a name
-numbered_line : (j b : ℕ) (name : List ℕ) → j < 1000000000 → IsName (b ∷ name) → name_in (decimal j ++ 32 ∷ b ∷ name) ≡ Some (record { number = j; name = b ∷ name })
+numbered_line : (j b : ℕ) (name : List ℕ) → j < 1000000000 → trim_start (b ∷ name) ≡ b ∷ name → name_in (decimal j ++ 32 ∷ b ∷ name) ≡ Some (record { number = j; name = b ∷ name })
 numbered_line j b name small is =
     let rest = 32 ∷ b ∷ name in
     let d = decimal j in
@@ -137,7 +137,7 @@ numbered_line j b name small is =
     ∙ ap (λ word. numbered_name (number word) (trim_start (drop (length d) (d ++ rest)))) (take-append_seam d rest)
     ∙ ap (λ left. numbered_name (number d) (trim_start left)) (drop-append_seam d rest)
     ∙ ap (λ n. numbered_name n (trim_start (b ∷ name))) (number-decimal j small)
-    ∙ ap (numbered_name (Some j)) (trimmed_start (b ∷ name) is.trimmed)
+    ∙ ap (numbered_name (Some j)) is
 
 trim_start_number : (j : ℕ) (rest : List ℕ) → j < 1000000000 → trim_start (decimal j ++ rest) ≡ decimal j ++ rest
 trim_start_number j rest small =
@@ -145,11 +145,15 @@ trim_start_number j rest small =
     let P : List ℕ → Type 0 = λ text. trim_start (text ++ rest) ≡ text ++ rest in
     subst P (sym d.is) (trim_start-word d.first d.others rest (subst IsWord d.is (word_decimal j small)))
 
--- what stands behind the key of a line
-pub behind_key : (j b : ℕ) (name : List ℕ) → j < 1000000000 → IsName (b ∷ name) → name_in (trim_start (decimal j ++ codes " " ++ (b ∷ name))) ≡ Some (record { number = j; name = b ∷ name })
-behind_key j b name small is =
+-- what stands behind the key of a line, if a name or an id begins with no blank
+behind_start : (j b : ℕ) (name : List ℕ) → j < 1000000000 → trim_start (b ∷ name) ≡ b ∷ name →
+    name_in (trim_start (decimal j ++ codes " " ++ (b ∷ name))) ≡ Some (record { number = j; name = b ∷ name })
+behind_start j b name small is =
     ap (λ text. name_in (trim_start text)) (append_assoc (decimal j) (32 ∷ []) (b ∷ name))
     ∙ ap name_in (trim_start_number j (32 ∷ b ∷ name) small) ∙ numbered_line j b name small is
+
+pub behind_key : (j b : ℕ) (name : List ℕ) → j < 1000000000 → IsName (b ∷ name) → name_in (trim_start (decimal j ++ codes " " ++ (b ∷ name))) ≡ Some (record { number = j; name = b ∷ name })
+behind_key j b name small is = behind_start j b name small (trimmed_start (b ∷ name) is.trimmed)
 
 -- the line of a name as it is read
 abbrev line_text : List ℕ → ℕ → List ℕ → List ℕ
@@ -232,11 +236,108 @@ resources_give_none i (r ∷ rs) h =
     ∙ ap (λ ns. ns ++ gives activity_key (resource_rows (i + 1) rs)) (resource_no_activity i r h.0)
     ∙ resources_give_none (i + 1) rs h.1
 
+-- ---- the lines of the ids
+
+-- no blank is above the space
+above_blanks : (b : ℕ) → nat_lt 32 b ≡ true → is_inside b ≡ true
+above_blanks b e =
+    let high = ltb-true 32 b e in
+    let other : (n : ℕ) → n ≤ 32 → (b == n) ≡ false = λ n low. ne_eqb b n (λ same. omega (arith, same, low, high)) in
+    ap not
+    (or_from _ _
+    (or_from _ _ (or_from _ _ (or_from _ _ (or_from _ _ (other 9 (omega arith)) (other 11 (omega arith))) (other 12 (omega arith))) (other 13 (omega arith))) (other 26 (omega arith)))
+    (other 32 (omega arith)))
+
+id_word : (id : List ℕ) → IsId id → IsWord id
+id_word id is = all_weaker (λ byte. nat_lt 32 byte) is_inside above_blanks id is.bytes
+
+id_line_trimmed : (j b : ℕ) (id : List ℕ) → IsId (b ∷ id) → trim (line_text id_key j (b ∷ id)) ≡ line_text id_key j (b ∷ id)
+id_line_trimmed j b id is = trim_end-before (id_key ++ decimal j ++ codes " ") (b ∷ id) (solid_word (b ∷ id) is.some (id_word (b ∷ id) is))
+
+id_named : (j : ℕ) (id : List ℕ) → j < 1000000000 → IsId id → gives id_key (id_row j id ∷ []) ≡ record { number = j; name = id } ∷ []
+id_named j [] small is = absurd (let some = is.some in omega (arith, some))
+id_named j (b ∷ id) small is =
+    let start = sym (ap trim_start (append-nil (b ∷ id))) ∙ trim_start-word b id [] (id_word (b ∷ id) is) ∙ append-nil (b ∷ id) in
+    one_name id_key (line_text id_key j (b ∷ id)) (record { number = j; name = b ∷ id })
+    (ap (named id_key) (id_line_trimmed j b id is) ∙ behind_start j b id small start)
+
+-- a line of an id gives nothing of another kind
+id_no_name : (j : ℕ) (id : List ℕ) → IsId id → gives activity_key (id_row j id ∷ []) ≡ []
+id_no_name j [] is = absurd (let some = is.some in omega (arith, some))
+id_no_name j (b ∷ id) is = no_name activity_key (line_text id_key j (b ∷ id)) (ap (named activity_key) (id_line_trimmed j b id is))
+
+id_no_resource : (j : ℕ) (id : List ℕ) → IsId id → gives resource_key (id_row j id ∷ []) ≡ []
+id_no_resource j [] is = absurd (let some = is.some in omega (arith, some))
+id_no_resource j (b ∷ id) is = no_name resource_key (line_text id_key j (b ∷ id)) (ap (named resource_key) (id_line_trimmed j b id is))
+
+activity_no_id : (j : ℕ) (name : List ℕ) → IsName name → gives id_key (name_row j name) ≡ []
+activity_no_id j [] is = refl
+activity_no_id j (b ∷ name) is = no_name id_key (line_text activity_key j (b ∷ name)) (ap (named id_key) (activity_line_trimmed j b name is))
+
+resource_no_id : (i : ℕ) (r : Resource) → IsSupply r → gives id_key (resource_row i r.name ∷ []) ≡ []
+resource_no_id i r is = by_name r.name is.name is.named
+  where
+    by_name : (name : List ℕ) → IsName name → 0 < length name → gives id_key (resource_row i name ∷ []) ≡ []
+    by_name [] is some = absurd (omega (arith, some))
+    by_name (b ∷ name) is some = no_name id_key (line_text resource_key i (b ∷ name)) (ap (named id_key) (resource_line_trimmed i b name is))
+
+-- ids in a row
+ids_give : (j : ℕ) (xs : List Activity) → j + length xs ≤ 1000 → AllByRecursion (λ a. IsId a.id) xs →
+    gives id_key (id_rows j xs) ≡ numbered (λ i a. record { number = i; name = a.id } ∷ []) j xs
+ids_give j [] few h = refl
+ids_give j (x ∷ xs) few h =
+    filter_map-append (λ l. named id_key (trim l)) (id_row j x.id ∷ []) (id_rows (j + 1) xs)
+    ∙ ap (λ ns. ns ++ gives id_key (id_rows (j + 1) xs)) (id_named j x.id (omega (arith, few)) h.0)
+    ∙ ap (λ ns. record { number = j; name = x.id } ∷ ns) (ids_give (j + 1) xs (omega (arith, few)) h.1)
+
+-- lines that give nothing of a kind
+ids_give_none : (key : List ℕ) (j : ℕ) (xs : List Activity) → ((i : ℕ) (id : List ℕ) → IsId id → gives key (id_row i id ∷ []) ≡ []) → AllByRecursion (λ a. IsId a.id) xs →
+    gives key (id_rows j xs) ≡ []
+ids_give_none key j [] none h = refl
+ids_give_none key j (x ∷ xs) none h =
+    filter_map-append (λ l. named key (trim l)) (id_row j x.id ∷ []) (id_rows (j + 1) xs)
+    ∙ ap (λ ns. ns ++ gives key (id_rows (j + 1) xs)) (none j x.id h.0)
+    ∙ ids_give_none key (j + 1) xs none h.1
+
+own_give : (own : Bool) (xs : List Activity) → 2 + length xs ≤ 1000 → (own ≡ true → AllByRecursion (λ a. IsId a.id) xs) → gives id_key (own_rows own xs) ≡ ids_from own xs
+own_give true xs few ids = ids_give 2 xs few (ids refl)
+own_give false xs few ids = refl
+
+own_give_none : (key : List ℕ) (own : Bool) (xs : List Activity) → ((i : ℕ) (id : List ℕ) → IsId id → gives key (id_row i id ∷ []) ≡ []) →
+    (own ≡ true → AllByRecursion (λ a. IsId a.id) xs) → gives key (own_rows own xs) ≡ []
+own_give_none key true xs none ids = ids_give_none key 2 xs none (ids refl)
+own_give_none key false xs none ids = refl
+
+activities_no_ids : (n k j : ℕ) (xs : List Activity) → AllByRecursion (IsEntry n k) xs → gives id_key (name_rows j xs) ≡ []
+activities_no_ids n k j [] h = refl
+activities_no_ids n k j (x ∷ xs) h =
+    filter_map-append (λ l. named id_key (trim l)) (name_row j x.name) (name_rows (j + 1) xs)
+    ∙ ap (λ ns. ns ++ gives id_key (name_rows (j + 1) xs)) (activity_no_id j x.name h.0.name)
+    ∙ activities_no_ids n k (j + 1) xs h.1
+
+resources_no_ids : (i : ℕ) (rs : List Resource) → AllByRecursion IsSupply rs → gives id_key (resource_rows i rs) ≡ []
+resources_no_ids i [] h = refl
+resources_no_ids i (r ∷ rs) h =
+    filter_map-append (λ l. named id_key (trim l)) (resource_row i r.name ∷ []) (resource_rows (i + 1) rs)
+    ∙ ap (λ ns. ns ++ gives id_key (resource_rows (i + 1) rs)) (resource_no_id i r h.0)
+    ∙ resources_no_ids (i + 1) rs h.1
+
+-- two groups of lines
+two_give : (key : List ℕ) (a b : List (List ℕ)) (x y : List Name) → gives key a ≡ x → gives key b ≡ y → gives key (a ++ b) ≡ x ++ y
+two_give key a b x y p q = filter_map-append (λ l. named key (trim l)) a b ∙ ap (λ ns. ns ++ gives key b) p ∙ ap (λ ns. x ++ ns) q
+
 -- three groups of lines
 three_give : (key : List ℕ) (a b c : List (List ℕ)) (x y z : List Name) → gives key a ≡ x → gives key b ≡ y → gives key c ≡ z → gives key (a ++ (b ++ c)) ≡ x ++ (y ++ z)
 three_give key a b c x y z p q r =
     filter_map-append (λ l. named key (trim l)) a (b ++ c) ∙ ap (λ ns. ns ++ gives key (b ++ c)) p
     ∙ ap (λ ns. x ++ ns) (filter_map-append (λ l. named key (trim l)) b c ∙ ap (λ ns. ns ++ gives key c) q ∙ ap (λ ns. y ++ ns) r)
+
+-- the ids and names behind a key in the text of a table
+said : (key : List ℕ) (t : Table) (limits : IsWithinLimits t) → names_behind key (project_text t) ≡ gives key (names_rest t)
+said key t limits =
+    let p = laid_out_table t limits in
+    let section = section_of_names (project_text t) t p in
+    ap (filter_map (λ line. named key line.text)) section.1 ∙ names_of_lines key section.0 p.rest ∙ ap (gives key) (rest_is t limits)
 
 -- the text of a table names its activities and its resources
 pub names_said : (t : Table) → IsTable t → SaysNames (project_text t) t
@@ -244,19 +345,35 @@ names_said t is =
     let limits = is.limits in
     let rows = limits.rows in
     let few = limits.columns in
-    let p = laid_out_table t limits in
-    let section = section_of_names (project_text t) t p in
+    let own = own_rows t.own_ids t.activities in
     let a = name_rows 2 t.activities in
     let b = resource_rows 1 t.resources in
     let n = length t.activities in
     let k = length t.resources in
     record {
-      activities = ap (filter_map (λ line. named activity_key line.text)) section.1 ∙ names_of_lines activity_key section.0 p.rest ∙ ap (gives activity_key) (rest_is t limits)
-          ∙ three_give activity_key a b (rule ∷ []) (activity_names_of t) [] [] (activities_give n k 2 t.activities (omega (arith, rows)) limits.activities)
-          (resources_give_none 1 t.resources limits.resources) refl
+      activities = said activity_key t limits
+          ∙ two_give activity_key own (a ++ (b ++ rule ∷ [])) [] (activity_names_of t ++ []) (own_give_none activity_key t.own_ids t.activities id_no_name limits.ids)
+          (three_give activity_key a b (rule ∷ []) (activity_names_of t) [] [] (activities_give n k 2 t.activities (omega (arith, rows)) limits.activities)
+          (resources_give_none 1 t.resources limits.resources) refl)
           ∙ append-nil (activity_names_of t);
-      resources = ap (filter_map (λ line. named resource_key line.text)) section.1 ∙ names_of_lines resource_key section.0 p.rest ∙ ap (gives resource_key) (rest_is t limits)
-          ∙ three_give resource_key a b (rule ∷ []) [] (resource_names_of t) [] (activities_give_none n k 2 t.activities limits.activities)
-          (resources_give 1 t.resources (omega (arith, few)) limits.resources) refl
+      resources = said resource_key t limits
+          ∙ two_give resource_key own (a ++ (b ++ rule ∷ [])) [] (resource_names_of t ++ []) (own_give_none resource_key t.own_ids t.activities id_no_resource limits.ids)
+          (three_give resource_key a b (rule ∷ []) [] (resource_names_of t) [] (activities_give_none n k 2 t.activities limits.activities)
+          (resources_give 1 t.resources (omega (arith, few)) limits.resources) refl)
           ∙ append-nil (resource_names_of t);
     }
+
+-- the text of a table has its ids
+pub ids_said : (t : Table) → IsTable t → SaysIds (project_text t) t
+ids_said t is =
+    let limits = is.limits in
+    let rows = limits.rows in
+    let own = own_rows t.own_ids t.activities in
+    let a = name_rows 2 t.activities in
+    let b = resource_rows 1 t.resources in
+    let ids = ids_from t.own_ids t.activities in
+    said id_key t limits
+    ∙ two_give id_key own (a ++ (b ++ rule ∷ [])) ids [] (own_give t.own_ids t.activities (omega (arith, rows)) limits.ids)
+    (three_give id_key a b (rule ∷ []) [] [] [] (activities_no_ids (length t.activities) (length t.resources) 2 t.activities limits.activities)
+    (resources_no_ids 1 t.resources limits.resources) refl)
+    ∙ append-nil ids

@@ -1,4 +1,4 @@
--- A line of a name changes nothing of the project that a text says.
+-- A line of an id or a name changes nothing of the project that a text says.
 use Rattle.std.proofs.Common.{◌≡◌, ℕ, ◌+◌, ◌&&◌, ◌||◌, Bool, true, false, List, [], ◌∷◌, ◌++◌, Option, Some, None, length, map, drop, codes, refl, sym, ap, ◌∙◌, subst, append_assoc, cond}
 use Rattle.std.specs.Prelude.{not, nat_eq}
 use Rattle.std.specs.List.{flat_map}
@@ -142,15 +142,16 @@ sections_past wanted none ls ks back h j k =
     let b = section_past wanted ks back k (none_wanted wanted none ks j) in
     ap texts a.1 ∙ section_moved wanted a.0 b.0 back ∙ sym (ap texts b.1)
 
--- a line of a name is no title
+-- a line of an id or a name is no title
 name_no_title : (text : List ℕ) → is_name_line text ≡ true → is_title text ≡ false
 name_no_title [] h = refl
-name_no_title (b ∷ bs) h = by_first (nat_eq 110 b) (nat_eq 114 b) _ _ refl refl h
+name_no_title (b ∷ bs) h = by_first (nat_eq 110 b) (nat_eq 114 b) (nat_eq 105 b) _ _ _ refl refl refl h
   where
-    by_first : (x y p q : Bool) → nat_eq 110 b ≡ x → nat_eq 114 b ≡ y → (x && p || y && q) ≡ true → is_title (b ∷ bs) ≡ false
-    by_first true y p q e f h = subst (λ c. is_title (c ∷ bs) ≡ false) (eqb-true 110 b e) refl
-    by_first false true p q e f h = subst (λ c. is_title (c ∷ bs) ≡ false) (eqb-true 114 b f) refl
-    by_first false false p q e f h = absurd (cc)
+    by_first : (x y z p q r : Bool) → nat_eq 110 b ≡ x → nat_eq 114 b ≡ y → nat_eq 105 b ≡ z → (x && p || y && q || z && r) ≡ true → is_title (b ∷ bs) ≡ false
+    by_first true y z p q r e f g h = subst (λ c. is_title (c ∷ bs) ≡ false) (eqb-true 110 b e) refl
+    by_first false true z p q r e f g h = subst (λ c. is_title (c ∷ bs) ≡ false) (eqb-true 114 b f) refl
+    by_first false false true p q r e f g h = subst (λ c. is_title (c ∷ bs) ≡ false) (eqb-true 105 b g) refl
+    by_first false false false p q r e f g h = absurd (cc)
 
 -- the first letters of an information title
 letters : (text : List ℕ) → begins_with text information_title ≡ true → (rest : List ℕ) × (text ≡ 80 ∷ 82 ∷ 79 ∷ rest)

@@ -11,3 +11,9 @@ pub four_pieces : (text one two three four a b c d : List ℕ) → one ≡ text 
 four_pieces text one two three four a b c d first second third fourth =
     two_pieces text three four (a ++ b ++ c) d
     (two_pieces text two three (a ++ b) c (two_pieces text one two a b first second) third) fourth
+
+-- five pieces
+pub five_pieces : (text one two three four five a b c d e : List ℕ) → one ≡ text ++ a → two ≡ one ++ b → three ≡ two ++ c → four ≡ three ++ d →
+    five ≡ four ++ e → five ≡ text ++ (a ++ b ++ c ++ d ++ e)
+five_pieces text one two three four five a b c d e first second third fourth fifth =
+    two_pieces text four five (a ++ b ++ c ++ d) e (four_pieces text one two three four a b c d first second third fourth) fifth

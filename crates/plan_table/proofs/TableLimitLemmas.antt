@@ -20,6 +20,7 @@ use Rattle.plan_table.specs.Listing.{known_capacity, resource_by, resource_read,
 use Rattle.plan_table.specs.Predecessors.{Label}
 use Rattle.plan_table.specs.Settlement.{header}
 use Rattle.plan_table.specs.Table.{Activity, Resource, Table}
+use Rattle.plan_table.proofs.IdLemmas.{own_words}
 use Rattle.plan_table.proofs.LimitLemmas.{then_ok, same_ok, check_ok, all_push, push_length, amount_small, IsDraft, IsHeader, activity_draft, header_good}
 
 -- ---- capacities
@@ -308,10 +309,11 @@ rows_good overrides (first ∷ rows) t is =
     let total = g.total in
     let limit = g.limit in
     let size : resources_in heads ≡ length rs = let n = supplies.1 in omega (arith, n) in
-    subst IsWithinLimits (same_ok (record { activities = e.activities; resources = rs }) t is) (record {
+    subst IsWithinLimits (same_ok (record { own_ids = is_some (id_place heads); activities = e.activities; resources = rs }) t is) (record {
       rows = g.few;
       columns = omega (arith, size, columns);
       activities = entries_are (length all.ids) (resources_in heads) (length e.activities) (length rs) e.activities all.size size g.activities;
+      ids = own_words heads rows e entries;
       resources = supplies.0;
       total = omega (arith, total, limit);
     })))))

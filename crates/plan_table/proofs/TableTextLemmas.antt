@@ -1,16 +1,17 @@
 -- The text of a table within the limits.
-use Rattle.std.proofs.Common.{◌≡◌, ℕ, ◌+◌, ◌≤◌, ◌<◌, true, List, [], ◌∷◌, ◌++◌, length, codes, refl, sym, ap, ◌∙◌, subst, append_assoc, append-nil, arith}
+use Rattle.std.proofs.Common.{◌≡◌, ℕ, ◌+◌, ◌≤◌, ◌<◌, Bool, true, false, cond, List, [], ◌∷◌, ◌++◌, length, codes, refl, sym, ap, ◌∙◌, subst, append_assoc, append-nil, arith}
+use Rattle.std.specs.Prelude.{nat_lt}
 use Rattle.std.specs.List.{AllByRecursion, list_all}
 use Rattle.std.specs.Fmt.{decimal}
-use Rattle.std.proofs.lemmas.Bool.{and_from, le-leb, leb-true}
+use Rattle.std.proofs.lemmas.Bool.{and_from, le-leb, leb-true, ltb-true}
 use Rattle.std.proofs.lemmas.List.Folds.{list_all-append}
 use Rattle.plan_psplib.specs.Lines.{raw_lines}
 use Rattle.plan_psplib.specs.Project.{SaysProject}
 use Rattle.plan_table.specs.Numbered.{numbered}
 use Rattle.plan_table.specs.Table.{Activity, Resource, Table}
 use Rattle.plan_table.specs.Jobs.{Job, table_jobs, capacities_of, project_of}
-use Rattle.plan_table.specs.Limits.{IsEntry, IsSupply, IsWithinLimits, IsTable}
-use Rattle.plan_table.specs.ProjectText.{resource_head, resource_heads, rule_line, head_text, front_text, sections_text, name_line, name_line_of, resource_line, names_text, horizon_of, project_text}
+use Rattle.plan_table.specs.Limits.{IsEntry, IsId, IsSupply, IsWithinLimits, IsTable}
+use Rattle.plan_table.specs.ProjectText.{resource_head, resource_heads, rule_line, head_text, front_text, sections_text, id_line, id_lines, name_line, name_line_of, resource_line, names_text, horizon_of, project_text}
 use Rattle.plan_table.proofs.DigitLemmas.{all_weaker}
 use Rattle.plan_table.proofs.LineLemmas.{is_plain, IsPlain, plain_append, plain_decimal}
 use Rattle.plan_table.proofs.JobLemmas.{jobs_count}
@@ -98,6 +99,28 @@ resource_names_bytes i (r ∷ rs) few h =
     bytes_append (resource_line i r) (numbered resource_line (i + 1) rs) (resource_line_bytes i r (omega (arith, few)) h.0.name.plain)
     (resource_names_bytes (i + 1) rs (omega (arith, few)) h.1)
 
+id_line_bytes : (j : ℕ) (a : Activity) → j < 1000000000 → IsPlain a.id → HasBytes (id_line j a)
+unfolding id_line
+id_line_bytes j a small plain =
+    bytes_append (codes "id " ++ decimal j ++ codes " " ++ a.id) (codes "\n")
+    (bytes_append (codes "id " ++ decimal j ++ codes " ") a.id
+    (bytes_append (codes "id " ++ decimal j) (codes " ") (bytes_append (codes "id ") (decimal j) refl (plain_bytes (decimal j) (plain_decimal j small))) refl)
+    (plain_bytes a.id plain)) refl
+
+-- an id has no control character
+id_plain : (id : List ℕ) → IsId id → IsPlain id
+id_plain id is = all_weaker (λ byte. nat_lt 32 byte) is_plain (λ b e. le-leb 32 b (let low = ltb-true 32 b e in omega (arith, low))) id is.bytes
+
+ids_bytes : (j : ℕ) (xs : List Activity) → j + length xs ≤ 1000 → AllByRecursion (λ a. IsId a.id) xs → HasBytes (numbered id_line j xs)
+ids_bytes j [] few h = refl
+ids_bytes j (x ∷ xs) few h =
+    bytes_append (id_line j x) (numbered id_line (j + 1) xs) (id_line_bytes j x (omega (arith, few)) (id_plain x.id h.0))
+    (ids_bytes (j + 1) xs (omega (arith, few)) h.1)
+
+id_lines_bytes : (own : Bool) (xs : List Activity) → 2 + length xs ≤ 1000 → (own ≡ true → AllByRecursion (λ a. IsId a.id) xs) → HasBytes (id_lines own xs)
+id_lines_bytes true xs few ids = ids_bytes 2 xs few (ids refl)
+id_lines_bytes false xs few ids = refl
+
 names_bytes : (t : Table) → IsWithinLimits t → HasBytes (names_text t)
 unfolding names_text
 names_bytes t limits =
@@ -105,9 +128,11 @@ names_bytes t limits =
     let columns = limits.columns in
     let a = activity_names_bytes (length t.activities) (length t.resources) 2 t.activities (omega (arith, rows)) limits.activities in
     let b = resource_names_bytes 1 t.resources (omega (arith, columns)) limits.resources in
-    bytes_append (codes "PROJECT INFORMATION:\n" ++ numbered name_line 2 t.activities ++ numbered resource_line 1 t.resources) rule_line
-    (bytes_append (codes "PROJECT INFORMATION:\n" ++ numbered name_line 2 t.activities) (numbered resource_line 1 t.resources)
-    (bytes_append (codes "PROJECT INFORMATION:\n") (numbered name_line 2 t.activities) refl a) b) refl
+    let c = id_lines_bytes t.own_ids t.activities (omega (arith, rows)) limits.ids in
+    let front = codes "PROJECT INFORMATION:\n" ++ id_lines t.own_ids t.activities in
+    bytes_append (front ++ numbered name_line 2 t.activities ++ numbered resource_line 1 t.resources) rule_line
+    (bytes_append (front ++ numbered name_line 2 t.activities) (numbered resource_line 1 t.resources)
+    (bytes_append front (numbered name_line 2 t.activities) (bytes_append (codes "PROJECT INFORMATION:\n") (id_lines t.own_ids t.activities) refl c) a) b) refl
 
 -- ---- the text as lines
 
@@ -139,9 +164,27 @@ resource_row i name = codes "resource " ++ decimal i ++ codes " " ++ name
 abbrev pub resource_rows : ℕ → List Resource → List (List ℕ)
 resource_rows i rs = numbered (λ i r. resource_row i r.name ∷ []) i rs
 
+-- the line of an activity's id
+abbrev pub id_row : ℕ → List ℕ → List ℕ
+id_row j id = codes "id " ++ decimal j ++ codes " " ++ id
+
+abbrev pub id_rows : ℕ → List Activity → List (List ℕ)
+id_rows j xs = numbered (λ i a. id_row i a.id ∷ []) j xs
+
+abbrev pub own_rows : Bool → List Activity → List (List ℕ)
+own_rows own xs = cond own (id_rows 2 xs) []
+
 -- the lines behind the title of the names
 abbrev pub names_rest : Table → List (List ℕ)
-names_rest t = name_rows 2 t.activities ++ (resource_rows 1 t.resources ++ rule ∷ [])
+names_rest t = own_rows t.own_ids t.activities ++ (name_rows 2 t.activities ++ (resource_rows 1 t.resources ++ rule ∷ []))
+
+id_line_is : (j : ℕ) (a : Activity) → id_line j a ≡ id_row j a.id ++ 10 ∷ []
+unfolding id_line
+id_line_is j a = refl
+
+id_lines_are : (own : Bool) (xs : List Activity) → IsLines (id_lines own xs) (own_rows own xs)
+id_lines_are true xs = numbered_lines id_line (λ i a. id_row i a.id) id_line_is 2 xs
+id_lines_are false xs = record { before = λ rest. refl }
 
 name_line_is : (j : ℕ) (name : List ℕ) → IsLines (name_line_of j name) (name_row j name)
 name_line_is j [] = record { before = λ rest. refl }
@@ -156,14 +199,18 @@ resource_line_is : (i : ℕ) (r : Resource) → resource_line i r ≡ resource_r
 unfolding resource_line
 resource_line_is i r = refl
 
+fold_right : {A : Type 0} (a b c d : List A) → (((a ++ b) ++ c) ++ d) ≡ a ++ (b ++ (c ++ d))
+fold_right a b c d = simp append_assoc
+
 names_are_lines : (t : Table) → IsLines (names_text t) (codes "PROJECT INFORMATION:" ∷ names_rest t)
 unfolding names_text
 names_are_lines t =
     let a = name_rows 2 t.activities in
     let b = resource_rows 1 t.resources in
     let title : IsLines (codes "PROJECT INFORMATION:\n") (codes "PROJECT INFORMATION:" ∷ []) = record { before = λ rest. refl } in
-    subst (λ ls. IsLines (names_text t) (codes "PROJECT INFORMATION:" ∷ ls)) (append_assoc a b (rule ∷ []))
-    (lines_both _ _ _ _ (lines_both _ _ _ _ (lines_both _ _ _ _ title (name_lines_are 2 t.activities))
+    let d = own_rows t.own_ids t.activities in
+    subst (λ ls. IsLines (names_text t) (codes "PROJECT INFORMATION:" ∷ ls)) (fold_right d a b (rule ∷ []))
+    (lines_both _ _ _ _ (lines_both _ _ _ _ (lines_both _ _ _ _ (lines_both _ _ _ _ title (id_lines_are t.own_ids t.activities)) (name_lines_are 2 t.activities))
     (numbered_lines resource_line (λ i r. resource_row i r.name) resource_line_is 1 t.resources)) (one_line rule))
 
 name_row_plain : (j : ℕ) (name : List ℕ) → j < 1000000000 → IsPlain name → AllByRecursion IsPlain (name_row j name)
@@ -188,6 +235,18 @@ resource_rows_plain i (r ∷ rs) few h = (
   resource_rows_plain (i + 1) rs (omega (arith, few)) h.1,
 )
 
+id_rows_plain : (j : ℕ) (xs : List Activity) → j + length xs ≤ 1000 → AllByRecursion (λ a. IsId a.id) xs → AllByRecursion IsPlain (id_rows j xs)
+id_rows_plain j [] few h = tt
+id_rows_plain j (x ∷ xs) few h = (
+  plain_append (codes "id " ++ decimal j ++ codes " ") x.id
+      (plain_append (codes "id " ++ decimal j) (codes " ") (plain_append (codes "id ") (decimal j) refl (plain_decimal j (omega (arith, few)))) refl) (id_plain x.id h.0),
+  id_rows_plain (j + 1) xs (omega (arith, few)) h.1,
+)
+
+own_rows_plain : (own : Bool) (xs : List Activity) → 2 + length xs ≤ 1000 → (own ≡ true → AllByRecursion (λ a. IsId a.id) xs) → AllByRecursion IsPlain (own_rows own xs)
+own_rows_plain true xs few ids = id_rows_plain 2 xs few (ids refl)
+own_rows_plain false xs few ids = tt
+
 names_raw : (t : Table) → IsWithinLimits t → raw_lines (names_text t) ≡ codes "PROJECT INFORMATION:" ∷ names_rest t
 names_raw t limits =
     let rows = limits.rows in
@@ -195,9 +254,11 @@ names_raw t limits =
     let ls = codes "PROJECT INFORMATION:" ∷ names_rest t in
     let plain : AllByRecursion IsPlain ls = (
       refl,
-      all_both IsPlain (name_rows 2 t.activities) (resource_rows 1 t.resources ++ rule ∷ [])
+      all_both IsPlain (own_rows t.own_ids t.activities) (name_rows 2 t.activities ++ (resource_rows 1 t.resources ++ rule ∷ []))
+          (own_rows_plain t.own_ids t.activities (omega (arith, rows)) limits.ids)
+          (all_both IsPlain (name_rows 2 t.activities) (resource_rows 1 t.resources ++ rule ∷ [])
           (name_rows_plain (length t.activities) (length t.resources) 2 t.activities (omega (arith, rows)) limits.activities)
-          (all_both IsPlain (resource_rows 1 t.resources) (rule ∷ []) (resource_rows_plain 1 t.resources (omega (arith, few)) limits.resources) (refl, tt)),
+          (all_both IsPlain (resource_rows 1 t.resources) (rule ∷ []) (resource_rows_plain 1 t.resources (omega (arith, few)) limits.resources) (refl, tt))),
     ) in
     ap raw_lines (sym (append-nil (names_text t)) ∙ (names_are_lines t).before []) ∙ raw_lines-before ls [] plain ∙ append-nil ls
 

@@ -19,6 +19,7 @@ pub mod Synonyms
 pub mod Settlement
 pub mod Listing
 pub mod Acceptance
+pub mod Needs
 pub mod Refused
 pub mod ShopTable
 pub mod ShopReading

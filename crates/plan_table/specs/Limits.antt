@@ -1,5 +1,5 @@
 -- The limits of a table.
-use Rattle.std.specs.Prelude.{ℕ, ◌≡◌, ◌+◌, ◌≤◌, ◌<◌, ◌&&◌, Bool, true, List, length, nat_le, not}
+use Rattle.std.specs.Prelude.{ℕ, ◌≡◌, ◌+◌, ◌≤◌, ◌<◌, ◌&&◌, Bool, true, List, length, nat_le, nat_lt, not}
 use Rattle.std.specs.Char.{is_control}
 use Rattle.std.specs.List.{AllByRecursion, list_all, list_any, sum_by}
 use Rattle.std.specs.Str.{chars, is_utf8}
@@ -43,11 +43,17 @@ pub record IsSupply (r : Resource) : Type 0 where
   pub named : 0 < length r.name
   pub capacity : r.capacity ≤ greatest
 
+-- an id is a word: it isn't empty and has no blank and no control character
+pub record IsId (id : List ℕ) : Type 0 where
+  pub some : 0 < length id
+  pub bytes : list_all (λ byte. nat_lt 32 byte) id ≡ true
+
 -- a table within the limits
 pub record IsWithinLimits (t : Table) : Type 0 where
   pub rows : length t.activities ≤ most_rows
   pub columns : length t.resources ≤ most_resources
   pub activities : AllByRecursion (IsEntry (length t.activities) (length t.resources)) t.activities
+  pub ids : t.own_ids ≡ true → AllByRecursion (λ a. IsId a.id) t.activities
   pub resources : AllByRecursion IsSupply t.resources
   pub total : sum_by (λ a. a.duration) t.activities ≤ longest_sum
 

@@ -1,5 +1,5 @@
--- What the text of a table says: its activities and its resources.
-use Rattle.std.specs.Prelude.{ℕ, ◌+◌, if◌then◌else◌, List, [], ◌∷◌, ◌++◌, Option, Some, None, Result, Ok, Err, length, take, nat_le, slice_index_or, count_by}
+-- What the text of a table says: its activities, its resources, and whether the ids are its own.
+use Rattle.std.specs.Prelude.{ℕ, ◌+◌, if◌then◌else◌, List, [], ◌∷◌, ◌++◌, Option, Some, None, Result, Ok, Err, length, take, nat_le, slice_index_or, count_by, is_some}
 use Rattle.std.specs.Str.{is_utf8}
 use Rattle.std.specs.Str.Lossy.{utf8_valid_len}
 use Rattle.plan_psplib.specs.Lines.{is_line_feed}
@@ -11,14 +11,14 @@ use Rattle.plan_table.specs.declared.listing.Listing as declared
 use Rattle.plan_table.specs.Csv.{Row, records_of}
 use Rattle.plan_table.specs.Reading.{Fault, fault, check, ◌>>=◌}
 use Rattle.plan_table.specs.Header.{Head}
-use Rattle.plan_table.specs.Entries.{entries_in, filled_from}
+use Rattle.plan_table.specs.Entries.{entries_in, filled_from, id_place}
 use Rattle.plan_table.specs.Overrides.{Override, given, or_row, overrides_checked}
 use Rattle.plan_table.specs.Settlement.{header}
 use Rattle.plan_table.specs.Table.{Resource, Table, table_of}
 
 -- the same, as the program keeps it
 abbrev pub listing_of : declared.Listing → Table
-listing_of l = table_of l.activities.items l.resources.items
+listing_of l = table_of l.own_ids l.activities.items l.resources.items
 
 -- a capacity that is known
 abbrev pub known_capacity : Option ℕ → List ℕ → Result ℕ Fault
@@ -59,7 +59,7 @@ rows_under overrides heads rows = do
   entries ← entries_in heads rows
   known ← overrides_checked heads overrides
   resources ← resources_at overrides (or_none entries.capacities) [] heads
-  Ok (record { activities = entries.activities; resources = resources })
+  Ok (record { own_ids = is_some (id_place heads); activities = entries.activities; resources = resources })
 
 -- what records say, the first of which is the header, with capacities that override those in them
 unfoldable pub table_in : List Override → List Row → Result Table Fault

@@ -1,14 +1,14 @@
--- The names in a project file: lines in the section behind the availabilities.
-use Rattle.std.specs.Prelude.{◌≡◌, ℕ, ◌==◌, if◌then◌else◌, List, [], ◌∷◌, Option, Some, None, codes, drop, take, length}
+-- The ids and names in a project file: lines in the section behind the availabilities.
+use Rattle.std.specs.Prelude.{◌≡◌, ℕ, ◌==◌, Bool, if◌then◌else◌, List, [], ◌∷◌, Option, Some, None, codes, drop, take, length}
 use Rattle.std.specs.List.{filter_map, find, position}
 use Rattle.plan_table.specs.declared.names.NameLine as declared
 use Rattle.plan_table.specs.Numbered.{numbered}
-use Rattle.plan_table.specs.Table.{Table}
+use Rattle.plan_table.specs.Table.{Activity, Table}
 use Rattle.plan_psplib.specs.Lines.{NumberedLine, lines, is_blank, trim_start}
 use Rattle.plan_psplib.specs.Numbers.{number}
 use Rattle.plan_psplib.specs.Sections.{begins_with, information_title, availabilities_title}
 
--- a name, and the number of what has it
+-- a name or an id, and the number of what has it
 pub record Name : Type 0 where
   pub number : ℕ
   pub name : List ℕ
@@ -56,6 +56,9 @@ activity_key = codes "name "
 abbrev pub resource_key : List ℕ
 resource_key = codes "resource "
 
+abbrev pub id_key : List ℕ
+id_key = codes "id "
+
 -- a number with its name; an empty name is none
 abbrev pub name_at : ℕ → List ℕ → List Name
 name_at n [] = []
@@ -73,6 +76,14 @@ resource_names_of t = numbered (λ i r. record { number = i; name = r.name } ∷
 pub record SaysNames (text : List ℕ) (t : Table) : Type 0 where
   pub activities : names_behind activity_key text ≡ activity_names_of t
   pub resources : names_behind resource_key text ≡ resource_names_of t
+
+-- the ids of the activities of a table; a table without ids of its own has none
+abbrev pub ids_from : Bool → List Activity → List Name
+ids_from own_ids activities = if own_ids then numbered (λ j a. record { number = j; name = a.id } ∷ []) 2 activities else []
+
+-- the ids in a text are those of a table
+abbrev pub SaysIds : List ℕ → Table → Type 0
+SaysIds text t = names_behind id_key text ≡ ids_from t.own_ids t.activities
 
 -- the first name of a number
 abbrev pub first_name : ℕ → List Name → Option Name

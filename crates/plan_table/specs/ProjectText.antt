@@ -1,5 +1,5 @@
--- The `.sm` text of a table, as PSPLIB writes it, with the names behind its sections.
-use Rattle.std.specs.Prelude.{ℕ, ◌+◌, List, [], ◌∷◌, ◌++◌, length, codes}
+-- The `.sm` text of a table, as PSPLIB writes it, with the ids and names behind its sections.
+use Rattle.std.specs.Prelude.{ℕ, ◌+◌, Bool, if◌then◌else◌, List, [], ◌∷◌, ◌++◌, length, codes}
 use Rattle.std.specs.List.{sum_by}
 use Rattle.std.specs.Fmt.{decimal}
 use Rattle.plan_table.specs.Numbered.{numbered}
@@ -93,9 +93,18 @@ name_line j a = name_line_of j a.name
 unfoldable pub resource_line : ℕ → Resource → List ℕ
 resource_line i r = codes "resource " ++ decimal i ++ codes " " ++ r.name ++ codes "\n"
 
--- the section of the names, behind all sections that are read
+-- the line of an activity's id
+unfoldable pub id_line : ℕ → Activity → List ℕ
+id_line j a = codes "id " ++ decimal j ++ codes " " ++ a.id ++ codes "\n"
+
+-- the lines of the ids, if a list has ids of its own
+abbrev pub id_lines : Bool → List Activity → List ℕ
+id_lines own_ids activities = if own_ids then numbered id_line 2 activities else []
+
+-- the section of the ids and names, behind all sections that are read
 unfoldable pub names_text : Table → List ℕ
-names_text t = codes "PROJECT INFORMATION:\n" ++ numbered name_line 2 t.activities ++ numbered resource_line 1 t.resources ++ rule_line
+names_text t = codes "PROJECT INFORMATION:\n" ++ id_lines t.own_ids t.activities ++ numbered name_line 2 t.activities
+    ++ numbered resource_line 1 t.resources ++ rule_line
 
 -- the durations of the activities in all
 abbrev pub horizon_of : List Activity → ℕ

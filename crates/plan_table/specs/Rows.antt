@@ -1,11 +1,11 @@
 -- What a row of a table says: an activity.
-use Rattle.std.specs.Prelude.{ℕ, ◌==◌, ◌||◌, ◌&&◌, Bool, if◌then◌else◌, List, [], ◌∷◌, ◌++◌, Result, Ok, length, drop, not, nat_le, nat_lt}
+use Rattle.std.specs.Prelude.{ℕ, ◌==◌, ◌&&◌, Bool, if◌then◌else◌, List, [], ◌∷◌, ◌++◌, Result, Ok, length, drop, not, nat_le, nat_lt}
 use Rattle.std.specs.List.{list_all, list_any, sum_by}
 use Rattle.std.specs.Str.Lossy.{utf8_lossy}
 use Rattle.plan_table.specs.declared.fault.TableCode.TheVariants as code
 use Rattle.plan_table.specs.declared.header.Column.{Column}
 use Rattle.plan_table.specs.declared.header.Column.TheVariants as columns
-use Rattle.plan_psplib.specs.Lines.{is_blank, trim}
+use Rattle.plan_psplib.specs.Lines.{trim}
 use Rattle.plan_table.specs.Reading.{Fault, fault, check, ◌>>=◌}
 use Rattle.plan_table.specs.Cells.{amount, name, is_separator}
 use Rattle.plan_table.specs.Durations.{duration}
@@ -22,9 +22,9 @@ lead byte = if nat_le 128 byte && nat_lt byte 192 then 0 else 1
 abbrev pub characters : List ℕ → ℕ
 characters text = sum_by lead text
 
--- a byte of an id
+-- a byte of an id: no blank, no control character, and nothing that stands between ids
 abbrev pub is_id_byte : ℕ → Bool
-is_id_byte byte = not (is_blank byte || is_separator byte)
+is_id_byte byte = nat_lt 32 byte && not (is_separator byte)
 
 -- the most characters of an id
 abbrev pub longest_id : ℕ
@@ -69,13 +69,13 @@ row_read ids before line a (head ∷ heads) cells = do
   b ← cell_read ids before line a head.column head.name (trim (first_cell cells))
   row_read ids before line b heads (drop 1 cells)
 
--- an activity of which only the id is known
-abbrev pub fresh_activity : List ℕ → Activity
-fresh_activity id = record { id = utf8_lossy id; name = []; duration = 0; predecessors = []; needs = [] }
+-- an activity of which only the line and the id are known
+abbrev pub fresh_activity : ℕ → List ℕ → Activity
+fresh_activity line id = record { line = line; id = utf8_lossy id; name = []; duration = 0; predecessors = []; needs = [] }
 
 -- the activity of a row, which has no more cells than there are columns
 unfoldable pub activity_read : List Label → List Label → ℕ → List ℕ → List Head → List (List ℕ) → Result Activity Fault
 activity_read ids before line id heads cells = do
-  a ← row_read ids before line (fresh_activity id) heads cells
+  a ← row_read ids before line (fresh_activity line id) heads cells
   whole ← check (nat_le (length cells) (length heads)) code.Cells line
   Ok a

@@ -3,16 +3,17 @@
 use Rattle.std.specs.Prelude.{◌≡◌, ℕ, ◌+◌, ◌==◌, ◌&&◌, ◌||◌, Bool, true, false, if◌then◌else◌, List, [], ◌∷◌, ◌++◌, Option, Some, None, Result, Ok, length, map, drop, not, is_some}
 use Rattle.std.specs.List.{list_any}
 use Rattle.plan_psplib.specs.Lines.{trim}
+use Rattle.plan_table.specs.declared.fault.TableCode.TheVariants as code
 use Rattle.plan_table.specs.declared.header.Column.{Column}
 use Rattle.plan_table.specs.declared.header.Column.TheVariants as columns
 use Rattle.plan_table.specs.declared.settlement.Body as declared
 use Rattle.plan_table.specs.Csv.{Row, row_of}
-use Rattle.plan_table.specs.Reading.{Fault, ◌>>=◌}
+use Rattle.plan_table.specs.Reading.{Fault, fault, ◌>>=◌}
 use Rattle.plan_table.specs.Header.{Head, same_kind, has_kind, heads_at, heads_checked}
 use Rattle.plan_table.specs.Rows.{first_cell}
 use Rattle.plan_table.specs.Entries.{id_of, id_place, is_capacity}
-use Rattle.plan_table.specs.Overrides.{Override, given, or_row, override_of}
-use Rattle.plan_table.specs.Synonyms.{is_note_word, synonym_kind}
+use Rattle.plan_table.specs.Overrides.{Override, given, is_resource_column, or_row, override_of}
+use Rattle.plan_table.specs.Synonyms.{is_note_word, is_successor_word, synonym_kind}
 
 -- what settles columns: the given capacities, the rows behind the header, and where the ids are
 pub record Body : Type 0 where
@@ -116,6 +117,21 @@ settled_at body before k (head ∷ heads) = settled_at body (before ++ settled_h
 abbrev pub settled : List Override → List Row → List Head → List Head
 settled overrides rows heads = settled_at (record { overrides = overrides; rows = rows; place = ids_place overrides heads }) [] 0 heads
 
+-- ---- successors
+
+-- column k is one of successors: its header isn't a known one but a word for them, and it has no
+-- capacity
+abbrev pub gives_successors : Body → ℕ → Head → Bool
+gives_successors body k head = is_resource_column head.column && (is_successor_word head.key && not (has_capacity body k head))
+
+-- no column from column k on is one of successors
+unfoldable pub successors_from : Body → ℕ → List Head → Result (Unit {0}) Fault
+successors_from body k [] = Ok tt
+successors_from body k (head ∷ heads) = if gives_successors body k head then fault code.Successors 0 head.name else successors_from body (k + 1) heads
+
+abbrev pub successors_checked : List Override → List Row → List Head → Result (Unit {0}) Fault
+successors_checked overrides rows heads = successors_from (record { overrides = overrides; rows = rows; place = ids_place overrides heads }) 0 heads
+
 -- ---- the header
 
 -- the settled columns of a list, whose header is the first of its rows
@@ -123,6 +139,7 @@ unfoldable pub header : List Override → Row → List Row → Result (List Head
 header overrides first rows = do
   heads ← heads_at first.line [] first.cells
   sound ← heads_checked first.line (settled overrides rows heads)
+  none ← successors_checked overrides rows heads
   Ok (settled overrides rows heads)
 
 -- ---- the law of lists in which each unknown header has a capacity

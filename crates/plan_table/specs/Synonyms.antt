@@ -143,6 +143,14 @@ note_words =
 abbrev pub is_note_word : List ℕ → Bool
 is_note_word key = list_any (λ word. same_name word key) note_words
 
+-- words for a column of successors, which a list doesn't have: it has predecessors
+abbrev pub successor_words : List (List ℕ)
+successor_words = codes "successors" ∷ codes "nachfolger" ∷ codes "successeurs" ∷ codes "sucesoras" ∷ []
+
+-- a header is a word for a column of successors
+abbrev pub is_successor_word : List ℕ → Bool
+is_successor_word key = list_any (λ word. same_name word key) successor_words
+
 -- the kind of the first of some synonyms with this word
 abbrev pub kind_in : List ℕ → List Synonym → Option Column
 kind_in key [] = None

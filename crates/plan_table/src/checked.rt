@@ -6,10 +6,10 @@ ghost use Rattle.plan_net.specs.Refusals.{IsCycleOrMemory, IsFirstFault};
 ghost use Rattle.plan_net.specs.Successors.{rows_in};
 ghost use Rattle.plan_table.specs.Jobs.{durations_of, job_in, network_of, rows_of, table_jobs};
 ghost use Rattle.plan_table.specs.Limits.{IsWithinLimits, most_rows};
-ghost use Rattle.plan_table.specs.Table.{table_of};
+ghost use Rattle.plan_table.specs.Listing.{listing_of};
 
 use crate::jobs::{Job, capacities, jobs};
-use crate::table::{Activity, Resource};
+use crate::listing::Listing;
 use plan_net::{NetFault, Network};
 use std::alloc::{AllocError, Global};
 
@@ -37,29 +37,23 @@ fn rows(alloc: Global, jobs: &[Job]) -> Result<Vec<Vec<u32>>, AllocError>
 }
 
 // The jobs of a table.
-fn all_jobs(
-    alloc: Global,
-    activities: &[Activity],
-    resources: &[Resource],
-) -> Result<Vec<Job>, AllocError>
-    requires { length activities.now ≤ most_rows }
-    ensures { IfOk result (λ v. map job_in v.items
-        ≡ table_jobs (table_of activities.now resources.now)) }
+fn all_jobs(alloc: Global, listing: &Listing) -> Result<Vec<Job>, AllocError>
+    requires { length listing.now.activities.items ≤ most_rows }
+    ensures { IfOk result (λ v. map job_in v.items ≡ table_jobs (listing_of listing.now)) }
 {
-    let capacities = capacities(alloc, resources)?;
-    jobs(alloc, activities, capacities.as_slice().len())
+    let capacities = capacities(alloc, &listing.resources)?;
+    jobs(alloc, &listing.activities, capacities.as_slice().len())
 }
 
 /// Whether the activities of a table within the limits have no cycle.
-pub fn check(alloc: Global, activities: &[Activity], resources: &[Resource]) -> Result<(), NetFault>
-    requires { IsWithinLimits (table_of activities.now resources.now) }
-    ensures sound { OnOk result
-        (IsSound (network_of (table_jobs (table_of activities.now resources.now)))) }
+pub fn check(alloc: Global, listing: &Listing) -> Result<(), NetFault>
+    requires { IsWithinLimits (listing_of listing.now) }
+    ensures sound { OnOk result (IsSound (network_of (table_jobs (listing_of listing.now)))) }
     ensures refused { IfErr result (IsFirstFault
-        (network_of (table_jobs (table_of activities.now resources.now)))) }
+        (network_of (table_jobs (listing_of listing.now)))) }
     ensures only { IfErr result IsCycleOrMemory }
 {
-    let jobs = all_jobs(alloc, activities, resources)?;
+    let jobs = all_jobs(alloc, listing)?;
     let durations = durations(alloc, &jobs)?;
     let rows = rows(alloc, &jobs)?;
     Network::of_rows(alloc, durations, rows)?;

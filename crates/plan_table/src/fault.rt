@@ -59,6 +59,10 @@ pub enum TableCode {
     NoResource,
     /// T15: an order with more steps than there are machines.
     TooManySteps,
+    /// T16: a column of successors without a capacity.
+    Successors,
+    /// T19: a need above the capacity of its resource; the word is the resource and its capacity.
+    NeedAbove,
 }
 
 /// A check that a table fails: its line, 0 if it has none, and the word that it names.

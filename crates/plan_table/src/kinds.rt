@@ -153,8 +153,8 @@ fn names_instance(alloc: Global, text: &[u8]) -> Result<bool, AllocError>
     }
 }
 
-// Whether a text is a project file, or names an instance of a job shop file.
-fn is_plan_file(alloc: Global, text: &[u8]) -> Result<bool, AllocError>
+/// Whether a text is a project file, or names an instance of a job shop file.
+pub fn is_plan_file(alloc: Global, text: &[u8]) -> Result<bool, AllocError>
     ensures { IfOk result (λ is. spec.Decides is (spec.IsPlanFile text.now)) }
 {
     if is_project_file(alloc, text)? {

@@ -5,7 +5,7 @@ ghost use Rattle.plan_table.specs.Kinds.{KindsAreSingle, ProjectsAreNoLists, Sho
 ghost use Rattle.plan_table.specs.NameLines.{NameLinesChangeNothing};
 ghost use Rattle.plan_table.specs.Settlement.{LimitedColumnsStay};
 
-/// A line of a name in an information section changes nothing of the project that a text says.
+/// A line of an id or a name in an information section changes nothing of the project that a text says.
 pub fn names_change_nothing()
     ensures { NameLinesChangeNothing }
 {}

@@ -15,6 +15,7 @@ mod kinds;
 mod laws;
 mod listing;
 mod names;
+mod needs;
 mod overrides;
 mod predecessors;
 mod reading;
@@ -30,15 +31,24 @@ mod synonyms;
 mod table;
 mod templates;
 
+pub use cells::{same, same_name};
+pub use entries::{cell_at, filled_from, id_place, is_blank_row};
 pub use fault::{ReadError, TableCode, TableFault, TextFault};
+pub use header::{Column, Head, key_of, read_heads, same_kind};
 pub use jobshop::shop_text;
-pub use kinds::{ListKind, list_kind};
+pub use kinds::{ListKind, is_plan_file, list_kind};
 pub use laws::{
     accepted_lists_stay, limited_columns_stay, names_change_nothing, plan_files_are_no_lists,
 };
-pub use names::{NameLine, activity_names, first_name, resource_names};
-pub use overrides::Override;
+pub use listing::read_rows_of;
+pub use names::{NameLine, activity_ids, activity_names, first_name, resource_names};
+pub use overrides::{Override, given};
+pub use predecessors::{Label, number_by};
 pub use reading::{read_table, read_table_with};
+pub use records::Row;
+pub use settlement::{
+    Body, cell_of, gives_capacity, gives_successors, has_capacity, ids_place, is_capacities, settle,
+};
 pub use shop_names::{machine_names, order_names};
 pub use shop_reading::read_shop_table;
 pub use shop_table::{ShopStep, ShopTable};

@@ -10,7 +10,7 @@ ghost use Rattle.plan_table.specs.Reading.{Gives};
 ghost use Rattle.plan_table.specs.Table.{resource_of};
 
 use crate::cells::word_fault;
-use crate::entries::{filled_from, read_entries};
+use crate::entries::{filled_from, id_place, read_entries};
 use crate::fault::{ReadError, TableCode};
 use crate::header::{Column, Head};
 use crate::overrides::{Override, check_overrides, given};
@@ -21,9 +21,10 @@ use plan_psplib::LONGEST_TEXT;
 use std::alloc::Global;
 use std::str;
 
-/// The activities and the resources of a table.
+/// The activities and the resources of a table, and whether it has a column of ids.
 #[derive(Drop)]
 pub struct Listing {
+    pub own_ids: bool,
     pub activities: Vec<Activity>,
     pub resources: Vec<Resource>,
 }
@@ -129,6 +130,7 @@ fn read_rows_under(
     };
     let resources = read_resources(alloc, &capacities, heads)?;
     Ok(Listing {
+        own_ids: id_place(heads).is_some(),
         activities: entries.activities,
         resources,
     })

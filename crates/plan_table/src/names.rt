@@ -1,4 +1,4 @@
-//! The names in a project file.
+//! The ids and names in a project file.
 
 ghost use Rattle.std.specs.Prelude.{◌≡◌, map, IfOk, Option, option_map};
 ghost use Rattle.std.specs.List.{position};
@@ -8,7 +8,7 @@ ghost use Rattle.plan_table.specs.Names as spec;
 use plan_psplib::{Lines, is_blank, number, trim_start};
 use std::alloc::{AllocError, Global};
 
-/// A name, and the number of the activity or the resource that has it.
+/// A name or an id, and the number of the activity or the resource that has it.
 #[derive(Clone, Copy)]
 pub struct NameLine<'a> {
     pub number: u64,
@@ -103,6 +103,15 @@ pub fn activity_names(alloc: Global, text: &[u8]) -> Result<Vec<NameLine<'_>>, A
         ≡ spec.names_behind spec.activity_key text.now) }
 {
     names_behind(alloc, b"name ", text)
+}
+
+/// The ids of activities in a project file, in the order of their lines. The first id of a number
+/// counts.
+pub fn activity_ids(alloc: Global, text: &[u8]) -> Result<Vec<NameLine<'_>>, AllocError>
+    ensures { IfOk result (λ ids. map spec.name_of ids.items
+        ≡ spec.names_behind spec.id_key text.now) }
+{
+    names_behind(alloc, b"id ", text)
 }
 
 /// The names of resources in a project file, in the order of their lines. The first name of a

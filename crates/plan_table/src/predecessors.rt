@@ -85,9 +85,9 @@ fn named(labels: &[Label], word: &[u8]) -> Option<u32>
     None
 }
 
-// The number of the activity with an id, or else of the only one with this name.
+/// The number of the activity with an id, or else of the only one with this name.
 #[tactic(auto, unfolding(crate::specs::Predecessors::number_by))]
-fn number_by(labels: &[Label], word: &[u8]) -> Option<u32>
+pub fn number_by(labels: &[Label], word: &[u8]) -> Option<u32>
     requires { length labels.now ≤ most_rows }
     ensures { result ≡ spec.number_by (map spec.label_of labels.now) word.now }
 {

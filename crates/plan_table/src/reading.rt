@@ -1,16 +1,19 @@
 //! Tables out of texts.
 
 ghost use Rattle.std.specs.Prelude.{◌≡◌, ◌++◌, ◌∷◌, Ok, map, IfOk, IfErr, OnOk};
+ghost use Rattle.plan_net.specs.Limits.{IsSound};
 ghost use Rattle.plan_table.specs.Jobs.{network_of, table_jobs};
 ghost use Rattle.plan_table.specs.Limits.{IsWithinLimits};
 ghost use Rattle.plan_table.specs.Listing.{listing_of, table_read, table_read_with};
+ghost use Rattle.plan_table.specs.Needs.{table_fits};
 ghost use Rattle.plan_table.specs.Overrides.{override_of};
 ghost use Rattle.plan_table.specs.Refused as spec;
-ghost use Rattle.plan_table.specs.Table.{activity_of, table_of};
+ghost use Rattle.plan_table.specs.Table.{activity_of};
 
 use crate::checked::check;
 use crate::fault::{ReadError, TableCode, TableFault};
 use crate::listing::{Listing, read_listing};
+use crate::needs::check_needs;
 use crate::overrides::Override;
 use crate::table::{Activity, Table};
 use plan_net::NetFault;
@@ -67,13 +70,29 @@ fn cycle_fault(alloc: Global, activities: &[Activity], members: &[u32]) -> ReadE
     }
 }
 
+// Checks that the activities of a table have no cycle.
+fn check_cycle(alloc: Global, listing: &Listing) -> Result<(), ReadError>
+    requires { IsWithinLimits (listing_of listing.now) }
+    ensures sound { OnOk result (IsSound (network_of (table_jobs (listing_of listing.now)))) }
+    ensures cycle { IfErr result (spec.IsCyclic (listing_of listing.now)) }
+{
+    match check(alloc, listing) {
+        Ok(()) => Ok(()),
+        Err(NetFault::Cycle(members)) => Err(cycle_fault(alloc, &listing.activities, &members)),
+        Err(_) => Err(ReadError::Memory),
+    }
+}
+
 /// Reads a table: its activities, resources and capacities, or the first check that it fails.
 ///
-/// Activities without a cycle alone make a table; otherwise the fault names the cycle by its ids.
+/// Only activities without a cycle make a table; otherwise the fault names the cycle by its ids (T11).
+/// Behind all other checks a need above its capacity is T19, unless the activity takes no time.
 pub fn read_table(alloc: Global, text: &[u8]) -> Result<Table, ReadError>
     // What is read is what the text says.
     ensures found { IfOk result (λ t. table_read text.now ≡ Ok t) }
-    // Which check is the first that fails, or which cycle there is.
+    // Its needs are at most its capacities.
+    ensures fits { IfOk result (λ t. table_fits t ≡ Ok tt) }
+    // Which check is the first that fails, or which cycle there is, or which need is too high.
     ensures refused { IfErr result (spec.IsRefused text.now) }
 {
     read_table_with(alloc, &[], text)
@@ -85,6 +104,7 @@ pub fn read_table(alloc: Global, text: &[u8]) -> Result<Table, ReadError>
 ///
 /// Overrides are checked behind all rows: T14 if the table doesn't have the resource, T12 (line 0)
 /// if the capacity is above 10,000.
+#[tactic(auto, using(crate::proofs::CycleLemmas::refused_first, crate::proofs::CycleLemmas::refused_cycle, crate::proofs::CycleLemmas::refused_need))]
 pub fn read_table_with(
     alloc: Global,
     overrides: &[Override<'_>],
@@ -93,19 +113,17 @@ pub fn read_table_with(
     // What is read is what the text says with these capacities.
     ensures found { IfOk result (λ t. table_read_with (map override_of overrides.now) text.now
         ≡ Ok t) }
-    // Which check is the first that fails, or which cycle there is.
+    // Its needs are at most its capacities.
+    ensures fits { IfOk result (λ t. table_fits t ≡ Ok tt) }
+    // Which check is the first that fails, or which cycle there is, or which need is too high.
     ensures refused { IfErr result (spec.IsRefusedWith (map override_of overrides.now) text.now) }
 {
-    let Listing {
-        activities,
-        resources,
-    } = read_listing(alloc, overrides, text)?;
-    match check(alloc, &activities, &resources) {
-        Ok(()) => Ok(Table {
-            activities,
-            resources,
-        }),
-        Err(NetFault::Cycle(members)) => Err(cycle_fault(alloc, &activities, &members)),
-        Err(_) => Err(ReadError::Memory),
-    }
+    let listing = read_listing(alloc, overrides, text)?;
+    check_cycle(alloc, &listing)?;
+    check_needs(alloc, &listing)?;
+    Ok(Table {
+        own_ids: listing.own_ids,
+        activities: listing.activities,
+        resources: listing.resources,
+    })
 }

@@ -16,7 +16,7 @@ use crate::fault::{ReadError, TableCode};
 use crate::header::{Column, Head};
 use crate::predecessors::{Label, predecessors};
 use crate::table::Activity;
-use plan_psplib::{is_blank, trim};
+use plan_psplib::trim;
 use std::alloc::{AllocError, Global};
 
 // 1 for the first byte of a character.
@@ -42,7 +42,7 @@ fn characters(text: &[u8]) -> usize
 fn is_id_byte(byte: u8) -> bool
     ensures { result ≡ spec.is_id_byte byte }
 {
-    !(is_blank(byte) || byte == b',' || byte == b';' || byte == b'\n')
+    byte > b' ' && !(byte == b',' || byte == b';' || byte == b'\n')
 }
 
 // Whether each byte can stand in an id.
@@ -158,11 +158,12 @@ pub fn split_first(cells: &[Vec<u8>]) -> (&[u8], &[Vec<u8>])
     }
 }
 
-// An activity of which only the id is known.
-fn fresh(alloc: Global, id: &[u8]) -> Result<Activity, AllocError>
-    ensures { IfOk result (λ a. activity_of a ≡ spec.fresh_activity id.now) }
+// An activity of which only the line and the id are known.
+fn fresh(alloc: Global, line: u64, id: &[u8]) -> Result<Activity, AllocError>
+    ensures { IfOk result (λ a. activity_of a ≡ spec.fresh_activity line id.now) }
 {
     Ok(Activity {
+        line,
         id: String::from_utf8_lossy(alloc, id)?,
         name: String::new(alloc),
         duration: 0,
@@ -184,10 +185,10 @@ fn read_row(
     requires { length ids.now.all.now ≤ most_rows }
     ensures { Gives activity_of result (spec.row_read
         (map label_of ids.now.all.now)
-        (map label_of ids.now.before.now) line (spec.fresh_activity id.now)
+        (map label_of ids.now.before.now) line (spec.fresh_activity line id.now)
         (map head_of heads.now) (map (λ cell. cell.items) cells.now)) }
 {
-    let mut activity = fresh(alloc, id)?;
+    let mut activity = fresh(alloc, line, id)?;
     let mut rest = cells;
     for head in heads {
         let (cell, others) = split_first(rest);

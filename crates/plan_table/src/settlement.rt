@@ -8,13 +8,13 @@ ghost use Rattle.plan_table.specs.Overrides.{override_of};
 ghost use Rattle.plan_table.specs.Reading.{Gives};
 ghost use Rattle.plan_table.specs.Settlement as spec;
 
-use crate::cells::same_name;
+use crate::cells::{same_name, word_fault};
 use crate::entries::{cell_at, id_place};
-use crate::fault::ReadError;
+use crate::fault::{ReadError, TableCode};
 use crate::header::{Column, Head, check_heads, has_kind, read_heads, same_kind};
 use crate::overrides::{Override, given};
 use crate::records::Row;
-use crate::synonyms::{is_note_word, synonym_kind};
+use crate::synonyms::{is_note_word, is_successor_word, synonym_kind};
 use plan_psplib::trim;
 use std::alloc::{AllocError, Global};
 
@@ -26,15 +26,15 @@ pub struct Body<'a> {
     pub place: Option<usize>,
 }
 
-// The cell of column `k` in a row, without the blanks at its ends.
-fn cell_of(row: &Row, k: usize) -> &[u8]
+/// The cell of column `k` in a row, without the blanks at its ends.
+pub fn cell_of(row: &Row, k: usize) -> &[u8]
     ensures { result.now ≡ spec.cell_of k (row_of row.now) }
 {
     trim(cell_at(&row.cells, k))
 }
 
-// Whether a row is that of the capacities.
-fn is_capacities(place: Option<usize>, row: &Row) -> bool
+/// Whether a row is that of the capacities.
+pub fn is_capacities(place: Option<usize>, row: &Row) -> bool
     ensures { result ≡ spec.is_capacities place (row_of row.now) }
 {
     match place {
@@ -43,8 +43,8 @@ fn is_capacities(place: Option<usize>, row: &Row) -> bool
     }
 }
 
-// Whether a row is that of the capacities, and has one for column `k`.
-fn gives_capacity(place: Option<usize>, row: &Row, k: usize) -> bool
+/// Whether a row is that of the capacities, and has one for column `k`.
+pub fn gives_capacity(place: Option<usize>, row: &Row, k: usize) -> bool
     ensures { result ≡ spec.gives_capacity place k (row_of row.now) }
 {
     !cell_of(row, k).is_empty() && is_capacities(place, row)
@@ -79,8 +79,8 @@ fn is_given(overrides: &[Override<'_>], head: &Head) -> bool
     given(overrides, head.name.as_bytes()).is_some()
 }
 
-// Whether column `k` has a capacity.
-fn has_capacity(body: &Body<'_>, k: usize, head: &Head) -> bool
+/// Whether column `k` has a capacity.
+pub fn has_capacity(body: &Body<'_>, k: usize, head: &Head) -> bool
     ensures { result ≡ spec.has_capacity (spec.body_of body.now) k (head_of head.now) }
 {
     is_given(body.overrides, head)
@@ -109,8 +109,8 @@ fn ids_from(overrides: &[Override<'_>], heads: &[Head]) -> Option<usize>
     None
 }
 
-// Where the ids are: in the column `id`, or else in the first one that can have them.
-fn ids_place(overrides: &[Override<'_>], heads: &[Head]) -> Option<usize>
+/// Where the ids are: in the column `id`, or else in the first one that can have them.
+pub fn ids_place(overrides: &[Override<'_>], heads: &[Head]) -> Option<usize>
     ensures { result ≡ spec.ids_place (map override_of overrides.now) (map head_of heads.now) }
 {
     match id_place(heads) {
@@ -189,8 +189,8 @@ fn settle_heads(alloc: Global, body: &Body<'_>, heads: &[Head]) -> Result<Vec<He
     Ok(settled)
 }
 
-// The columns of rows, with given capacities.
-fn settle(
+/// The columns of rows, with given capacities.
+pub fn settle(
     alloc: Global,
     overrides: &[Override<'_>],
     rows: &[Row],
@@ -207,12 +207,54 @@ fn settle(
     settle_heads(alloc, &body, heads)
 }
 
+/// Whether column `k` is one of successors, without a capacity.
+pub fn gives_successors(body: &Body<'_>, k: usize, head: &Head) -> bool
+    ensures { result ≡ spec.gives_successors (spec.body_of body.now) k (head_of head.now) }
+{
+    match head.column {
+        Column::Resource => is_successor_word(&head.key) && !has_capacity(body, k, head),
+        _ => false,
+    }
+}
+
+// Checks that no column is one of successors.
+#[tactic(auto, unfolding(crate::specs::Settlement::successors_from))]
+fn check_columns(alloc: Global, body: &Body<'_>, heads: &[Head]) -> Result<(), ReadError>
+    ensures { Gives (λ u. u) result (spec.successors_from (spec.body_of body.now) 0
+        (map head_of heads.now)) }
+{
+    for (k, head) in heads.iter().enumerate() {
+        if gives_successors(body, k, head) {
+            return Err(word_fault(alloc, TableCode::Successors, 0, head.name.as_bytes()));
+        }
+    }
+    Ok(())
+}
+
+// Checks that no column of rows is one of successors, with given capacities.
+fn check_successors(
+    alloc: Global,
+    overrides: &[Override<'_>],
+    rows: &[Row],
+    heads: &[Head],
+) -> Result<(), ReadError>
+    ensures { Gives (λ u. u) result (spec.successors_checked (map override_of overrides.now)
+        (map row_of rows.now) (map head_of heads.now)) }
+{
+    let body = Body {
+        overrides,
+        rows,
+        place: ids_place(overrides, heads),
+    };
+    check_columns(alloc, &body, heads)
+}
+
 /// Reads the columns of a list, whose header is the first of its rows.
 ///
 /// The headers of durations, ids, names and predecessors are known. Another column with a capacity,
 /// in its row or given, is a resource. One without a capacity is what its header is a synonym for if
 /// no other column is that; otherwise it is a note if its header is a word for one. All others are
-/// resources.
+/// resources. A column of successors without a capacity is T16.
 #[tactic(auto, unfolding(crate::specs::Settlement::header))]
 pub fn read_header(
     alloc: Global,
@@ -226,5 +268,6 @@ pub fn read_header(
     let heads = read_heads(alloc, first.line, &first.cells)?;
     let settled = settle(alloc, overrides, rows, &heads)?;
     check_heads(alloc, first.line, &settled)?;
+    check_successors(alloc, overrides, rows, &heads)?;
     Ok(settled)
 }

@@ -5,7 +5,7 @@ ghost use Rattle.plan_net.specs.Limits.{longest_sum};
 ghost use Rattle.plan_psplib.specs.Plain.{longest_text};
 ghost use Rattle.plan_psplib.specs.Project.{SaysProject};
 ghost use Rattle.plan_table.specs.Limits.{IsTable, most_rows};
-ghost use Rattle.plan_table.specs.Names.{SaysNames};
+ghost use Rattle.plan_table.specs.Names.{SaysIds, SaysNames};
 ghost use Rattle.plan_table.specs.Numbered.{numbered};
 ghost use Rattle.plan_table.specs.Table as table;
 ghost use Rattle.plan_table.specs.Jobs.{job_in, project_of};
@@ -173,6 +173,16 @@ fn push_name_line(text: &mut String, j: u32, activity: &Activity) -> Result<(), 
     write!(text, "name {j} {name}\n")
 }
 
+// The line of an activity's id.
+#[tactic(auto, unfolding(crate::specs::ProjectText::id_line))]
+fn push_id_line(text: &mut String, j: u32, activity: &Activity) -> Result<(), AllocError>
+    ensures { OnOk result (string_bytes text.new ≡ string_bytes text.old
+        ++ spec.id_line j (table.activity_of activity.now)) }
+{
+    let id = activity.id.as_str();
+    write!(text, "id {j} {id}\n")
+}
+
 // The line of a resource's name.
 #[tactic(auto, unfolding(crate::specs::ProjectText::resource_line))]
 fn push_resource_line(text: &mut String, i: u32, resource: &Resource) -> Result<(), AllocError>
@@ -292,6 +302,35 @@ fn push_availabilities(
     push_rule(text)
 }
 
+// The lines of the activities' ids.
+fn push_all_id_lines(text: &mut String, activities: &[Activity]) -> Result<(), AllocError>
+    requires { length activities.now ≤ 502 }
+    ensures { OnOk result (string_bytes text.new ≡ string_bytes text.old
+        ++ numbered spec.id_line 2 (map table.activity_of activities.now)) }
+{
+    for (k, activity) in activities.iter().enumerate() {
+        push_id_line(text, k as u32 + 2, activity)?;
+    }
+    Ok(())
+}
+
+// The lines of the ids, if a list has ids of its own.
+fn push_id_lines(
+    text: &mut String,
+    own_ids: bool,
+    activities: &[Activity],
+) -> Result<(), AllocError>
+    requires { length activities.now ≤ 502 }
+    ensures { OnOk result (string_bytes text.new ≡ string_bytes text.old
+        ++ spec.id_lines own_ids (map table.activity_of activities.now)) }
+{
+    if own_ids {
+        push_all_id_lines(text, activities)
+    } else {
+        Ok(())
+    }
+}
+
 // The lines of the activities' names.
 fn push_name_lines(text: &mut String, activities: &[Activity]) -> Result<(), AllocError>
     requires { length activities.now ≤ 502 }
@@ -316,19 +355,21 @@ fn push_resource_lines(text: &mut String, resources: &[Resource]) -> Result<(), 
     Ok(())
 }
 
-// The section of the names.
+// The section of the ids and names.
 #[tactic(auto, unfolding(crate::specs::ProjectText::names_text))]
 fn push_names(
     text: &mut String,
+    own_ids: bool,
     activities: &[Activity],
     resources: &[Resource],
 ) -> Result<(), AllocError>
     requires rows { length activities.now ≤ 502 }
     requires columns { length resources.now ≤ 502 }
     ensures { OnOk result (string_bytes text.new ≡ string_bytes text.old
-        ++ spec.names_text (table.table_of activities.now resources.now)) }
+        ++ spec.names_text (table.table_of own_ids activities.now resources.now)) }
 {
     text.push_str("PROJECT INFORMATION:\n")?;
+    push_id_lines(text, own_ids, activities)?;
     push_name_lines(text, activities)?;
     push_resource_lines(text, resources)?;
     push_rule(text)
@@ -393,17 +434,24 @@ fn written(alloc: Global, table: &Table) -> Result<String, AllocError>
     let mut text = String::new(alloc);
     push_front(alloc, &mut text, &table.activities, capacities.len())?;
     push_sections(alloc, &mut text, &jobs, &capacities)?;
-    push_names(&mut text, &table.activities, &table.resources)?;
+    push_names(
+        &mut text,
+        table.own_ids,
+        &table.activities,
+        &table.resources,
+    )?;
     Ok(text)
 }
 
 /// The `.sm` text of a table. Reading it gives the project of the table: its durations, its
 /// precedences, its needs and its capacities. The names in it are those of the activities and the
-/// resources. A text that no reader would take for its length is refused.
+/// resources. The ids in it are those of the activities if the table has a column of ids; otherwise it
+/// has no ids. A text that is too long for its reader is refused.
 pub fn project_text(alloc: Global, table: &Table) -> Result<String, TextFault>
     ensures text { IfOk result (λ text. string_bytes text ≡ spec.project_text table.now) }
     ensures says { IfOk result (λ text. SaysProject (string_bytes text) (project_of table.now)) }
     ensures names { IfOk result (λ text. SaysNames (string_bytes text) table.now) }
+    ensures ids { IfOk result (λ text. SaysIds (string_bytes text) table.now) }
     ensures long { IsErrOf result TextFault.TooLong →
         longest_text < length (spec.project_text table.now) }
 {

@@ -234,3 +234,13 @@ pub fn is_note_word(key: &[u8]) -> bool
 {
     is_among(&NOTE_WORDS, key)
 }
+
+/// Words for a column of successors, which a list doesn't have.
+const SUCCESSOR_WORDS: [&[u8]; 4] = [b"successors", b"nachfolger", b"successeurs", b"sucesoras"];
+
+/// Whether a header in lower case is a word for a column of successors.
+pub fn is_successor_word(key: &[u8]) -> bool
+    ensures { result ≡ spec.is_successor_word key.now }
+{
+    is_among(&SUCCESSOR_WORDS, key)
+}

@@ -10,6 +10,8 @@ use Rattle.plan_sgs.specs.Problem.{Problem, IsFeasible, IsShortest, makespan}
 use Rattle.plan_sgs.specs.Instances.{Planned, planned, problem_of, RefusesInstance}
 use Rattle.plan_shop.specs.Shop as shops
 use Rattle.plan_shop.specs.Docs.{shop_of}
+use Rattle.plan_kernel.specs.declared.input.Input.{Input}
+use Rattle.plan_kernel.specs.Plans as plans
 use Rattle.plan_verify.specs.declared.verdict.Verdict.{Verdict}
 use Rattle.plan_verify.specs.declared.verdict.Verdict.TheVariants.{Verified, AtLeast}
 use Rattle.plan_verify.specs.declared.fault.VerifyFault.{VerifyFault}
@@ -29,6 +31,17 @@ IsLowerBound p bound = (starts : List ℕ) → IsFeasible p starts → bound ≤
 abbrev pub IsTrueOf : Problem → Verdict → Type 0
 IsTrueOf p (Verified least) = IsLeastMakespan p least
 IsTrueOf p (AtLeast bound) = IsLowerBound p bound
+
+-- a number is the cost of a plan, and no plan costs less
+pub record IsLeastPlanCost (input : Input) (least : ℕ) : Type 0 where
+  pub starts : List ℕ
+  pub least_cost : plans.IsLeastCost input starts
+  pub value : plans.cost input starts ≡ least
+
+-- a verdict is true of the plans of a problem with windows, absences and tails
+abbrev pub IsTrueOfPlans : Input → Verdict → Type 0
+IsTrueOfPlans input (Verified least) = IsLeastPlanCost input least
+IsTrueOfPlans input (AtLeast bound) = plans.IsLowerBound input bound
 
 -- the line of a verdict
 abbrev pub text_of : Verdict → List ℕ

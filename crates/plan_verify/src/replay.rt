@@ -36,6 +36,9 @@ fn copy_of(alloc: Global, input: &Input) -> Result<Input, AllocError> {
         needs,
         capacities: Vec::from_slice(alloc, input.capacities.as_slice())?,
         orders: Vec::new(alloc),
+        windows: Vec::from_slice(alloc, input.windows.as_slice())?,
+        absences: Vec::from_slice(alloc, input.absences.as_slice())?,
+        tails: Vec::from_slice(alloc, input.tails.as_slice())?,
     })
 }
 

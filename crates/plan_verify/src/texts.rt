@@ -19,6 +19,7 @@ use plan_shop::{Shop, ShopFault};
 use std::alloc::{AllocError, Global};
 
 // Returns the line of what a log shows of a project.
+#[tactic(auto, using(crate::proofs::VerdictLemmas::plain_verdict))]
 fn project_text<R: Source>(
     alloc: Global,
     instance: &Instance,
@@ -89,6 +90,7 @@ fn open_shop(alloc: Global, doc: &ShopDoc) -> Result<Shop, AllocError>
 }
 
 // Returns the line of what a log shows of a job shop.
+#[tactic(auto, using(crate::proofs::VerdictLemmas::plain_verdict))]
 fn shop_text<R: Source>(alloc: Global, doc: &ShopDoc, log: &mut R) -> Result<String, LogFault>
     ensures { IfOk result (λ text.
         spec.IsTrueLine (shops.problem_of (shop_of doc.now)) (string_bytes text)) }

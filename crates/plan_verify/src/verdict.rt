@@ -1,8 +1,7 @@
 //! The verdict of a log.
 
 ghost use Rattle.std.specs.Prelude.{◌≡◌, IfOk, string_bytes};
-ghost use Rattle.plan_kernel.specs.Inputs.{problem_of};
-ghost use Rattle.plan_verify.specs.Verdicts.{IsTrueOf, text_of};
+ghost use Rattle.plan_verify.specs.Verdicts.{IsTrueOfPlans, text_of};
 
 use plan_kernel::Kernel;
 use std::alloc::{AllocError, Global};
@@ -20,7 +19,7 @@ pub enum Verdict {
 /// Returns the verdict of a kernel on its problem.
 #[tactic(auto, using(crate::proofs::VerdictLemmas::is_least))]
 pub fn verdict_of(kernel: &Kernel) -> Verdict
-    ensures { IsTrueOf (problem_of kernel.now.known.input) result }
+    ensures { IsTrueOfPlans kernel.now.known.input result }
 {
     let bound = kernel.lower_bound();
     match kernel.best() {

@@ -1,8 +1,7 @@
 //! The check of a log.
 
 ghost use Rattle.std.specs.Prelude.{◌≡◌, IfOk};
-ghost use Rattle.plan_kernel.specs.Inputs.{problem_of};
-ghost use Rattle.plan_verify.specs.Verdicts.{IsTrueOf};
+ghost use Rattle.plan_verify.specs.Verdicts.{IsTrueOfPlans};
 
 use crate::fault::{LineFault, LogFault};
 use crate::log_lines::LogLines;
@@ -10,7 +9,7 @@ use crate::numbers::{end, place};
 use crate::replay::Replay;
 use crate::verdict::{Verdict, verdict_of};
 use plan_io::Source;
-use plan_kernel::{Input, Order};
+use plan_kernel::{Input, Order, with_orders};
 use plan_psplib::Words;
 use std::alloc::{AllocError, Global};
 
@@ -49,13 +48,6 @@ fn orders_of<R: Source>(
     Ok((orders, lines.next(log)?))
 }
 
-// Returns a problem with other orders.
-fn with_orders(input: Input, orders: Vec<Order>) -> Input
-    ensures { problem_of result ≡ problem_of input }
-{
-    Input { orders, ..input }
-}
-
 // Takes all lines of a log from the present one on, if there is one.
 fn replay_all<R: Source>(
     alloc: Global,
@@ -82,8 +74,9 @@ fn replay_all<R: Source>(
 
 /// Checks a log of a problem, line by line, and returns what it shows. `input` is the problem,
 /// whose orders are replaced by those of the log.
+#[tactic(auto, using(crate::proofs::VerdictLemmas::same_verdict))]
 pub fn verify<R: Source>(alloc: Global, input: Input, log: &mut R) -> Result<Verdict, LogFault>
-    ensures { IfOk result (IsTrueOf (problem_of input)) }
+    ensures { IfOk result (IsTrueOfPlans input) }
 {
     let mut lines = LogLines::new(alloc)?;
     let (orders, has_line) = orders_of(alloc, &mut lines, log)?;

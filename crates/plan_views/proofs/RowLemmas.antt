@@ -1,7 +1,8 @@
 -- The rows of a table or a chart, one after another.
-use Rattle.std.proofs.Common.{◌≡◌, ℕ, zero, suc, ◌+◌, List, [], ◌∷◌, ◌++◌, Vec, map, sym, ap, ◌∙◌, arith}
+use Rattle.std.proofs.Common.{◌≡◌, ℕ, zero, suc, ◌+◌, List, [], ◌∷◌, ◌++◌, Vec, map, fold, sym, ap, ◌∙◌, arith}
 use Rattle.std.specs.List.{range_with_len}
 use Rattle.std.proofs.lemmas.List.{map-append}
+use Rattle.std.proofs.lemmas.List.Sums.{fold-append}
 use Rattle.std.specs.Global.{Global}
 use Rattle.plan_formats.specs.Cells.{Cell}
 use Rattle.plan_formats.specs.Tables.{cells_of, rows_of}
@@ -42,6 +43,24 @@ pub next_item_from_zero : {X Y : Type 0} (g : X → Y) (f : ℕ → Y) (k : ℕ)
 next_item_from_zero g f k old new v so_far is step =
     let place : k ≡ 0 + k = omega arith in
     next_item g f 0 k old new v so_far (is ∙ ap f place) step
+
+range_more : (first n : ℕ) → range_with_len first (suc n) ≡ range_with_len first n ++ (first + n) ∷ []
+range_more first zero =
+    let e : first ≡ first + 0 = omega arith in
+    ap (λ k. k ∷ []) e
+range_more first (suc n) =
+    let e : first + 1 + n ≡ first + suc n = omega arith in
+    ap (λ rest. first ∷ rest) (range_more (first + 1) n ∙ ap (λ k. range_with_len (first + 1) n ++ k ∷ []) e)
+
+-- a fold over the numbers from 0 with the next one
+pub next_fold : {X : Type 0} (f : X → ℕ → X) (start : X) (k : ℕ) (old new : X) → old ≡ fold f start (range_with_len 0 k) → new ≡ f old k → new ≡ fold f start (range_with_len 0 (k + 1))
+next_fold f start k old new so_far step =
+    let e : k + 1 ≡ suc k = omega arith in
+    let place : 0 + k ≡ k = omega arith in
+    step ∙ ap (λ t. f t k) so_far
+    ∙ sym (ap (λ n. fold f start (range_with_len 0 n)) e
+    ∙ ap (fold f start) (range_more 0 k ∙ ap (λ n. range_with_len 0 k ++ n ∷ []) place)
+    ∙ fold-append f start (range_with_len 0 k) (k ∷ []))
 
 -- rows numbered from 1
 pub next_from_one : (row : ℕ → List Cell) (k : ℕ) (old new : List (Vec declared.Cell Global)) (v : Vec declared.Cell Global)

@@ -1,10 +1,11 @@
 -- Gantt charts as JSON and CSV (docs/definitions.md, "Tables and charts").
-use Rattle.std.specs.Prelude.{ℕ, List, [], ◌∷◌, ◌++◌, Option, Some, None, map, codes}
+use Rattle.std.specs.Prelude.{ℕ, Bool, true, if◌then◌else◌, List, [], ◌∷◌, ◌++◌, Option, Some, None}
+use Rattle.std.specs.Prelude.{is_some, map, codes}
 use Rattle.std.specs.List.{flat_map}
 use Rattle.serde_json.specs.Data.{Data, Members, no_members, array, object, put}
 use Rattle.serde_json.specs.View.{items_of}
 use Rattle.plan_gantt.specs.Chart.{chart_unit}
-use Rattle.plan_table.specs.Names.{Name}
+use Rattle.plan_table.specs.Names.{Name, first_name}
 use Rattle.plan_formats.specs.Cells.{Cell, number, value_of}
 use Rattle.plan_formats.specs.Columns.{Column}
 use Rattle.plan_formats.specs.JsonData.{with_number}
@@ -32,26 +33,49 @@ bar_data b = object (with_step b.step
 abbrev pub bars_data : List Bar → Data
 bars_data bars = array (items_of (map bar_data bars))
 
--- members with the name of a row, if the chart has names; a row without a name has `null`
-abbrev pub with_row_name : List Name → ℕ → Members → Members
-with_row_name [] n members = members
-with_row_name (name ∷ names) n members =
-    put (codes "name") (value_of (name_cell (name ∷ names) n)) members
+-- members with the text of a number under a word, if there are texts; a number without one has
+-- `null`
+abbrev pub with_text : List ℕ → List Name → ℕ → Members → Members
+with_text word [] n members = members
+with_text word (text ∷ texts) n members =
+    put word (value_of (name_cell (text ∷ texts) n)) members
 
--- a row as an object
-abbrev pub row_data : Owner → List Name → ChartRow → Data
-row_data owner names r = object (with_row_name names r.number
-    (put (codes "bars") (bars_data r.bars) (with_number (word_of owner) r.number no_members)))
+-- a row as an object, with the id and the name of its number
+abbrev pub row_data : Owner → List Name → List Name → ChartRow → Data
+row_data owner ids names r =
+    object (with_text (codes "id") ids r.number (with_text (codes "name") names r.number
+    (put (codes "bars") (bars_data r.bars) (with_number (word_of owner) r.number no_members))))
+
+-- a number has a row: it has an id, or there are no ids
+abbrev pub has_row : List Name → ℕ → Bool
+has_row [] n = true
+has_row (id ∷ ids) n = is_some (first_name n (id ∷ ids))
+
+-- the object of a row, if its number has one
+abbrev pub row_objects : Owner → List Name → List Name → ChartRow → List Data
+row_objects owner ids names r =
+    if has_row ids r.number then row_data owner ids names r ∷ [] else []
 
 -- rows as an array of objects
-abbrev pub rows_data : Owner → List Name → List ChartRow → Data
-rows_data owner names rows = array (items_of (map (row_data owner names) rows))
+abbrev pub rows_data : Owner → List Name → List Name → List ChartRow → Data
+rows_data owner ids names rows = array (items_of (flat_map (row_objects owner ids names) rows))
 
--- a chart as an object: the makespan, the number of instants in a cell of its text, and its rows
-abbrev pub chart_data : List Name → Chart → Data
-chart_data names c = object (put (codes "rows") (rows_data c.owner names c.rows)
+-- the ids of the rows: machines have none
+abbrev pub row_ids : Owner → List Name → List Name
+row_ids owner.Activity ids = ids
+row_ids owner.Machine ids = []
+
+-- a chart as an object: the makespan, the number of instants in a cell of its text, and its rows,
+-- those of activities with their ids
+abbrev pub id_chart_data : List Name → List Name → Chart → Data
+id_chart_data ids names c =
+    object (put (codes "rows") (rows_data c.owner (row_ids c.owner ids) names c.rows)
     (with_number (codes "unit") (chart_unit c.makespan)
     (with_number (codes "makespan") c.makespan no_members)))
+
+-- the same without ids, with all rows
+abbrev pub chart_data : List Name → Chart → Data
+chart_data names c = id_chart_data [] names c
 
 -- the columns of the bars of a chart
 abbrev pub bar_columns : Owner → List Column

@@ -12,6 +12,7 @@ use Rattle.plan_table.specs.Names.{Name}
 use Rattle.plan_formats.specs.Cells.{Cell, number, text}
 use Rattle.plan_formats.specs.Columns.{Column}
 use Rattle.plan_formats.specs.NamedTables.{with_names}
+use Rattle.plan_formats.specs.IdTables.{with_ids}
 use Rattle.plan_formats.specs.Tables.{Table}
 use Rattle.plan_formats.specs.TableText.{text_of}
 use Rattle.plan_views.specs.Bars.{Bar, ChartRow, row_of, intervals_of}
@@ -113,3 +114,8 @@ lines_of c = record {
 -- the text of a chart, each row with its name: the number of instants in a cell, and the lines
 abbrev pub named_text_of : List Name → Chart → List ℕ
 named_text_of names c = unit_line c.makespan ++ text_of (with_names names (lines_of c))
+
+-- the same with the ids of the activities in the place of their numbers
+abbrev pub id_text_of : List Name → List Name → Chart → List ℕ
+id_text_of ids names c =
+    unit_line c.makespan ++ text_of (with_ids ids (with_names names (lines_of c)))

@@ -18,3 +18,4 @@ pub mod ComparisonTables
 pub mod Bars
 pub mod Charts
 pub mod ChartData
+pub mod LinkColumns

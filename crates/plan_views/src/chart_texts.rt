@@ -13,7 +13,7 @@ use crate::bars::{Bar, ChartRow};
 use crate::chart::{Chart, Owner};
 use crate::headings::{line, right};
 use crate::rows::row_of;
-use plan_formats::{Cell, Column, Table, table_text, with_names};
+use plan_formats::{Cell, Column, Table, table_text, with_ids, with_names};
 use plan_gantt::{Interval, push_cells, push_unit};
 use plan_table::NameLine;
 use std::alloc::{AllocError, Global};
@@ -128,6 +128,27 @@ fn unit(alloc: Global, makespan: u64) -> Result<Vec<u8>, AllocError>
     Ok(text.into_bytes())
 }
 
+/// Returns the text of a chart as `chart_text` does, with the ids of the activities in the place of
+/// their numbers. Activities without an id have no line. A chart of machines has no ids, and
+/// without ids all lines have numbers.
+pub fn chart_text_with_ids(
+    alloc: Global,
+    chart: &Chart,
+    ids: &[NameLine<'_>],
+    names: &[NameLine<'_>],
+) -> Result<Vec<u8>, AllocError>
+    ensures { IfOk result (λ text. text.items
+        ≡ spec.id_text_of (map name_of ids.now) (map name_of names.now) (spec.chart_of chart.now)) }
+{
+    let drawn = drawn_rows(alloc, chart)?;
+    let table = lines(alloc, chart, &drawn)?;
+    let named = with_names(alloc, table, names)?;
+    let shown = with_ids(alloc, named, ids)?;
+    let mut text = unit(alloc, chart.makespan)?;
+    text.extend_from_slice(&table_text(alloc, &shown)?)?;
+    Ok(text)
+}
+
 /// Returns the text of a chart: the number of instants in a cell, and a line of cells for each row.
 /// A cell is `#` if one of its instants is in a bar of the row, else `.`. Behind each row stands
 /// the first name of its number, if it has one.
@@ -139,10 +160,5 @@ pub fn chart_text(
     ensures { IfOk result (λ text. text.items
         ≡ spec.named_text_of (map name_of names.now) (spec.chart_of chart.now)) }
 {
-    let drawn = drawn_rows(alloc, chart)?;
-    let table = lines(alloc, chart, &drawn)?;
-    let named = with_names(alloc, table, names)?;
-    let mut text = unit(alloc, chart.makespan)?;
-    text.extend_from_slice(&table_text(alloc, &named)?)?;
-    Ok(text)
+    chart_text_with_ids(alloc, chart, &[], names)
 }

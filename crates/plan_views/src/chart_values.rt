@@ -1,6 +1,6 @@
 //! Gantt charts as JSON.
 
-ghost use Rattle.std.specs.Prelude.{◌≡◌, map, IfOk, OnOk};
+ghost use Rattle.std.specs.Prelude.{◌≡◌, ◌++◌, map, IfOk, OnOk};
 ghost use Rattle.serde_json.specs.View.{view, members_view};
 ghost use Rattle.plan_table.specs.Names.{name_of};
 ghost use Rattle.plan_formats.specs.Cells.{value_of};
@@ -73,80 +73,152 @@ fn bars_value(alloc: Global, bars: &[Bar]) -> Result<Value, AllocError>
     Ok(Value::Array(list))
 }
 
-// Returns the name of a number, or `null`.
-fn name_value(alloc: Global, names: &[NameLine<'_>], number: u64) -> Result<Value, AllocError>
+// Returns the text of a number, or `null`.
+fn text_value(alloc: Global, texts: &[NameLine<'_>], number: u64) -> Result<Value, AllocError>
     ensures { IfOk result (λ value.
-        view value ≡ value_of (name_cell (map name_of names.now) number)) }
+        view value ≡ value_of (name_cell (map name_of texts.now) number)) }
 {
-    match first_name(names, number) {
-        Some(name) => Ok(Value::String(String::from_utf8_lossy(alloc, name)?)),
+    match first_name(texts, number) {
+        Some(text) => Ok(Value::String(String::from_utf8_lossy(alloc, text)?)),
         None => Ok(Value::Null),
     }
 }
 
-// Sets the name of a row, if the chart has names.
-fn put_name(
+// Sets a member to the text of a number, if there are texts.
+fn put_text(
     alloc: Global,
     object: &mut Map<String, Value>,
-    names: &[NameLine<'_>],
+    word: &str,
+    texts: &[NameLine<'_>],
     number: u64,
 ) -> Result<(), AllocError>
-    ensures { OnOk result (members_view object.new.entries ≡ spec.with_row_name
-        (map name_of names.now) number (members_view object.old.entries)) }
+    ensures { OnOk result (members_view object.new.entries ≡ spec.with_text word.now
+        (map name_of texts.now) number (members_view object.old.entries)) }
 {
-    if names.is_empty() {
+    if texts.is_empty() {
         return Ok(());
     }
-    put(object, alloc, "name", name_value(alloc, names, number)?)
+    put(object, alloc, word, text_value(alloc, texts, number)?)
+}
+
+// The ids and the names of the rows.
+#[derive(Clone, Copy)]
+struct RowTexts<'a> {
+    ids: &'a [NameLine<'a>],
+    names: &'a [NameLine<'a>],
 }
 
 // Returns a row as an object.
 fn row_value(
     alloc: Global,
     owner: Owner,
-    names: &[NameLine<'_>],
+    texts: RowTexts<'_>,
     row: &ChartRow,
 ) -> Result<Value, AllocError>
-    ensures { IfOk result (λ value.
-        view value ≡ spec.row_data owner (map name_of names.now) (row_of row.now)) }
+    ensures { IfOk result (λ value. view value ≡ spec.row_data owner
+        (map name_of texts.entry.ids.now) (map name_of texts.entry.names.now) (row_of row.now)) }
 {
     let number = row.number as u64;
     let mut object = Map::new(alloc);
     put_number(alloc, &mut object, word_of(owner), number)?;
     put(&mut object, alloc, "bars", bars_value(alloc, &row.bars)?)?;
-    put_name(alloc, &mut object, names, number)?;
+    put_text(alloc, &mut object, "name", texts.names, number)?;
+    put_text(alloc, &mut object, "id", texts.ids, number)?;
     Ok(Value::Object(object))
+}
+
+// Whether a number has a row: it has an id, or there are no ids.
+fn has_row(ids: &[NameLine<'_>], number: u64) -> bool
+    ensures { result ≡ spec.has_row (map name_of ids.now) number }
+{
+    if ids.is_empty() {
+        return true;
+    }
+    matches!(first_name(ids, number), Some(_))
+}
+
+// Appends a row as an object, if its number has one.
+fn push_row(
+    alloc: Global,
+    list: &mut Vec<Value>,
+    owner: Owner,
+    texts: RowTexts<'_>,
+    row: &ChartRow,
+) -> Result<(), AllocError>
+    ensures { OnOk result (map view list.new.items ≡ map view list.old.items
+        ++ spec.row_objects owner (map name_of texts.entry.ids.now)
+        (map name_of texts.entry.names.now) (row_of row.now)) }
+{
+    if has_row(texts.ids, row.number as u64) {
+        list.push(row_value(alloc, owner, texts, row)?)?;
+    }
+    Ok(())
 }
 
 // Returns rows as an array.
 fn rows_value(
     alloc: Global,
     owner: Owner,
-    names: &[NameLine<'_>],
+    texts: RowTexts<'_>,
     rows: &[ChartRow],
 ) -> Result<Value, AllocError>
-    ensures { IfOk result (λ value.
-        view value ≡ spec.rows_data owner (map name_of names.now) (map row_of rows.now)) }
+    ensures { IfOk result (λ value. view value ≡ spec.rows_data owner
+        (map name_of texts.entry.ids.now) (map name_of texts.entry.names.now)
+        (map row_of rows.now)) }
 {
     let mut list = Vec::new(alloc);
     for row in rows {
-        list.push(row_value(alloc, owner, names, row)?)?;
+        push_row(alloc, &mut list, owner, texts, row)?;
     }
     Ok(Value::Array(list))
 }
 
-// Returns a chart as an object.
-fn chart_value(alloc: Global, chart: &Chart, names: &[NameLine<'_>]) -> Result<Value, AllocError>
-    ensures { IfOk result (λ value.
-        view value ≡ spec.chart_data (map name_of names.now) (chart_of chart.now)) }
+// Returns the ids of the rows: machines have none.
+fn row_ids<'a>(owner: Owner, ids: &'a [NameLine<'a>]) -> &'a [NameLine<'a>]
+    ensures { map name_of result.now ≡ spec.row_ids owner (map name_of ids.now) }
 {
+    match owner {
+        Owner::Activity => ids,
+        Owner::Machine => &[],
+    }
+}
+
+// Returns a chart as an object.
+fn chart_value<'a>(
+    alloc: Global,
+    chart: &Chart,
+    ids: &'a [NameLine<'a>],
+    names: &'a [NameLine<'a>],
+) -> Result<Value, AllocError>
+    ensures { IfOk result (λ value. view value ≡ spec.id_chart_data (map name_of ids.now)
+        (map name_of names.now) (chart_of chart.now)) }
+{
+    let ids = row_ids(chart.owner, ids);
     let unit = chart_unit(chart.makespan);
     let mut object = Map::new(alloc);
     put_number(alloc, &mut object, "makespan", chart.makespan)?;
     put_number(alloc, &mut object, "unit", unit)?;
-    let rows = rows_value(alloc, chart.owner, names, &chart.rows)?;
+    let rows = rows_value(alloc, chart.owner, RowTexts { ids, names }, &chart.rows)?;
     put(&mut object, alloc, "rows", rows)?;
     Ok(Value::Object(object))
+}
+
+/// Returns a chart as a line of JSON as `chart_json` does, each row with its id under `id` beside
+/// `activity`. Activities without an id have no row. A chart of machines has no ids, and without
+/// ids it is that of `chart_json`.
+pub fn chart_json_with_ids<'a>(
+    alloc: Global,
+    chart: &Chart,
+    ids: &'a [NameLine<'a>],
+    names: &'a [NameLine<'a>],
+) -> Result<Vec<u8>, AllocError>
+    ensures text { IfOk result (λ text. text.items ≡ json_text_of (spec.id_chart_data
+        (map name_of ids.now) (map name_of names.now) (chart_of chart.now))) }
+    ensures reads { IfOk result (λ text. IsLineOf text.items (spec.id_chart_data
+        (map name_of ids.now) (map name_of names.now) (chart_of chart.now))) }
+{
+    let value = chart_value(alloc, chart, ids, names)?;
+    value_line(alloc, &value)
 }
 
 /// Returns a chart as a line of JSON (RFC 8259): an object with the makespan, the number of
@@ -163,6 +235,5 @@ pub fn chart_json(
     ensures reads { IfOk result (λ text. IsLineOf text.items
         (spec.chart_data (map name_of names.now) (chart_of chart.now))) }
 {
-    let value = chart_value(alloc, chart, names)?;
-    value_line(alloc, &value)
+    chart_json_with_ids(alloc, chart, &[], names)
 }

@@ -24,7 +24,7 @@ complete -c plan -n '__plan_at 4 days' -f -a 'mon-fri mon-sat 1111100 1111110 11
 complete -c plan -n '__plan_at 6 days' -f -a '(__plan_names 6)'
 complete -c plan -n '__plan_at 3 serve' -f -a '8080'
 complete -c plan -n '__plan_at 4 serve' -f -a '1000000'
-complete -c plan -n '__plan_at 2 explain' -f -a 'F1 F2 F3 F4 F5 F6 F7 F8 F9 F10 F11 F12 F13 F14 T1 T2 T3 T4 T5 T6 T7 T8 T9 T10 T11 T12 T13 T14 T15 S1 S3 S4 S5 S6 S7 S8 S9 S10 G1 G2 G3 G4 G5 G6 V1 V2 C1 H1 H2 H3 H4 H5 E01 E02 E03 E04 E05 E06 E07 E08 E09 E10 E11 E12 K1 K2 K3 E90 E91 I1 I2 I3'
+complete -c plan -n '__plan_at 2 explain' -f -a 'F1 F2 F3 F4 F5 F6 F7 F8 F9 F10 F11 F12 F13 F14 T1 T2 T3 T4 T5 T6 T7 T8 T9 T10 T11 T12 T13 T14 T15 T16 T19 S1 S3 S4 S5 S6 S7 S8 S9 S10 G1 G2 G3 G4 G5 G6 V1 V2 C1 H1 H2 H3 H4 H5 E01 E02 E03 E04 E05 E06 E07 E08 E09 E10 E11 E12 K1 K2 K3 E90 E91 I1 I2 I3'
 complete -c plan -n 'contains import (commandline -opc)' -x -l capacity -d 'the capacity of a resource, in place of that of the list; may be repeated'
 complete -c plan -n 'contains import (commandline -opc)' -l shop -d 'convert a list of orders to a job shop file'
 complete -c plan -n 'contains cpm (commandline -opc)' -l names -d 'print the names of activities, orders or machines'

@@ -12,8 +12,8 @@ returns-clause-text g c =
     let rows = c.args.rows in
     let taken = g.W.Sink.taken c.args.writer.now in
     let after = g.W.Sink.taken c.write_text.new.writer in
-    let made = subst (λ (bytes : List ℕ). ShowsRead rows task file bytes) (sym c.deref-2.ensures.value) c.in_ok-text.ensures.made in
-    let written = sent_writes (ShowsRead rows task file) (RefusesRead task file) c.deref-2.result.now taken after c.write_text.result made c.write_text.ensures.sent in
+    let made = subst (λ (bytes : List ℕ). ShowsRead rows task file bytes) (sym c.deref-3.ensures.value) c.in_ok-text.ensures.made in
+    let written = sent_writes (ShowsRead rows task file) (RefusesRead task file) c.deref-3.result.now taken after c.write_text.result made c.write_text.ensures.sent in
     writes_known (ShowsRead rows task) (RefusesRead task) (g.R.Source.remaining c.args.reader.now) c.in_ok-file.file.items file taken after c.write_text.result
     (read_front task rows) (refused_front task) c.deref.ensures.value c.in_ok-file.ensures.bytes written
 
@@ -24,8 +24,8 @@ returns-clause-front g c =
     let rows = c.args.rows in
     let taken = g.W.Sink.taken c.args.writer.now in
     let after = g.W.Sink.taken c.write_text.new.writer in
-    let made = subst (λ (bytes : List ℕ). ShowsRead rows task file bytes) (sym c.deref-2.ensures.value) c.in_ok-text.ensures.made in
-    let written = sent_writes (ShowsRead rows task file) (RefusesRead task file) c.deref-2.result.now taken after c.write_text.result made c.write_text.ensures.sent in
+    let made = subst (λ (bytes : List ℕ). ShowsRead rows task file bytes) (sym c.deref-3.ensures.value) c.in_ok-text.ensures.made in
+    let written = sent_writes (ShowsRead rows task file) (RefusesRead task file) c.deref-3.result.now taken after c.write_text.result made c.write_text.ensures.sent in
     reads_front (ShowsRead rows task) (RefusesRead task) (g.R.Source.remaining c.args.reader.now) (g.R.Source.remaining c.read_file.new.reader) c.in_ok-file.file.items file
     taken after c.write_text.result c.deref.ensures.value c.in_ok-file.ensures.short c.in_ok-file.ensures.bytes c.in_ok-file.ensures.consumed written
 

@@ -13,7 +13,7 @@ pub returns-clause-made : goal.returns-clause-made
 returns-clause-made c =
     let a = c.args in
     let calendar = c.in_ok-calendar.calendar in
-    let Shows = IsDatedPage a.heading (map name_of a.lines.now) (map name_of a.legend.now) a.by_job a.plan.now a.schedule.now.starts.items in
+    let Shows = IsDatedPage a.heading (map name_of a.names.now.lines.now) (map name_of a.names.now.legend.now) a.by_job a.plan.now a.schedule.now.starts.items in
     IfOk-weaker c.page_on.result (λ text. Shows calendar (string_bytes text)) (λ text. ShowsDays a.dates Shows (string_bytes text))
     (λ text shown. (calendar, c.in_ok-calendar.ensures.made, shown)) c.page_on.ensures.made
 

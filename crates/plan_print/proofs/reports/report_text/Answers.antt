@@ -12,7 +12,7 @@ returns-in-Some-clause-made c =
     let r = c.dated_page.result in
     let starts = a.schedule.now.starts.items in
     let lines = ap (map name_of) c.deref.ensures.value ∙ c.in_ok-lines.ensures in
-    let legend = ap (map name_of) c.deref-in-Some.ensures.value ∙ c.in_ok-legend.ensures in
+    let legend = ap (map name_of) c.deref-2.ensures.value ∙ c.in_ok-legend.ensures in
     subst (λ (d : Option Dates). IfText r (IsReport a.heading d a.by_job a.subject a.file.now a.plan.now starts)) (sym c.in-Some.is)
     (subst (λ (names : List Name). IfText r (ShowsDays c.in-Some.dates
     (IsDatedPage a.heading names (legend_names a.subject a.file.now) a.by_job a.plan.now starts))) lines

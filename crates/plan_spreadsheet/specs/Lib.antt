@@ -1,0 +1,7 @@
+pub mod Rows
+pub mod Notes
+pub mod Groups
+pub mod Lags
+pub mod Waits
+pub mod PlainRows
+pub mod PlainLists

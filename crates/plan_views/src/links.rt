@@ -1,0 +1,239 @@
+//! Columns with the resources and the predecessors of activities.
+
+ghost use Rattle.std.specs.Prelude.{◌≡◌, ◌<◌, length, map, IfOk, OnOk};
+ghost use Rattle.plan_net.specs.Network.{IsActivity};
+ghost use Rattle.plan_table.specs.Names.{first_name as named, name_of};
+ghost use Rattle.plan_formats.specs.Columns.{column_of};
+ghost use Rattle.plan_formats.specs.Tables.{table_of};
+ghost use Rattle.plan_views.specs.LinkColumns as spec;
+
+use plan_formats::{Column, Layout, Table, with_column};
+use plan_sgs::Instance;
+use plan_table::{NameLine, first_name};
+use std::alloc::{AllocError, Global};
+
+/// The resources and the predecessors of an activity, as texts: `crew 2, digger 1` and `A, B`.
+#[derive(Drop)]
+pub struct ActivityLinks {
+    pub number: u64,
+    pub resources: Vec<u8>,
+    pub predecessors: Vec<u8>,
+}
+
+// Appends a word that isn't empty, behind a comma if it isn't the first one.
+fn push_word(text: &mut Vec<u8>, word: &[u8]) -> Result<(), AllocError>
+    ensures { OnOk result (text.new.items ≡ spec.joined text.old.items word.now) }
+{
+    if word.is_empty() {
+        return Ok(());
+    }
+    if !text.is_empty() {
+        text.extend_from_slice(b", ")?;
+    }
+    text.extend_from_slice(word)
+}
+
+// Returns the name of a resource, or `R` and its number.
+fn resource_name(alloc: Global, names: &[NameLine<'_>], number: u64) -> Result<Vec<u8>, AllocError>
+    ensures { IfOk result (λ name. name.items
+        ≡ spec.resource_name (named number (map name_of names.now)) number) }
+{
+    let Some(name) = first_name(names, number) else {
+        return Ok(format!(in alloc; "R{number}")?.into_bytes());
+    };
+    let mut text = Vec::new(alloc);
+    text.extend_from_slice(name)?;
+    Ok(text)
+}
+
+// Returns a resource and the amount that is needed of it; nothing if none is needed.
+fn need_word(
+    alloc: Global,
+    names: &[NameLine<'_>],
+    number: u64,
+    need: u64,
+) -> Result<Vec<u8>, AllocError>
+    ensures { IfOk result (λ word.
+        word.items ≡ spec.need_word (map name_of names.now) number need) }
+{
+    if need == 0 {
+        return Ok(Vec::new(alloc));
+    }
+    let mut word = resource_name(alloc, names, number)?;
+    let amount = format!(in alloc; " {need}")?;
+    word.extend_from_slice(amount.as_bytes())?;
+    Ok(word)
+}
+
+// Appends the need of the resource at index `k`.
+fn push_need(
+    alloc: Global,
+    text: &mut Vec<u8>,
+    names: &[NameLine<'_>],
+    needs: &[u64],
+    k: usize,
+) -> Result<(), AllocError>
+    requires { k < length needs.now }
+    ensures { OnOk result (text.new.items
+        ≡ spec.with_need (map name_of names.now) needs.now text.old.items k) }
+{
+    let word = need_word(alloc, names, k as u64 + 1, needs[k])?;
+    push_word(text, &word)
+}
+
+// Returns the needs of an activity.
+fn needs_text(alloc: Global, names: &[NameLine<'_>], needs: &[u64]) -> Result<Vec<u8>, AllocError>
+    ensures { IfOk result (λ text.
+        text.items ≡ spec.needs_text (map name_of names.now) needs.now) }
+{
+    let mut text = Vec::new(alloc);
+    for k in 0..needs.len() {
+        push_need(alloc, &mut text, names, needs, k)?;
+    }
+    Ok(text)
+}
+
+// Returns the id of the predecessor in an arc to activity `j`; nothing for another arc.
+fn arc_word<'a>(ids: &[NameLine<'a>], j: u32, arc: (u32, u32)) -> &'a [u8]
+    ensures { result.now ≡ spec.arc_word (map name_of ids.now) j arc }
+{
+    if arc.1 != j {
+        return b"";
+    }
+    match first_name(ids, arc.0 as u64) {
+        Some(id) => id,
+        None => b"",
+    }
+}
+
+// Returns the ids of the predecessors of activity `j`.
+fn predecessors_text(
+    alloc: Global,
+    ids: &[NameLine<'_>],
+    j: u32,
+    arcs: &[(u32, u32)],
+) -> Result<Vec<u8>, AllocError>
+    ensures { IfOk result (λ text.
+        text.items ≡ spec.predecessors_text (map name_of ids.now) j arcs.now) }
+{
+    let mut text = Vec::new(alloc);
+    for &arc in arcs {
+        push_word(&mut text, arc_word(ids, j, arc))?;
+    }
+    Ok(text)
+}
+
+// Returns the resources and the predecessors of activity `j`.
+fn links_at(
+    alloc: Global,
+    instance: &Instance<'_>,
+    resources: &[NameLine<'_>],
+    ids: &[NameLine<'_>],
+    j: u32,
+) -> Result<ActivityLinks, AllocError>
+    requires { IsActivity instance.now.project.network j }
+    ensures { IfOk result (λ links. spec.links_of links ≡ spec.links_at instance.now
+        (map name_of resources.now) (map name_of ids.now) j) }
+{
+    let needs = instance.needs(j);
+    let arcs = instance.network().arcs();
+    Ok(ActivityLinks {
+        number: j as u64,
+        resources: needs_text(alloc, resources, needs)?,
+        predecessors: predecessors_text(alloc, ids, j, arcs)?,
+    })
+}
+
+/// Returns the resources and the predecessors of each activity of a project as texts, by the names
+/// of its resources and the ids of its activities. A resource without a name is `R` and its number;
+/// predecessors without an id are left out, and so are resources of which nothing is needed.
+pub fn project_links(
+    alloc: Global,
+    instance: &Instance<'_>,
+    resources: &[NameLine<'_>],
+    ids: &[NameLine<'_>],
+) -> Result<Vec<ActivityLinks>, AllocError>
+    ensures { IfOk result (λ links. map spec.links_of links.items ≡ spec.project_links instance.now
+        (map name_of resources.now) (map name_of ids.now)) }
+{
+    let mut links = Vec::new(alloc);
+    for k in 0..instance.network().len() {
+        links.push(links_at(alloc, instance, resources, ids, k as u32 + 1)?)?;
+    }
+    Ok(links)
+}
+
+// Returns the resources by the numbers of the activities.
+fn resource_lines<'a>(
+    alloc: Global,
+    links: &'a [ActivityLinks],
+) -> Result<Vec<NameLine<'a>>, AllocError>
+    ensures { IfOk result (λ lines. map name_of lines.items
+        ≡ map spec.resource_line (map spec.links_of links.now)) }
+{
+    let mut lines = Vec::new(alloc);
+    for link in links {
+        lines.push(NameLine {
+            number: link.number,
+            name: &link.resources,
+        })?;
+    }
+    Ok(lines)
+}
+
+// Returns the predecessors by the numbers of the activities.
+fn predecessor_lines<'a>(
+    alloc: Global,
+    links: &'a [ActivityLinks],
+) -> Result<Vec<NameLine<'a>>, AllocError>
+    ensures { IfOk result (λ lines. map name_of lines.items
+        ≡ map spec.predecessor_line (map spec.links_of links.now)) }
+{
+    let mut lines = Vec::new(alloc);
+    for link in links {
+        lines.push(NameLine {
+            number: link.number,
+            name: &link.predecessors,
+        })?;
+    }
+    Ok(lines)
+}
+
+// Returns a column for CSV and JSON, which the text doesn't show.
+fn field(word: &'static str) -> Column
+    ensures { column_of result ≡ spec.field_column word.now }
+{
+    Column {
+        heading: word,
+        word,
+        layout: Layout::Field,
+    }
+}
+
+// Returns a table with the resources of its activities.
+fn with_resources<'a>(
+    alloc: Global,
+    table: Table<'a>,
+    links: &'a [ActivityLinks],
+) -> Result<Table<'a>, AllocError>
+    ensures { IfOk result (λ made. table_of made
+        ≡ spec.with_resources (map spec.links_of links.now) (table_of table.entry)) }
+{
+    let lines = resource_lines(alloc, links)?;
+    with_column(alloc, table, field("resources"), &lines)
+}
+
+/// Returns a table with two more columns, `resources` and `predecessors`: for each row the texts of
+/// the activity whose number is in its first cell. CSV and JSON have them, the text doesn't.
+pub fn with_links<'a>(
+    alloc: Global,
+    table: Table<'a>,
+    links: &'a [ActivityLinks],
+) -> Result<Table<'a>, AllocError>
+    ensures { IfOk result (λ made. table_of made
+        ≡ spec.with_links (map spec.links_of links.now) (table_of table.entry)) }
+{
+    let lines = predecessor_lines(alloc, links)?;
+    let table = with_resources(alloc, table, links)?;
+    with_column(alloc, table, field("predecessors"), &lines)
+}
