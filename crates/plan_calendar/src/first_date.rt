@@ -19,8 +19,8 @@ pub struct DateParts {
     pub day: u64,
 }
 
-// The number of two digits.
-fn two_digits(tens: u8, ones: u8) -> Option<u64>
+/// Returns the number of two digits.
+pub fn two_digits(tens: u8, ones: u8) -> Option<u64>
     ensures bound { IfSome result (λ n. n < 100) }
     ensures some { IfSome result (AreTwoDigits tens ones) }
     ensures none { IfNone result ((n : ℕ) → n < 100 → AreTwoDigits tens ones n → ⊥) }
