@@ -11,16 +11,17 @@ use Rattle.plan_errors.specs.declared.fault.CliFault.{CliFault}
 use Rattle.plan_errors.specs.Output.{Refuses}
 use Rattle.plan_documents.specs.Capacities.{Replaces}
 use Rattle.plan_documents.specs.declared.capacities.Capacity.{Capacity}
-use Rattle.plan_documents.specs.Lists.{IsMadeBy, IsMadeOf, RefusesIn, RefusesKind, RefusesList, RefusesMade, RefusesSubjectOn, IsReadAs, RefusesReading, ReadsAs, RefusesAs, text_of}
+use Rattle.plan_documents.specs.Lists.{IsMadeBy, IsMadeOf, RefusesActivities, RefusesIn, RefusesKind, RefusesList, RefusesMade, RefusesSubjectOn, IsReadAs, RefusesReading, ReadsAs, RefusesAs, text_of}
 use Rattle.plan_documents.specs.Spreadsheets.{IsListOf, OfList, TellsNoList}
 use Rattle.plan_cli.specs.Tasks.{IsLineOf, ShowsTask, list_subject, with_subject, rows_on, ShowsOn, ShowsRead, RefusesOn, RefusesRead}
 use Rattle.plan_documents.specs.declared.documents.Subject.{Subject}
+use Rattle.plan_documents.specs.declared.documents.Subject.TheVariants as subject
 use Rattle.plan_documents.specs.declared.lists.Reading.{Reading}
 use Rattle.plan_cli.specs.declared.tasks.Rows.{Rows}
 use Rattle.plan_cli.specs.declared.tasks.Task.{Task}
 use Rattle.plan_documents.proofs.ErrorLemmas.{refuses_as, if_err_weaker}
 use Rattle.plan_cli.proofs.RunLemmas.{HoldsByFront}
-use Rattle.plan_cli.proofs.TaskLemmas.{shown_front, task_line_front, import_front, no_import_front, shop_import_front, no_shop_import_front, kind_front, list_front, refuses_list_front}
+use Rattle.plan_cli.proofs.TaskLemmas.{shown_front, task_line_front, import_front, no_import_front, no_sound_import_front, shop_import_front, no_shop_import_front, kind_front, list_front, refuses_list_front}
 use Rattle.plan_documents.proofs.ListLemmas.{read_refused, read_as}
 
 -- ---- the text of a task
@@ -58,9 +59,14 @@ made_front : (kind : ListKind) → HoldsByFront (IsMadeOf kind)
 made_front kinds.Activities = import_front []
 made_front kinds.Orders = shop_import_front
 
-list_line_front : (kind : ListKind) → HoldsByFront (RefusesList kind)
-list_line_front kinds.Activities = no_import_front []
-list_line_front kinds.Orders = no_shop_import_front
+activities_line_front : (given : List Capacity) → HoldsByFront (RefusesActivities given)
+activities_line_front [] = no_import_front []
+activities_line_front (first ∷ more) = no_sound_import_front
+
+list_line_front : (kind : ListKind) (of : Subject) → HoldsByFront (RefusesList kind of)
+list_line_front kinds.Activities (subject.Project given) = activities_line_front given.now
+list_line_front kinds.Activities (subject.Shop name) = no_import_front []
+list_line_front kinds.Orders of = no_shop_import_front
 
 -- a fact about the text that a command takes from the front of a file is one about the file
 as_front : (of : Subject) (Holds : Option ListKind → Subject → List ℕ → Type 0) (file : List ℕ)
@@ -88,7 +94,7 @@ as_front of Holds file whole (Some kind, s, text, is, holds) =
     by_list (l, l_is, (kind_is, made)) = (Some kind, s, text, record { list = l; list_is = l_is; kind_is = kind_is; read = (made, is.read.1) }, holds)
 
 made_refused_front : (kind : ListKind) (of : Subject) → HoldsByFront (RefusesMade kind of)
-made_refused_front kind of file line (inl tells) = inl (list_line_front kind file line tells)
+made_refused_front kind of file line (inl tells) = inl (list_line_front kind of file line tells)
 made_refused_front kind of file line (inr (text, made, tells)) = inr (text, made_front kind file text made, tells)
 
 kind_refused_front : (kind : Option ListKind) (of : Subject) → HoldsByFront (RefusesKind kind of)

@@ -36,8 +36,8 @@ use Rattle.plan_table.specs.Listing.{rows_read, table_in, table_read_with}
 use Rattle.plan_table.specs.Overrides.{Override, override_of}
 use Rattle.plan_table.specs.ShopReading.{shop_in, shop_table_read}
 use Rattle.plan_table.specs.Reading as reads
-use Rattle.plan_table.specs.Refused.{IsRefusedWith}
-use Rattle.plan_documents.specs.ImportRun.{IsImportOf, TellsNoImport, IsShopImportOf, TellsNoShopImport, IsImportBy, TellsNoImportBy, IsImportIn, TellsNoImportIn, IsImport, TellsUnimported, IsShopImport, TellsNoShop}
+use Rattle.plan_table.specs.Refused.{IsRefusedWith, IsUnsoundWith}
+use Rattle.plan_documents.specs.ImportRun.{IsImportOf, TellsNoImport, TellsNoSoundImport, IsShopImportOf, TellsNoShopImport, IsImportBy, TellsNoImportBy, IsImportIn, TellsNoImportIn, IsImport, TellsUnimported, IsShopImport, TellsNoShop}
 use Rattle.plan_documents.specs.Spreadsheets.{IsListOf, IsLong, IsPlainIf, OfList, RefusesOfList, TellsBook, TellsNoList, TellsNoListIf, is_short}
 use Rattle.plan_cli.specs.Tasks.{IsTextOf, IsLineOf, ShowsTask}
 use Rattle.plan_cli.specs.declared.tasks.Rows.{Rows}
@@ -210,6 +210,15 @@ refused_front given file (errors.Fault f) (inr (t, read, cycle)) = inr (t, sym (
 pub no_import_front : (given : List Override) → HoldsByFront (TellsNoImport given)
 no_import_front given file line (inl (first, refused, tells)) = inl (first, refused_front given file (errors.Fault first) refused, tells)
 no_import_front given file line (inr (t, read, tells)) = inr (t, sym (front_table given file) ∙ read, tells)
+
+unsound_front : (file : List ℕ) (e : ReadError) → IsUnsoundWith [] (take (longest_text + 1) file) e → IsUnsoundWith [] file e
+unsound_front file errors.Memory r = tt
+unsound_front file (errors.Fault f) (inl read) = inl (sym (front_table [] file) ∙ read)
+unsound_front file (errors.Fault f) (inr (t, read, cycle)) = inr (t, sym (front_table [] file) ∙ read, cycle)
+
+pub no_sound_import_front : HoldsByFront TellsNoSoundImport
+no_sound_import_front file line (inl (first, refused, tells)) = inl (first, unsound_front file (errors.Fault first) refused, tells)
+no_sound_import_front file line (inr (t, read, tells)) = inr (t, sym (front_table [] file) ∙ read, tells)
 
 pub shop_import_front : HoldsByFront IsShopImportOf
 shop_import_front file text (t, read, shown) = (t, sym (front_orders file) ∙ read, shown)

@@ -27,8 +27,8 @@ none_given names (first ∷ more) after (k, few, is, rest) = absurd (omega (arit
 
 -- the error of a list comes before that of its subject
 pub list_refused : (of : Subject) (list : List ℕ) (kind : ListKind) (e : CliFault)
-    → Refuses (RefusesList kind list) e → Refuses (RefusesMade kind of list) e
-list_refused of list kind e told = refuses_as (RefusesList kind list) (RefusesMade kind of list) e (λ line tells. inl tells) told
+    → Refuses (RefusesList kind of list) e → Refuses (RefusesMade kind of list) e
+list_refused of list kind e told = refuses_as (RefusesList kind of list) (RefusesMade kind of list) e (λ line tells. inl tells) told
 
 -- the error of the subject of a list that was made
 pub subject_refused : (of : Subject) (list text : List ℕ) (kind : ListKind) (e : CliFault) → IsMadeOf kind list text

@@ -13,7 +13,7 @@ use Rattle.plan_table.specs.Listing.{table_read_with}
 use Rattle.plan_table.specs.Overrides.{Override}
 use Rattle.plan_table.specs.ProjectText.{project_text}
 use Rattle.plan_table.specs.Reading.{fault_of}
-use Rattle.plan_table.specs.Refused.{IsRefusedWith}
+use Rattle.plan_table.specs.Refused.{IsRefusedWith, IsUnsoundWith}
 use Rattle.plan_table.specs.ShopNames.{SaysShopNames}
 use Rattle.plan_table.specs.ShopReading.{shop_table_read}
 use Rattle.plan_table.specs.ShopTable.{ShopTable, shop_of}
@@ -49,6 +49,18 @@ TellsLong text line = (longest_text < length text) × (line ≡ codes "T1 too lo
 abbrev pub TellsNoImport : List Override → List ℕ → List ℕ → Type 0
 TellsNoImport given file line = TellsNoTable given file line
     ⊎ ((t : Table) × (table_read_with given file ≡ Ok t) × TellsLong (project_text t) line)
+
+-- a line gives the first check that a table fails, or else its cycle; its needs may be above its
+-- capacities
+abbrev pub TellsUnsound : List ℕ → List ℕ → Type 0
+TellsUnsound file line =
+    (first : TableFault) × IsUnsoundWith [] file (errors.Fault first) × TellsTable first line
+
+-- a line gives the reason why a table, whose needs may be above its capacities, becomes no project
+-- file
+abbrev pub TellsNoSoundImport : List ℕ → List ℕ → Type 0
+TellsNoSoundImport file line = TellsUnsound file line
+    ⊎ ((t : Table) × (table_read_with [] file ≡ Ok t) × TellsLong (project_text t) line)
 
 -- a text is the job shop file of a list of orders; reading it gives the job shop of the list and
 -- the names

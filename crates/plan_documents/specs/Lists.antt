@@ -1,6 +1,6 @@
 -- Lists, which commands read as the files that `plan import` makes of them (docs/definitions.md,
 -- "Runs").
-use Rattle.std.specs.Prelude.{◌≡◌, ◌⊎◌, ℕ, Bool, true, false, List, [], Option, Some, None}
+use Rattle.std.specs.Prelude.{◌≡◌, ◌⊎◌, ℕ, Bool, true, false, List, [], ◌∷◌, Option, Some, None}
 use Rattle.std.specs.Prelude.{String, bytes_eq, codes, string_bytes}
 use Rattle.std.specs.Global.{Global}
 use denote.Ref.{Bor}
@@ -9,7 +9,7 @@ use Rattle.plan_table.specs.ShopText.{instance}
 use Rattle.plan_table.specs.declared.kinds.ListKind.{ListKind}
 use Rattle.plan_table.specs.declared.kinds.ListKind.TheVariants as kinds
 use Rattle.plan_documents.specs.Capacities.{TellsUnknown}
-use Rattle.plan_documents.specs.ImportRun.{IsImportOf, TellsNoImport, IsShopImportOf, TellsNoShopImport}
+use Rattle.plan_documents.specs.ImportRun.{IsImportOf, TellsNoImport, TellsNoSoundImport, IsShopImportOf, TellsNoShopImport}
 use Rattle.plan_documents.specs.Spreadsheets.{IsListOf, RefusesOfList}
 use Rattle.plan_documents.specs.declared.capacities.Capacity.{Capacity}
 use Rattle.plan_documents.specs.declared.documents.Subject.{Subject}
@@ -20,10 +20,16 @@ abbrev pub IsMadeOf : ListKind → List ℕ → List ℕ → Type 0
 IsMadeOf kinds.Activities = IsImportOf []
 IsMadeOf kinds.Orders = IsShopImportOf
 
--- a line with which `plan import` refuses a list of a kind
-abbrev pub RefusesList : ListKind → List ℕ → List ℕ → Type 0
-RefusesList kinds.Activities = TellsNoImport []
-RefusesList kinds.Orders = TellsNoShopImport
+-- a line refuses a list of activities; with given capacities, its needs may be above its own
+abbrev pub RefusesActivities : List Capacity → List ℕ → List ℕ → Type 0
+RefusesActivities [] = TellsNoImport []
+RefusesActivities (first ∷ more) = TellsNoSoundImport
+
+-- a line refuses a list of a kind for a subject
+abbrev pub RefusesList : ListKind → Subject → List ℕ → List ℕ → Type 0
+RefusesList kinds.Activities (subject.Project given) = RefusesActivities given.now
+RefusesList kinds.Activities (subject.Shop name) = TellsNoImport []
+RefusesList kinds.Orders of = TellsNoShopImport
 
 -- the instance of a list of orders
 abbrev pub IsListInstance : Subject → Type 0
@@ -70,7 +76,7 @@ pub record IsReadAs (of : Subject) (file : List ℕ) (kind : Option ListKind) (s
 
 -- a line refuses a list of a kind, or else the subject of the command on it
 abbrev pub RefusesMade : ListKind → Subject → List ℕ → List ℕ → Type 0
-RefusesMade kind of list line = RefusesList kind list line
+RefusesMade kind of list line = RefusesList kind of list line
     ⊎ ((text : List ℕ) × IsMadeOf kind list text × RefusesSubjectOn kind of line)
 
 -- a line refuses a text of a kind: one that is no list isn't refused

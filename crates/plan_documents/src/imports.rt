@@ -1,7 +1,7 @@
 //! `plan import`: the project file of a planner's list, a CSV table of activities, or the job shop
 //! file of a list of orders.
 
-ghost use Rattle.std.specs.Prelude.{◌≡◌, Ok, map, IfOk, IfErr, codes};
+ghost use Rattle.std.specs.Prelude.{◌≡◌, [], Ok, map, IfOk, IfErr, codes};
 ghost use Rattle.plan_table.specs.Listing.{table_read_with};
 ghost use Rattle.plan_table.specs.Overrides.{override_of};
 ghost use Rattle.plan_table.specs.ProjectText as projects;
@@ -16,7 +16,7 @@ use crate::table_faults::{resource_refusal, table_refusal};
 use plan_errors::{About, CliFault, Code, refuse_words};
 use plan_table::{
     ListKind, Override, ReadError, ShopTable, Table, TextFault, list_kind, project_text,
-    read_shop_table, read_table_with, shop_text,
+    read_shop_table, read_sound_table, read_table_with, shop_text,
 };
 use std::alloc::Global;
 
@@ -42,6 +42,19 @@ fn table_of(alloc: Global, given: &[Override<'_>], file: &[u8]) -> Result<Table,
     }
 }
 
+// Reads a table whose needs may be above its capacities.
+#[tactic(auto, using(crate::proofs::ImportLemmas::no_sound_table))]
+fn sound_table_of(alloc: Global, file: &[u8]) -> Result<Table, CliFault>
+    ensures read { IfOk result (λ table. table_read_with [] file.now ≡ Ok table) }
+    ensures refused { IfErr result (Refuses (spec.TellsUnsound file.now)) }
+{
+    match read_sound_table(alloc, &[], file) {
+        Ok(table) => Ok(table),
+        Err(ReadError::Memory) => Err(CliFault::Memory),
+        Err(ReadError::Fault(fault)) => Err(table_refusal(alloc, &fault, file)),
+    }
+}
+
 // Returns the project file of a table.
 fn table_text(alloc: Global, table: &Table) -> Result<String, CliFault>
     ensures made { IfText result (spec.IsProjectFile table.now) }
@@ -61,6 +74,16 @@ pub fn import_text(alloc: Global, given: &[Override<'_>], file: &[u8]) -> Result
         (spec.TellsNoImport (map override_of given.now) file.now)) }
 {
     let table = table_of(alloc, given, file)?;
+    table_text(alloc, &table)
+}
+
+/// Returns the project file of the table in a file. Its needs may be above its capacities: the
+/// caller replaces capacities, and checks the needs then.
+pub fn sound_import_text(alloc: Global, file: &[u8]) -> Result<String, CliFault>
+    ensures made { IfText result (spec.IsImportOf [] file.now) }
+    ensures refused { IfErr result (Refuses (spec.TellsNoSoundImport file.now)) }
+{
+    let table = sound_table_of(alloc, file)?;
     table_text(alloc, &table)
 }
 

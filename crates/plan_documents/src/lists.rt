@@ -8,7 +8,7 @@ ghost use Rattle.plan_documents.specs.Lines.{IfText};
 
 use crate::capacities::{Capacity, replaced};
 use crate::documents::Subject;
-use crate::imports::{import_text, shop_import_text};
+use crate::imports::{import_text, shop_import_text, sound_import_text};
 use crate::spreadsheets::plain_of;
 use plan_errors::CliFault;
 use plan_table::{ListKind, list_kind};
@@ -38,14 +38,43 @@ impl Reading<'_> {
     }
 }
 
+// Returns the project file of a list of activities. With given capacities, its needs may be above
+// its own.
+fn project_text(alloc: Global, given: &[Capacity<'_>], list: &[u8]) -> Result<String, CliFault>
+    ensures made { IfText result (spec.IsMadeOf ListKind.Activities list.now) }
+    ensures refused { IfErr result (Refuses (spec.RefusesActivities given.now list.now)) }
+{
+    match given {
+        [] => import_text(alloc, &[], list),
+        [_, ..] => sound_import_text(alloc, list),
+    }
+}
+
+// Returns the project file of a list of activities for a subject.
+fn activities_text(alloc: Global, subject: Subject<'_>, list: &[u8]) -> Result<String, CliFault>
+    ensures made { IfText result (spec.IsMadeOf ListKind.Activities list.now) }
+    ensures refused { IfErr result (Refuses
+        (spec.RefusesList ListKind.Activities subject.entry list.now)) }
+{
+    match subject {
+        Subject::Project(given) => project_text(alloc, given, list),
+        Subject::Shop(_) => import_text(alloc, &[], list),
+    }
+}
+
 // Returns the file that `plan import` makes of a list.
-fn made_text(alloc: Global, kind: ListKind, file: &[u8]) -> Result<String, CliFault>
-    ensures made { IfText result (spec.IsMadeOf kind file.now) }
-    ensures refused { IfErr result (Refuses (spec.RefusesList kind file.now)) }
+fn made_text(
+    alloc: Global,
+    kind: ListKind,
+    subject: Subject<'_>,
+    list: &[u8],
+) -> Result<String, CliFault>
+    ensures made { IfText result (spec.IsMadeOf kind list.now) }
+    ensures refused { IfErr result (Refuses (spec.RefusesList kind subject.entry list.now)) }
 {
     match kind {
-        ListKind::Activities => import_text(alloc, &[], file),
-        ListKind::Orders => shop_import_text(alloc, file),
+        ListKind::Activities => activities_text(alloc, subject, list),
+        ListKind::Orders => shop_import_text(alloc, list),
     }
 }
 
@@ -119,7 +148,7 @@ fn made_list<'a>(
     ensures text { IfOk result (λ made. spec.IsMadeOf kind list.now (string_bytes made.1)) }
     ensures refused { IfErr result (Refuses (spec.RefusesMade kind subject.entry list.now)) }
 {
-    let made = made_text(alloc, kind, list)?;
+    let made = made_text(alloc, kind, subject, list)?;
     let subject = subject_on(alloc, kind, subject)?;
     Ok((subject, made))
 }
