@@ -10,7 +10,7 @@ use Rattle.plan_errors.specs.declared.fault.CliFault.{CliFault}
 use Rattle.plan_errors.specs.Output.{Refuses}
 use Rattle.plan_cli.specs.declared.calendars.Dates.{Dates}
 use Rattle.plan_cli.specs.Calendars.{IsPlain, AddsHolidays, IsDated, TellsBadDates, TellsBadHolidays, TellsCalendarFault, TellsHolidayFault, TellsNoCalendar}
-use Rattle.plan_cli.proofs.RunLemmas.{refuses_as}
+use Rattle.plan_documents.proofs.ErrorLemmas.{refuses_as}
 
 pub dated : (dates : Dates) (plain c : Workdays) → IsPlain dates plain → AddsHolidays plain dates.holidays.now c → IsDated dates c
 dated dates plain c is adds = record { plain = plain; spelled = is; holidays = adds }

@@ -7,8 +7,8 @@ use Rattle.plan_cli.specs.CheckRun.{IsVerdictOn, rows_text, sentence_of}
 use Rattle.plan_cli.specs.Tasks.{ShowsTask}
 use Rattle.plan_cli.specs.TaskViews.{IsVerdictView, IsViewOf}
 use Rattle.plan_cli.specs.Views.{View, table}
-use Rattle.plan_cli.specs.declared.documents.Plan.{Plan}
-use Rattle.plan_cli.specs.declared.documents.Subject.{Subject}
+use Rattle.plan_documents.specs.declared.documents.Plan.{Plan}
+use Rattle.plan_documents.specs.declared.documents.Subject.{Subject}
 use Rattle.plan_cli.specs.declared.tasks.Rows.{Rows}
 use Rattle.plan_cli.specs.declared.tasks.Rows.TheVariants as rows
 use Rattle.plan_cli.specs.declared.tasks.Task.TheVariants as task

@@ -14,8 +14,8 @@ use Rattle.plan_errors.specs.declared.parts.Part.{Part}
 use Rattle.plan_errors.specs.declared.parts.Part.TheVariants as part
 use Rattle.plan_errors.proofs.PartLemmas.{parts_push}
 use Rattle.plan_cli.specs.CompareRun.{named_line, IsNamedFault, TellsNoStartsOf, TellsNoPair}
-use Rattle.plan_cli.specs.Starts.{TellsNoStarts}
-use Rattle.plan_cli.proofs.RunLemmas.{refuses_as}
+use Rattle.plan_documents.specs.Starts.{TellsNoStarts}
+use Rattle.plan_documents.proofs.ErrorLemmas.{refuses_as}
 
 -- the line of a refusal with one more part, the name of a schedule
 pub named_parts : (code : Code) (parts : List Part) (name : Bor (List ℕ))

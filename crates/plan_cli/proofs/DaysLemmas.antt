@@ -3,14 +3,14 @@ use Rattle.std.proofs.Common.{◌≡◌, inl, inr, ℕ, List}
 use Rattle.plan_calendar.specs.WorkingDay.{Workdays}
 use Rattle.plan_errors.specs.declared.fault.CliFault.{CliFault}
 use Rattle.plan_errors.specs.Output.{Refuses}
-use Rattle.plan_cli.specs.declared.documents.Plan.{Plan}
+use Rattle.plan_documents.specs.declared.documents.Plan.{Plan}
 use Rattle.plan_cli.specs.declared.schedules.Scheduled.{Scheduled}
 use Rattle.plan_cli.specs.declared.origins.Origin.{Origin}
 use Rattle.plan_cli.specs.Scheduled.{IsMadeFrom}
 use Rattle.plan_cli.specs.declared.calendars.Dates.{Dates}
 use Rattle.plan_cli.specs.Calendars.{IsDated, TellsNoCalendar}
 use Rattle.plan_cli.specs.DaysRun.{TellsBeyond, HasDayBeyond, TellsNoDaysFrom}
-use Rattle.plan_cli.proofs.RunLemmas.{refuses_as}
+use Rattle.plan_documents.proofs.ErrorLemmas.{refuses_as}
 
 pub no_calendar : (from : Origin) (dates : Dates) (p : Plan) (m : Scheduled) (e : CliFault) → IsMadeFrom from p m
     → Refuses (TellsNoCalendar dates) e → Refuses (TellsNoDaysFrom from dates p) e

@@ -6,14 +6,14 @@ use Rattle.plan_sgs.specs.declared.schedule.Schedule.{Schedule}
 use Rattle.plan_errors.specs.declared.fault.CliFault.{CliFault}
 use Rattle.plan_errors.specs.Output.{Refuses}
 use Rattle.plan_gantt.specs.Limits.{latest_end}
-use Rattle.plan_cli.specs.Documents.{problem_of, count_of, sheet_of}
+use Rattle.plan_documents.specs.Documents.{problem_of, count_of, sheet_of}
 use Rattle.plan_solve.specs.declared.solving.Solved.{Solved}
 use Rattle.plan_cli.specs.SolveRun.{IsSolution}
 use Rattle.plan_cli.specs.Scheduled.{IsMadeFrom, IsShowable, TellsNotListed}
-use Rattle.plan_cli.specs.Starts.{TellsNoStarts}
-use Rattle.plan_cli.specs.declared.documents.Plan.{Plan}
+use Rattle.plan_documents.specs.Starts.{TellsNoStarts}
+use Rattle.plan_documents.specs.declared.documents.Plan.{Plan}
 use Rattle.plan_cli.specs.declared.origins.Origin.TheVariants as origin
-use Rattle.plan_cli.proofs.RunLemmas.{refuses_as}
+use Rattle.plan_documents.proofs.ErrorLemmas.{refuses_as}
 
 -- a text of starts that is refused lists no schedule
 pub unlisted : (listed : List ℕ) (p : Plan) (e : CliFault) → Refuses (TellsNoStarts (sheet_of p) listed) e

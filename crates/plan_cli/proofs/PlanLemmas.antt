@@ -12,15 +12,15 @@ use Rattle.plan_gantt.specs.ShopTable.{shop_table_text}
 use Rattle.plan_gantt.specs.ShopText.{IsShopTextOf}
 use Rattle.plan_cli.specs.BestProjectRun.{IsBestProjectTableOf, TellsWhyNoBestProject}
 use Rattle.plan_cli.specs.BestRun.{IsBestOf, TellsNoBestOf}
-use Rattle.plan_cli.specs.ScheduleRun.{as_available, IsScheduleTableOf, TellsWhyNoSchedule, TellsNeed}
+use Rattle.plan_documents.specs.ScheduleRun.{as_available, IsScheduleTableOf, TellsWhyNoSchedule, TellsNeed}
 use Rattle.plan_cli.specs.Scheduled.{TellsNoRuleOf}
 use Rattle.plan_cli.specs.ShopRun.{IsShopTableOf}
 use Rattle.plan_cli.specs.Tables.{IsTableBy}
-use Rattle.plan_cli.specs.Plans.{PlannedWith, IsOfProject, IsOfShop, RefusesFile, resources_in}
-use Rattle.plan_cli.specs.declared.capacities.Capacity.{Capacity}
-use Rattle.plan_cli.specs.declared.documents.Plan.{Plan}
-use Rattle.plan_cli.specs.declared.documents.Plan.TheVariants as plan
-use Rattle.plan_cli.specs.declared.documents.Subject.TheVariants as subject
+use Rattle.plan_documents.specs.Plans.{PlannedWith, IsOfProject, IsOfShop, RefusesFile, resources_in}
+use Rattle.plan_documents.specs.declared.capacities.Capacity.{Capacity}
+use Rattle.plan_documents.specs.declared.documents.Plan.{Plan}
+use Rattle.plan_documents.specs.declared.documents.Plan.TheVariants as plan
+use Rattle.plan_documents.specs.declared.documents.Subject.TheVariants as subject
 use Rattle.plan_cli.specs.Tasks.{ShowsRead, RefusesRead}
 use Rattle.plan_cli.specs.declared.tasks.Rows.TheVariants as rows
 use Rattle.plan_cli.specs.declared.tasks.Task.{Task}

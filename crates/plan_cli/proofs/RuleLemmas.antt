@@ -11,8 +11,8 @@ use Rattle.plan_gantt.specs.ShopText.{TellsNoRule}
 use Rattle.plan_errors.specs.Output.{Refuses}
 use Rattle.plan_errors.specs.declared.fault.CliFault.{CliFault}
 use Rattle.plan_cli.specs.Scheduled.{TellsNoRuleOf}
-use Rattle.plan_cli.specs.declared.documents.Plan.TheVariants as plan
-use Rattle.plan_cli.proofs.RunLemmas.{refuses_as}
+use Rattle.plan_documents.specs.declared.documents.Plan.TheVariants as plan
+use Rattle.plan_documents.proofs.ErrorLemmas.{refuses_as}
 
 -- no rule of projects has the name
 pub no_rule : (name : List ℕ) (i : Planned) (first : SgsFault) (e : CliFault)

@@ -20,45 +20,23 @@ use Rattle.plan_gantt.specs.FirstFaults.{TellsFirstFailing, TellsFirstShopFault}
 use Rattle.plan_sgs.specs.Problem.{NeedsFit}
 use Rattle.plan_sgs.specs.Instances.{Planned, problem_of}
 use Rattle.plan_shop.specs.Shop.{JobShop}
-use Rattle.plan_cli.specs.Plans.{IsOfProject, RefusesFile, IsOfShop, RefusesShop}
-use Rattle.plan_cli.specs.Documents.{IsOfSubject, RefusesSubject}
+use Rattle.plan_documents.specs.Plans.{IsOfProject, RefusesFile, IsOfShop, RefusesShop}
+use Rattle.plan_documents.specs.Documents.{IsOfSubject, RefusesSubject}
 use Rattle.plan_cli.specs.NamesRun.{AreNamesOf, TellsNotPlain}
 use Rattle.plan_cli.specs.ProveRun.{IsProofTableOf, TellsWhyNoProof}
-use Rattle.plan_cli.specs.declared.documents.Plan.{Plan}
-use Rattle.plan_cli.specs.declared.documents.Plan.TheVariants as plan
-use Rattle.plan_cli.specs.declared.documents.Subject.{Subject}
-use Rattle.plan_cli.specs.declared.documents.Subject.TheVariants as subject
-use Rattle.plan_cli.specs.declared.capacities.Capacity.{Capacity}
-use Rattle.plan_cli.specs.ScheduleRun.{TellsNeed}
+use Rattle.plan_documents.specs.declared.documents.Plan.{Plan}
+use Rattle.plan_documents.specs.declared.documents.Plan.TheVariants as plan
+use Rattle.plan_documents.specs.declared.documents.Subject.{Subject}
+use Rattle.plan_documents.specs.declared.documents.Subject.TheVariants as subject
+use Rattle.plan_documents.specs.declared.capacities.Capacity.{Capacity}
+use Rattle.plan_documents.specs.ScheduleRun.{TellsNeed}
 use Rattle.plan_errors.specs.declared.fault.CliFault.{CliFault}
 use Rattle.plan_errors.specs.declared.fault.CliFault.TheVariants as cli
 use Rattle.plan_errors.specs.Faults.{refusal_line}
 use Rattle.plan_errors.specs.Output.{Writes, Refuses, Sends}
-use Rattle.plan_cli.specs.Run.{IsDateTableOf, JudgesFront, ReadsFront, Tells}
-
--- a refusal by lines of one kind is one by lines of another kind that has them too
-pub refuses_as : (IsLine IsOther : List ℕ → Type 0) (e : CliFault)
-    → ((line : List ℕ) → IsLine line → IsOther line) → Refuses IsLine e → Refuses IsOther e
-refuses_as IsLine IsOther (cli.Refused refusal) same r = same (refusal_line refusal) r
-refuses_as IsLine IsOther cli.Memory same r = tt
-refuses_as IsLine IsOther (cli.Input unread) same r = absurd r
-refuses_as IsLine IsOther cli.Output same r = absurd r
-
--- a fact on an error implies another
-pub if_err_weaker : {T E : Type 0} (r : Result T E) (P Q : E → Type 0) → ((e : E) → P e → Q e) → IfErr r P → IfErr r Q
-if_err_weaker (Ok x) P Q implies p = tt
-if_err_weaker (Err e) P Q implies p = implies e p
-
--- a fact on the value of a result that is fine
-pub if_was_ok : {T E : Type 0} (r : Result T E) (x : T) (P : T → Type 0) → r ≡ Ok x → IfOk r P → P x
-if_was_ok r x P was holds = subst (λ q. IfOk q P) was holds
-
--- the reported error is the first of the file
-pub told_refuses : (file : List ℕ) (first : FileFault) (e : CliFault)
-    → IsWantOfMemory first ⊎ IsFirstFailing file first → Refuses (Tells first) e
-    → Refuses (TellsFirstFailing file) e
-told_refuses file first e (inl memory) t = refuses_as (Tells first) (TellsFirstFailing file) e (λ line tells. absurd (tells.0 memory.0)) t
-told_refuses file first e (inr failing) t = refuses_as (Tells first) (TellsFirstFailing file) e (λ line tells. (first, failing, tells.1)) t
+use Rattle.plan_documents.specs.Lines.{Tells}
+use Rattle.plan_documents.proofs.ErrorLemmas.{refuses_as}
+use Rattle.plan_cli.specs.Run.{IsDateTableOf, JudgesFront, ReadsFront}
 
 -- a text that is too long fails its first check
 too_long : (file : List ℕ) → longest_text < length file → document file ≡ fault code.TooLong 0
@@ -296,13 +274,6 @@ proof_front nodes instance file text (doc, says, table) = (doc, says_shop_front 
 pub no_proof_front : (nodes instance : List ℕ) → HoldsByFront (TellsWhyNoProof nodes instance)
 no_proof_front nodes instance file line (inl first) = inl (first_front instance file line first)
 no_proof_front nodes instance file line (inr (doc, says, tells)) = inr (doc, says_shop_front instance file doc says, tells)
-
--- the reported error is the first of the shop file
-pub told_no_shop : (instance file : List ℕ) (first : FileFault) (e : CliFault)
-    → IsWantOfMemory first ⊎ reading.FailsWith (reading.shop instance file) first → Refuses (Tells first) e
-    → Refuses (TellsFirstShopFault instance file) e
-told_no_shop instance file first e (inl memory) t = refuses_as (Tells first) (TellsFirstShopFault instance file) e (λ line tells. absurd (tells.0 memory.0)) t
-told_no_shop instance file first e (inr failing) t = refuses_as (Tells first) (TellsFirstShopFault instance file) e (λ line tells. (first, failing, tells.1)) t
 
 -- the names in the front of a file are those in the file
 pub names_front : HoldsByFront AreNamesOf

@@ -15,7 +15,7 @@ use Rattle.plan_shop.proofs.ShopBasics.{count_is, duration_is}
 use Rattle.plan_gantt.specs.Limits.{latest_end}
 use Rattle.plan_net.specs.Network.{count_of}
 use Rattle.plan_cli.specs.Scheduled.{CanBeShown, IsShowable}
-use Rattle.plan_cli.specs.declared.documents.Plan.TheVariants as plan
+use Rattle.plan_documents.specs.declared.documents.Plan.TheVariants as plan
 
 -- texts can show an active schedule of which all activities end early
 pub fits_early : (i : Planned) (s : Schedule) → IsActive (problem_of i) s.starts.items

@@ -11,7 +11,7 @@ use Rattle.plan_cli.specs.BestProjectRun.{TellsSearchRefusal}
 use Rattle.plan_cli.specs.BestRun.{TellsSolving, TellsSolvingRefusal}
 use Rattle.plan_prove.specs.Nodes.{IsNodesText}
 use Rattle.plan_cli.specs.ProveRun.{TellsNoNodes}
-use Rattle.plan_cli.proofs.RunLemmas.{refuses_as}
+use Rattle.plan_documents.proofs.ErrorLemmas.{refuses_as}
 
 -- the search of a project is refused
 pub project_refused : (budget : ℕ) (i : Planned) (first : ExactFault) (e : CliFault) → RefusesProject i budget first

@@ -11,11 +11,11 @@ use Rattle.plan_errors.specs.declared.fault.CliFault.{CliFault}
 use Rattle.plan_errors.specs.Output.{Refuses}
 use Rattle.plan_psplib.specs.Project.{Project, SaysProject}
 use Rattle.plan_table.specs.Names.{Name}
-use Rattle.plan_cli.specs.Plans.{RefusesFile, RefusesWith, resources_in}
-use Rattle.plan_cli.specs.declared.capacities.Capacity.{Capacity}
+use Rattle.plan_documents.specs.Plans.{RefusesFile, RefusesWith, resources_in}
+use Rattle.plan_documents.specs.declared.capacities.Capacity.{Capacity}
 use Rattle.plan_cli.specs.SlackRun.{TellsBadStarts, TellsSlackFault, TellsBadSlack, TellsNoSlack}
-use Rattle.plan_cli.specs.Starts.{TellsNoStarts}
-use Rattle.plan_cli.proofs.RunLemmas.{refuses_as}
+use Rattle.plan_documents.specs.Starts.{TellsNoStarts}
+use Rattle.plan_documents.proofs.ErrorLemmas.{refuses_as}
 
 -- the text of the starts is refused, for the network of an instance
 pub bad_starts : (listed : List ℕ) (i : Planned) (net : Net) (e : CliFault) → NeedsFit (problem_of i)

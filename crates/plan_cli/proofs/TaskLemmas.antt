@@ -9,7 +9,7 @@ use Rattle.plan_psplib.specs.Plain.{longest_text}
 use Rattle.plan_orlib.specs.Shop as docs
 use Rattle.plan_orlib.specs.Says.{Says as ShopSays}
 use Rattle.plan_formats.specs.declared.format.Format.{Format}
-use Rattle.plan_cli.specs.Documents.{IsOfSubject}
+use Rattle.plan_documents.specs.Documents.{IsOfSubject}
 use Rattle.plan_cli.specs.Scheduled.{TellsNoRuleOf, TellsNotMade}
 use Rattle.plan_cli.specs.Tables.{IsTableBy}
 use Rattle.plan_cli.specs.ChartRun.{IsChartFrom}
@@ -19,9 +19,9 @@ use Rattle.plan_cli.specs.CompareRun.{IsCompared, TellsNotCompared}
 use Rattle.plan_cli.specs.CheckRun.{TellsVerdictOn, TellsBadStarts}
 use Rattle.plan_cli.specs.BestRun.{IsBestOf, TellsNoBestOf}
 use Rattle.plan_cli.specs.SolveRun.{IsSolvedBy, TellsNoSolution}
-use Rattle.plan_cli.specs.declared.documents.Plan.{Plan}
-use Rattle.plan_cli.specs.declared.documents.Subject.{Subject}
-use Rattle.plan_cli.specs.declared.documents.Subject.TheVariants as subject
+use Rattle.plan_documents.specs.declared.documents.Plan.{Plan}
+use Rattle.plan_documents.specs.declared.documents.Subject.{Subject}
+use Rattle.plan_documents.specs.declared.documents.Subject.TheVariants as subject
 use Rattle.plan_encoding.specs.Workbooks.{workbook}
 use Rattle.plan_spreadsheet.specs.PlainLists.{Stays, text_of}
 use Rattle.plan_spreadsheet.specs.declared.list.PlainList.{PlainList}
@@ -36,9 +36,9 @@ use Rattle.plan_table.specs.Listing.{rows_read, table_in, table_read_with}
 use Rattle.plan_table.specs.Overrides.{Override, override_of}
 use Rattle.plan_table.specs.ShopReading.{shop_in, shop_table_read}
 use Rattle.plan_table.specs.Reading as reads
-use Rattle.plan_table.specs.Refused.{IsRefusedWith}
-use Rattle.plan_cli.specs.ImportRun.{IsImportOf, TellsNoImport, IsShopImportOf, TellsNoShopImport, IsImportBy, TellsNoImportBy, IsImportIn, TellsNoImportIn, IsImport, TellsUnimported, IsShopImport, TellsNoShop}
-use Rattle.plan_cli.specs.Spreadsheets.{IsListOf, IsLong, IsPlainIf, OfList, RefusesOfList, TellsBook, TellsNoList, TellsNoListIf, is_short}
+use Rattle.plan_table.specs.Refused.{IsRefusedWith, IsUnsoundWith}
+use Rattle.plan_documents.specs.ImportRun.{IsImportOf, TellsNoImport, TellsNoSoundImport, IsShopImportOf, TellsNoShopImport, IsImportBy, TellsNoImportBy, IsImportIn, TellsNoImportIn, IsImport, TellsUnimported, IsShopImport, TellsNoShop}
+use Rattle.plan_documents.specs.Spreadsheets.{IsListOf, IsLong, IsPlainIf, OfList, RefusesOfList, TellsBook, TellsNoList, TellsNoListIf, is_short}
 use Rattle.plan_cli.specs.Tasks.{IsTextOf, IsLineOf, ShowsTask}
 use Rattle.plan_cli.specs.declared.tasks.Rows.{Rows}
 use Rattle.plan_cli.specs.declared.tasks.Rows.TheVariants as rows
@@ -111,8 +111,7 @@ long_list : (given : List Override) (file list : List ℕ) → longest_text < le
 long_list given file list long (p, plain, same) =
     let front = take (longest_text + 1) file in
     let is : IsLong front p = subst (λ (b : Bool). IsPlainIf b given front p) (not_short front (front_long file long)) plain in
-    let whole : IsLong file p = long_front file p is in
-    (
+    let whole : IsLong file p = long_front file p is in (
       same ∙ stays p front is.1,
       (p, subst (λ (b : Bool). IsPlainIf b given file p) (sym (not_short file long)) whole, sym (stays p file whole.1)),
     )
@@ -211,6 +210,15 @@ refused_front given file (errors.Fault f) (inr (t, read, cycle)) = inr (t, sym (
 pub no_import_front : (given : List Override) → HoldsByFront (TellsNoImport given)
 no_import_front given file line (inl (first, refused, tells)) = inl (first, refused_front given file (errors.Fault first) refused, tells)
 no_import_front given file line (inr (t, read, tells)) = inr (t, sym (front_table given file) ∙ read, tells)
+
+unsound_front : (file : List ℕ) (e : ReadError) → IsUnsoundWith [] (take (longest_text + 1) file) e → IsUnsoundWith [] file e
+unsound_front file errors.Memory r = tt
+unsound_front file (errors.Fault f) (inl read) = inl (sym (front_table [] file) ∙ read)
+unsound_front file (errors.Fault f) (inr (t, read, cycle)) = inr (t, sym (front_table [] file) ∙ read, cycle)
+
+pub no_sound_import_front : HoldsByFront TellsNoSoundImport
+no_sound_import_front file line (inl (first, refused, tells)) = inl (first, unsound_front file (errors.Fault first) refused, tells)
+no_sound_import_front file line (inr (t, read, tells)) = inr (t, sym (front_table [] file) ∙ read, tells)
 
 pub shop_import_front : HoldsByFront IsShopImportOf
 shop_import_front file text (t, read, shown) = (t, sym (front_orders file) ∙ read, shown)

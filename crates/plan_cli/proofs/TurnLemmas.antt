@@ -7,7 +7,7 @@ use Rattle.plan_prove.specs.Proofs.{IsProofOf}
 use Rattle.plan_prove.specs.declared.proof.Proof.{Proof}
 use Rattle.plan_solve.specs.declared.solving.Solved.{Solved}
 use Rattle.plan_cli.specs.SolveRun.{IsSolution}
-use Rattle.plan_cli.specs.declared.documents.Plan.TheVariants as plan
+use Rattle.plan_documents.specs.declared.documents.Plan.TheVariants as plan
 use Rattle.plan_cli.proofs.ScheduledLemmas.{fits_shop}
 
 -- the lower bound is at most the makespan

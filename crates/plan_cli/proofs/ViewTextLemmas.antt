@@ -31,8 +31,8 @@ use Rattle.plan_cli.specs.ChartRun as charts
 use Rattle.plan_cli.specs.CheckRun.{TellsVerdictOn, sentence_of}
 use Rattle.plan_cli.specs.CompareRun.{Compares, IsCompared}
 use Rattle.plan_cli.specs.DaysRun.{IsDaysFrom, IsDaysTable, ShowsDays}
-use Rattle.plan_cli.specs.Documents.{IsOfSubject}
-use Rattle.plan_cli.specs.ImportRun.{IsImport, IsShopImport}
+use Rattle.plan_documents.specs.Documents.{IsOfSubject}
+use Rattle.plan_documents.specs.ImportRun.{IsImport, IsShopImport}
 use Rattle.plan_cli.specs.PlanRefs.{viewed}
 use Rattle.plan_cli.specs.ProofText.{IsBoundLine}
 use Rattle.plan_cli.specs.ProveRun.{IsProvedOf}
@@ -44,10 +44,10 @@ use Rattle.plan_cli.specs.Tables as tables
 use Rattle.plan_cli.specs.Tasks.{IsTextOf}
 use Rattle.plan_cli.specs.TaskViews.{IsDateView, IsTableViewBy, IsChartViewFrom, IsDaysViewFrom, IsVerdictView, IsSlackViewOf, IsComparedView, ComparesIn, AreDaysOf, IsBestProjectViewBy, IsBestShopViewBy, IsBestViewOf, IsSolvedViewBy, IsProvedViewOf, IsViewOf, schedule_of, chart_of, bounded_of}
 use Rattle.plan_cli.specs.Views.{View, table, chart, text, plain_text}
-use Rattle.plan_cli.specs.declared.documents.Plan.{Plan}
-use Rattle.plan_cli.specs.declared.documents.Plan.TheVariants as plan
-use Rattle.plan_cli.specs.declared.documents.Subject.{Subject}
-use Rattle.plan_cli.specs.declared.documents.Subject.TheVariants as subject
+use Rattle.plan_documents.specs.declared.documents.Plan.{Plan}
+use Rattle.plan_documents.specs.declared.documents.Plan.TheVariants as plan
+use Rattle.plan_documents.specs.declared.documents.Subject.{Subject}
+use Rattle.plan_documents.specs.declared.documents.Subject.TheVariants as subject
 use Rattle.plan_cli.specs.declared.origins.Origin.{Origin}
 use Rattle.plan_cli.specs.declared.calendars.Dates.{Dates}
 use Rattle.plan_cli.specs.declared.tasks.Task.{Task}

@@ -8,7 +8,7 @@ use Rattle.plan_exact.specs.declared.fault.ExactFault.TheVariants as exact
 use Rattle.plan_gantt.specs.FirstFaults.{TellsFirstFailing}
 use Rattle.plan_gantt.specs.ProjectBestText.{IsBestProjectTextOf, TellsBestProjectRefusal}
 use Rattle.plan_gantt.specs.ExactFaultText.{exact_fault_text_of}
-use Rattle.plan_cli.specs.ScheduleRun.{as_available}
+use Rattle.plan_documents.specs.ScheduleRun.{as_available}
 
 -- a text shows the best schedule of the project in a file, within the budget of an argument and
 -- with the capacities of the file

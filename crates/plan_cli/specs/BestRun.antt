@@ -11,8 +11,8 @@ use Rattle.plan_gantt.specs.FirstFaults.{TellsFirstShopFault}
 use Rattle.plan_gantt.specs.ShopBestText.{IsBestTextOf, TellsBestRefusal}
 use Rattle.plan_gantt.specs.ProjectBestText.{IsBestProjectTextOf, TellsNoBestProject}
 use Rattle.plan_gantt.specs.ExactFaultText.{exact_fault_text_of}
-use Rattle.plan_cli.specs.declared.documents.Plan.{Plan}
-use Rattle.plan_cli.specs.declared.documents.Plan.TheVariants as plan
+use Rattle.plan_documents.specs.declared.documents.Plan.{Plan}
+use Rattle.plan_documents.specs.declared.documents.Plan.TheVariants as plan
 
 -- a text shows the best schedule of an instance in a file
 abbrev pub IsBestTableOf : List ℕ → List ℕ → List ℕ → List ℕ → Type 0

@@ -2,10 +2,10 @@
 use Rattle.std.specs.Prelude.{◌≡◌, ℕ, List}
 use Rattle.plan_sgs.specs.Problem.{makespan}
 use Rattle.plan_views.specs.Charts.{chart_text_of}
-use Rattle.plan_cli.specs.Documents.{problem_of}
+use Rattle.plan_documents.specs.Documents.{problem_of}
 use Rattle.plan_cli.specs.PlanRefs.{viewed}
 use Rattle.plan_cli.specs.Scheduled.{IsScheduleFrom}
-use Rattle.plan_cli.specs.declared.documents.Plan.{Plan}
+use Rattle.plan_documents.specs.declared.documents.Plan.{Plan}
 use Rattle.plan_cli.specs.declared.origins.Origin.{Origin}
 
 -- the chart of a schedule with these starts and this makespan: one line for each activity, numbered

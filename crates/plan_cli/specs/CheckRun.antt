@@ -5,14 +5,14 @@ use Rattle.plan_sgs.specs.Verdicts.{IsFirstVerdict}
 use Rattle.plan_sgs.specs.declared.verdict.Verdict.{Verdict}
 use Rattle.plan_report.specs.StartsText.{SaysStarts}
 use Rattle.plan_report.specs.VerdictText as verdicts
-use Rattle.plan_cli.specs.Documents.{problem_of, sheet_of}
-use Rattle.plan_cli.specs.Starts.{TellsNoStarts}
-use Rattle.plan_cli.specs.VerdictText.{infeasible_line}
+use Rattle.plan_documents.specs.Documents.{problem_of, sheet_of}
+use Rattle.plan_documents.specs.Starts.{TellsNoStarts}
+use Rattle.plan_documents.specs.VerdictText.{infeasible_line}
 use Rattle.plan_cli.specs.Views.{View, named_text, plain_text, text_in}
 use Rattle.plan_cli.specs.declared.tasks.Rows.{Rows}
 use Rattle.plan_cli.specs.declared.tasks.Rows.TheVariants as rows
-use Rattle.plan_cli.specs.declared.documents.Plan.{Plan}
-use Rattle.plan_cli.specs.declared.documents.Plan.TheVariants as plan
+use Rattle.plan_documents.specs.declared.documents.Plan.{Plan}
+use Rattle.plan_documents.specs.declared.documents.Plan.TheVariants as plan
 
 -- the sentence of a verdict on the starts of a plan
 abbrev pub sentence_of : Plan → Verdict → List ℕ

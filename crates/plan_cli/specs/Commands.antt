@@ -11,7 +11,7 @@ use Rattle.plan_cli.specs.TaskViews.{IsDaysViewFrom, IsSolvedViewBy, IsTableView
 use Rattle.plan_cli.specs.Views.{View}
 use Rattle.plan_cli.specs.declared.commands.Command.{Command}
 use Rattle.plan_cli.specs.declared.commands.Command.TheVariants as command
-use Rattle.plan_cli.specs.declared.documents.Plan.{Plan}
+use Rattle.plan_documents.specs.declared.documents.Plan.{Plan}
 
 -- the value of a command for a plan
 abbrev pub IsPlanView : Command → Plan → View → Type 0

@@ -9,10 +9,10 @@ use Rattle.plan_errors.specs.declared.context.About.TheVariants as subject
 use Rattle.plan_errors.specs.declared.fault.CliFault.{CliFault}
 use Rattle.plan_errors.specs.declared.fault.CliFault.TheVariants as fault
 use Rattle.plan_views.specs.ComparisonTables as views
-use Rattle.plan_cli.specs.Documents.{sheet_of}
+use Rattle.plan_documents.specs.Documents.{sheet_of}
 use Rattle.plan_cli.specs.PlanRefs.{viewed}
-use Rattle.plan_cli.specs.Starts.{TellsNoStarts}
-use Rattle.plan_cli.specs.declared.documents.Plan.{Plan}
+use Rattle.plan_documents.specs.Starts.{TellsNoStarts}
+use Rattle.plan_documents.specs.declared.documents.Plan.{Plan}
 
 -- the line of an error with the name of a schedule behind it
 abbrev pub named_line : List ℕ → List ℕ → List ℕ

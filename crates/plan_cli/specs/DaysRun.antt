@@ -10,7 +10,7 @@ use Rattle.plan_cli.specs.Calendars.{IsDated, TellsNoCalendar}
 use Rattle.plan_cli.specs.PlanRefs.{viewed}
 use Rattle.plan_cli.specs.Scheduled.{IsScheduleFrom, TellsNotMade}
 use Rattle.plan_cli.specs.declared.calendars.Dates.{Dates}
-use Rattle.plan_cli.specs.declared.documents.Plan.{Plan}
+use Rattle.plan_documents.specs.declared.documents.Plan.{Plan}
 use Rattle.plan_cli.specs.declared.origins.Origin.{Origin}
 
 -- a text shows days of the calendar of some texts

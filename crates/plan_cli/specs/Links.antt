@@ -4,10 +4,10 @@ use Rattle.std.specs.Prelude.{◌≡◌, ℕ, List, [], ◌∷◌}
 use Rattle.plan_sgs.specs.Instances.{Planned}
 use Rattle.plan_table.specs.Names.{Name}
 use Rattle.plan_views.specs.LinkColumns.{Links, project_links}
-use Rattle.plan_cli.specs.Plans.{IsOfProject, resources_in}
-use Rattle.plan_cli.specs.declared.capacities.Capacity.{Capacity}
-use Rattle.plan_cli.specs.declared.documents.Subject.{Subject}
-use Rattle.plan_cli.specs.declared.documents.Subject.TheVariants as subject
+use Rattle.plan_documents.specs.Plans.{IsOfProject, resources_in}
+use Rattle.plan_documents.specs.declared.capacities.Capacity.{Capacity}
+use Rattle.plan_documents.specs.declared.documents.Subject.{Subject}
+use Rattle.plan_documents.specs.declared.documents.Subject.TheVariants as subject
 
 -- those of the project in a file, with given capacities, by the names of the resources and the ids
 -- of the activities

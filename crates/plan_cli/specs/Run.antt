@@ -1,26 +1,18 @@
 -- The output of a command for the bytes that it reads (docs/definitions.md, "Runs").
-use Rattle.std.specs.Prelude.{◌≡◌, ◌⊎◌, ℕ, ◌+◌, ◌≤◌, List, Option, Result, Err, String}
-use Rattle.std.specs.Prelude.{IfSome, IfOk, IfErr, IsErrOf, OnOk, length, take, string_bytes}
-use Rattle.std.specs.Global.{Global}
+use Rattle.std.specs.Prelude.{◌≡◌, ◌⊎◌, ℕ, ◌+◌, ◌≤◌, List, Option, Result, Err}
+use Rattle.std.specs.Prelude.{IfSome, IfOk, IfErr, IsErrOf, OnOk, length, take}
 use Rattle.std.specs.Io.KnownBytes.{Consumes}
 use Rattle.plan_io.specs.declared.traits.Sink as sinks
 use Rattle.plan_io.specs.declared.traits.Source as sources
-use Rattle.plan_psplib.specs.declared.text.fault.FileCode.TheVariants as code
-use Rattle.plan_psplib.specs.declared.text.fault.FileFault.{FileFault}
 use Rattle.plan_io.specs.Devices.{most_calls}
 use Rattle.plan_psplib.specs.Plain.{longest_text}
 use Rattle.plan_psplib.specs.Project.{Project, SaysProject}
 use Rattle.plan_gantt.specs.DateTable.{IsDateText}
-use Rattle.plan_gantt.specs.FaultText.{file_fault_text_of}
 use Rattle.plan_errors.specs.declared.fault.CliFault.{CliFault}
 use Rattle.plan_errors.specs.declared.fault.CliFault.TheVariants as fault
 use Rattle.plan_errors.specs.declared.context.About.TheVariants as about
 use Rattle.plan_errors.specs.Faults.{IsUnread}
 use Rattle.plan_errors.specs.Output.{HasSinkFailed, Writes}
-
--- a call that makes a text makes one of this kind
-abbrev pub IfText : Result (String Global) CliFault → (List ℕ → Type 0) → Type 0
-IfText result IsText = IfOk result (λ text. IsText (string_bytes text))
 
 -- a text is the date table of the project in a file
 abbrev pub IsDateTableOf : List ℕ → List ℕ → Type 0
@@ -41,10 +33,6 @@ ReadsFront IsText IsLine remaining rest taken after (Err fault.Memory) = Unit {0
 ReadsFront IsText IsLine remaining rest taken after (Err (fault.Input unread)) = Unit {0}
 ReadsFront IsText IsLine remaining rest taken after result =
     JudgesFront remaining rest (λ front. Writes (IsText front) (IsLine front) taken after result)
-
--- a line gives the error of a file, which isn't that of memory
-abbrev pub Tells : FileFault → List ℕ → Type 0
-Tells first line = (first.code ≡ code.Memory → ⊥) × (line ≡ file_fault_text_of first)
 
 -- The effect of a run on its reader and its writer. IsText relates a file to the texts that are
 -- written for it, IsLine to the lines that refuse it.

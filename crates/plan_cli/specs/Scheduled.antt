@@ -18,10 +18,10 @@ use Rattle.plan_gantt.specs.ShopText.{rule_starts, TellsNoRule}
 use Rattle.plan_solve.specs.Solutions.{IsLowerBound}
 use Rattle.plan_report.specs.StartsText.{SaysStarts}
 use Rattle.plan_cli.specs.CheckRun.{TellsWhyInfeasible}
-use Rattle.plan_cli.specs.Documents.{problem_of, count_of, sheet_of}
-use Rattle.plan_cli.specs.Starts.{TellsNoStarts}
-use Rattle.plan_cli.specs.declared.documents.Plan.{Plan}
-use Rattle.plan_cli.specs.declared.documents.Plan.TheVariants as plan
+use Rattle.plan_documents.specs.Documents.{problem_of, count_of, sheet_of}
+use Rattle.plan_documents.specs.Starts.{TellsNoStarts}
+use Rattle.plan_documents.specs.declared.documents.Plan.{Plan}
+use Rattle.plan_documents.specs.declared.documents.Plan.TheVariants as plan
 use Rattle.plan_cli.specs.declared.schedules.Scheduled.{Scheduled}
 use Rattle.plan_cli.specs.declared.origins.Origin.{Origin}
 use Rattle.plan_cli.specs.declared.origins.Origin.TheVariants as origin

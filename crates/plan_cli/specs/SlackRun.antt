@@ -8,9 +8,9 @@ use Rattle.plan_report.specs.StartsText.{SaysStarts, activity_sheet}
 use Rattle.plan_report.specs.VerdictText.{sentence_of}
 use Rattle.plan_report.specs.declared.slack.SlackFault.{SlackFault}
 use Rattle.plan_report.specs.declared.slack.SlackFault.TheVariants as slack
-use Rattle.plan_cli.specs.ScheduleRun.{TellsNeed}
-use Rattle.plan_cli.specs.Starts.{TellsNoStarts}
-use Rattle.plan_cli.specs.VerdictText.{infeasible_line}
+use Rattle.plan_documents.specs.ScheduleRun.{TellsNeed}
+use Rattle.plan_documents.specs.Starts.{TellsNoStarts}
+use Rattle.plan_documents.specs.VerdictText.{infeasible_line}
 
 -- a text is the table of slacks of the schedule with the starts in a text
 abbrev pub IsSlackOf : List ℕ → Planned → List ℕ → Type 0

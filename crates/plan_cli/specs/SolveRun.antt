@@ -3,11 +3,11 @@ use Rattle.std.specs.Prelude.{◌≡◌, ◌≤◌, ℕ, List, ◌++◌}
 use Rattle.plan_sgs.specs.Problem.{IsActive, IsShortest, makespan}
 use Rattle.plan_solve.specs.Solutions.{IsLowerBound}
 use Rattle.plan_solve.specs.declared.solving.Solved.{Solved}
-use Rattle.plan_cli.specs.Documents.{problem_of, count_of}
+use Rattle.plan_documents.specs.Documents.{problem_of, count_of}
 use Rattle.plan_cli.specs.ProofText.{IsBoundLine}
 use Rattle.plan_cli.specs.Scheduled.{CanBeShown}
 use Rattle.plan_cli.specs.Tables.{table_of}
-use Rattle.plan_cli.specs.declared.documents.Plan.{Plan}
+use Rattle.plan_documents.specs.declared.documents.Plan.{Plan}
 
 -- An active schedule of a plan that texts can show, with its makespan, and a lower bound of the
 -- makespans of all feasible ones. If they meet, the schedule is a shortest one.

@@ -3,10 +3,10 @@
 use Rattle.std.specs.Prelude.{◌≡◌, ℕ, List}
 use Rattle.plan_sgs.specs.Problem.{makespan}
 use Rattle.plan_views.specs.ScheduleTables.{schedule_text_of}
-use Rattle.plan_cli.specs.Documents.{problem_of}
+use Rattle.plan_documents.specs.Documents.{problem_of}
 use Rattle.plan_cli.specs.PlanRefs.{viewed}
 use Rattle.plan_cli.specs.Scheduled.{IsByRule}
-use Rattle.plan_cli.specs.declared.documents.Plan.{Plan}
+use Rattle.plan_documents.specs.declared.documents.Plan.{Plan}
 
 -- the table of a schedule with these starts and this makespan
 abbrev pub table_of : Plan → List ℕ → ℕ → List ℕ

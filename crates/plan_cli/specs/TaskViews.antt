@@ -38,17 +38,17 @@ use Rattle.plan_views.specs.ScheduleTables.{schedule_view_of}
 use Rattle.plan_views.specs.SlackTables.{IsSlackView}
 use Rattle.plan_cli.specs.Calendars.{IsDated}
 use Rattle.plan_cli.specs.CompareRun.{SayPair}
-use Rattle.plan_cli.specs.Documents.{IsOfSubject, problem_of, sheet_of}
+use Rattle.plan_documents.specs.Documents.{IsOfSubject, problem_of, sheet_of}
 use Rattle.plan_cli.specs.CheckRun.{sentence_of}
-use Rattle.plan_cli.specs.ImportRun.{IsImport, IsShopImport}
+use Rattle.plan_documents.specs.ImportRun.{IsImport, IsShopImport}
 use Rattle.plan_cli.specs.PlanRefs.{viewed}
-use Rattle.plan_cli.specs.Plans.{IsOfProject, IsOfShop}
+use Rattle.plan_documents.specs.Plans.{IsOfProject, IsOfShop}
 use Rattle.plan_cli.specs.Scheduled.{IsByRule, IsScheduleFrom}
 use Rattle.plan_cli.specs.Views.{View, table, chart, text}
 use Rattle.plan_table.specs.Overrides.{override_of}
 use Rattle.plan_cli.specs.declared.calendars.Dates.{Dates}
-use Rattle.plan_cli.specs.declared.documents.Plan.{Plan}
-use Rattle.plan_cli.specs.declared.documents.Plan.TheVariants as plan
+use Rattle.plan_documents.specs.declared.documents.Plan.{Plan}
+use Rattle.plan_documents.specs.declared.documents.Plan.TheVariants as plan
 use Rattle.plan_cli.specs.declared.origins.Origin.{Origin}
 use Rattle.plan_cli.specs.declared.tasks.Task.{Task}
 use Rattle.plan_cli.specs.declared.tasks.Task.TheVariants as task

@@ -5,10 +5,10 @@ use Rattle.std.specs.Prelude.{take, map}
 use Rattle.std.specs.Prelude.{codes, bytes_eq, if◌then◌else◌}
 use Rattle.plan_gantt.specs.FirstFaults.{TellsFirstFailing}
 use Rattle.plan_cli.specs.Run.{IsDateTableOf, ReadsFront}
-use Rattle.plan_cli.specs.Documents.{IsOfSubject, RefusesSubject, ids_in, ids_of_rows}
-use Rattle.plan_cli.specs.Documents.{names_of_rows, names_of_lines}
+use Rattle.plan_documents.specs.Documents.{IsOfSubject, RefusesSubject, ids_in, ids_of_rows}
+use Rattle.plan_documents.specs.Documents.{names_of_rows, names_of_lines}
 use Rattle.plan_cli.specs.Links.{AreProjectLinks, AreSubjectLinks}
-use Rattle.plan_cli.specs.Plans.{IsOfProject, RefusesFile}
+use Rattle.plan_documents.specs.Plans.{IsOfProject, RefusesFile}
 use Rattle.plan_cli.specs.Scheduled.{TellsNoRuleOf, TellsNotMade}
 use Rattle.plan_cli.specs.Tables.{IsTableBy}
 use Rattle.plan_cli.specs.ChartRun.{IsChartFrom}
@@ -21,8 +21,8 @@ use Rattle.plan_cli.specs.CheckRun.{TellsVerdictOn, TellsBadStarts}
 use Rattle.plan_cli.specs.BestRun.{IsBestOf, TellsNoBestOf}
 use Rattle.plan_cli.specs.ProveRun.{IsProofTableOf, TellsWhyNoProof}
 use Rattle.plan_cli.specs.SolveRun.{IsSolvedBy, TellsNoSolution}
-use Rattle.plan_cli.specs.ImportRun.{IsImport, TellsUnimported, IsShopImport, TellsNoShop}
-use Rattle.plan_cli.specs.Lists.{ReadsAs, RefusesAs}
+use Rattle.plan_documents.specs.ImportRun.{IsImport, TellsUnimported, IsShopImport, TellsNoShop}
+use Rattle.plan_documents.specs.Lists.{ReadsAs, RefusesAs}
 use Rattle.plan_views.specs.LinkColumns.{Links}
 use Rattle.plan_cli.specs.TaskViews.{IsViewOf}
 use Rattle.plan_cli.specs.Views.{View, named_text, text_in}
@@ -30,8 +30,8 @@ use Rattle.plan_table.specs.Names.{Name, names_behind, activity_key}
 use Rattle.plan_table.specs.Overrides.{override_of}
 use Rattle.plan_table.specs.ShopNames.{instance_names, order_key}
 use Rattle.plan_table.specs.declared.kinds.ListKind.{ListKind}
-use Rattle.plan_cli.specs.declared.documents.Subject.{Subject}
-use Rattle.plan_cli.specs.declared.documents.Subject.TheVariants as subjects
+use Rattle.plan_documents.specs.declared.documents.Subject.{Subject}
+use Rattle.plan_documents.specs.declared.documents.Subject.TheVariants as subjects
 use Rattle.plan_cli.specs.declared.inputs.Inputs as inputs
 use Rattle.plan_cli.specs.declared.tasks.Rows.{Rows}
 use Rattle.plan_cli.specs.declared.tasks.Rows.TheVariants as rows

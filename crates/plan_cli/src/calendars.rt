@@ -4,7 +4,7 @@ ghost use Rattle.std.specs.Prelude.{IfOk, IfErr};
 ghost use Rattle.plan_errors.specs.Output.{Refuses};
 ghost use Rattle.plan_cli.specs.Calendars as spec;
 
-use crate::refusals::{calendar_refusal, holiday_refusal};
+use crate::calendar_refusals::{calendar_refusal, holiday_refusal};
 use plan_errors::CliFault;
 use plan_gantt::Calendar;
 use plan_holidays::{HolidayFault, weekday_digits, with_holidays_in};

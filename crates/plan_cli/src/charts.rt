@@ -3,17 +3,17 @@
 ghost use Rattle.std.specs.Prelude.{◌≡◌, IfOk, IfErr};
 ghost use Rattle.plan_errors.specs.Output.{Refuses};
 ghost use Rattle.plan_views.specs.Charts as charts;
-ghost use Rattle.plan_cli.specs.Documents.{count_of};
+ghost use Rattle.plan_documents.specs.Documents.{count_of};
 ghost use Rattle.plan_cli.specs.Scheduled.{CanBeShown, TellsNotMade};
 ghost use Rattle.plan_cli.specs.TaskViews as spec;
 ghost use Rattle.plan_cli.specs.Views.{IfView};
 
-use crate::documents::Plan;
 use crate::origins::Origin;
 use crate::plan_refs::plan_ref;
 use crate::schedules::schedule_from;
 use crate::views::View;
 use crate::watchers::{Log, ProofWatcher, SolveWatcher};
+use plan_documents::Plan;
 use plan_errors::CliFault;
 use plan_sgs::Schedule;
 use plan_views::{Chart, chart_view};

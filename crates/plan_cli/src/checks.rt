@@ -3,16 +3,15 @@
 ghost use Rattle.std.specs.Prelude.{◌≡◌, IfOk, IfErr};
 ghost use Rattle.plan_errors.specs.Output.{Refuses};
 ghost use Rattle.plan_cli.specs.CheckRun as spec;
-ghost use Rattle.plan_cli.specs.Documents.{IsOfSubject};
-ghost use Rattle.plan_cli.specs.Lists.{ReadsAs};
+ghost use Rattle.plan_documents.specs.Documents.{IsOfSubject};
+ghost use Rattle.plan_documents.specs.Lists.{ReadsAs};
 ghost use Rattle.plan_cli.specs.Tasks.{IsLineOf, RefusesRead, ShowsRead, ShowsTask};
 ghost use Rattle.plan_cli.specs.Views.{view_of};
 
-use crate::documents::{Subject, plan_of, read_document};
-use crate::lists::readable;
 use crate::tasks::{Rows, Task, rows_on};
 use crate::verdicts::{shown_verdict, verdict_of};
 use crate::views::{View, named_text, plain_text, text_in};
+use plan_documents::{Subject, plan_of, read_document, readable};
 use plan_errors::CliFault;
 use plan_sgs::Verdict;
 use std::alloc::{AllocError, Global};

@@ -2,24 +2,23 @@
 
 ghost use Rattle.std.specs.Prelude.{IfOk, IfErr};
 ghost use Rattle.plan_errors.specs.Output.{Refuses};
-ghost use Rattle.plan_cli.specs.Documents.{IsOfSubject, RefusesSubject, HasFit};
+ghost use Rattle.plan_documents.specs.Documents.{IsOfSubject, RefusesSubject, HasFit};
 ghost use Rattle.plan_cli.specs.Commands as spec;
-ghost use Rattle.plan_cli.specs.Details.{NamesVerdict};
+ghost use Rattle.plan_documents.specs.Details.{NamesVerdict};
 ghost use Rattle.plan_cli.specs.Views.{IfView};
 
 use crate::calendars::Dates;
 use crate::charts::chart_from;
 use crate::comparisons::{Pair, comparison_of};
 use crate::days::days_from;
-use crate::documents::{Plan, Subject, plan_of, read_document};
 use crate::origins::Origin;
-use crate::sentences::with_names;
 use crate::solutions::best_of;
 use crate::solver::solution_view;
 use crate::tables::schedule_of;
 use crate::verdicts::verdict_on;
 use crate::views::View;
 use crate::watchers::{Log, ProofWatcher, SolveWatcher};
+use plan_documents::{Plan, Subject, plan_of, read_document, with_names};
 use plan_errors::CliFault;
 use std::alloc::Global;
 
@@ -58,7 +57,7 @@ fn plan_view<V: ProofWatcher + SolveWatcher, L: Log>(
 }
 
 // Returns what a command shows for a plan. Its error has the names in the file of the plan.
-#[tactic(auto, using(crate::proofs::SentenceLemmas::detailed_refuses))]
+#[tactic(auto, using(plan_documents::proofs::SentenceLemmas::detailed_refuses))]
 fn named_view<V: ProofWatcher + SolveWatcher, L: Log>(
     alloc: Global,
     command: Command<'_>,

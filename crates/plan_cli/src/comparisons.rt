@@ -8,13 +8,12 @@ ghost use Rattle.plan_errors.specs.Output.{Refuses};
 ghost use Rattle.plan_formats.specs.Tables.{table_of};
 ghost use Rattle.plan_cli.specs.TaskViews as views;
 ghost use Rattle.plan_cli.specs.Views.{IfView};
-ghost use Rattle.plan_cli.specs.Documents.{count_of, sheet_of};
+ghost use Rattle.plan_documents.specs.Documents.{count_of, sheet_of};
 ghost use Rattle.plan_cli.specs.CompareRun as spec;
 
-use crate::documents::Plan;
 use crate::plan_refs::plan_ref;
-use crate::starts::starts_of;
 use crate::views::View;
+use plan_documents::{Plan, starts_of};
 use plan_errors::{About, CliFault, Part, Refusal};
 use plan_formats::Table;
 use plan_views::comparison_view;

@@ -117,7 +117,12 @@ pub fn run_on_texts<I: Inputs, W: Sink, V: ProofWatcher + SolveWatcher + NoteWat
 }
 
 /// Calls [`run_on_named`] with the system's files and standard input.
-pub fn run_on_file<R: Files + Input + AllocGlobal, W: Sink, V: ProofWatcher + SolveWatcher + NoteWatcher, L: Log>(
+pub fn run_on_file<
+    R: Files + Input + AllocGlobal,
+    W: Sink,
+    V: ProofWatcher + SolveWatcher + NoteWatcher,
+    L: Log,
+>(
     rt: &R,
     task: Task<'_>,
     rows: Rows,
@@ -149,7 +154,11 @@ pub fn run_on_file<R: Files + Input + AllocGlobal, W: Sink, V: ProofWatcher + So
 }
 
 /// Calls [`run_on_texts`] with the system's files and standard input.
-pub fn run_on_files<R: Files + Input + AllocGlobal, W: Sink, V: ProofWatcher + SolveWatcher + NoteWatcher>(
+pub fn run_on_files<
+    R: Files + Input + AllocGlobal,
+    W: Sink,
+    V: ProofWatcher + SolveWatcher + NoteWatcher,
+>(
     rt: &R,
     task: Task<'_>,
     rows: Rows,

@@ -5,9 +5,7 @@ ghost use Rattle.plan_table.specs.Names.{name_of};
 ghost use Rattle.plan_views.specs.LinkColumns.{links_of};
 ghost use Rattle.plan_cli.specs.Links as spec;
 
-use crate::capacities::{Capacity, replaced};
-use crate::documents::Subject;
-use crate::projects::{instance_with, read_project};
+use plan_documents::{Capacity, Subject, instance_with, read_project, replaced};
 use plan_errors::CliFault;
 use plan_table::{NameLine, resource_names};
 use plan_views::{ActivityLinks, project_links};

@@ -6,8 +6,8 @@ ghost use Rattle.plan_cli.specs.NamesRun as spec;
 ghost use Rattle.plan_cli.specs.TaskViews.{IsNameView};
 ghost use Rattle.plan_cli.specs.Views.{IfView};
 
-use crate::refusals::file_refusal;
 use crate::views::View;
+use plan_documents::file_refusal;
 use plan_errors::CliFault;
 use plan_orlib::names;
 use std::alloc::Global;

@@ -2,10 +2,10 @@
 
 ghost use Rattle.std.specs.Prelude.{◌≡◌};
 ghost use Rattle.plan_views.specs.Plans as views;
-ghost use Rattle.plan_cli.specs.Documents.{count_of, problem_of};
+ghost use Rattle.plan_documents.specs.Documents.{count_of, problem_of};
 ghost use Rattle.plan_cli.specs.PlanRefs as spec;
 
-use crate::documents::Plan;
+use plan_documents::Plan;
 use plan_views::PlanRef;
 
 /// Returns a reference to the project or the job shop of a plan.

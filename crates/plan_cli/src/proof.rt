@@ -12,9 +12,8 @@ ghost use Rattle.plan_cli.specs.ProveRun as spec;
 ghost use Rattle.plan_cli.specs.TaskViews as views;
 ghost use Rattle.plan_cli.specs.Views.{IfView};
 
-use crate::documents::Plan;
-use crate::shops::{open_shop, read_instance};
 use crate::views::View;
+use plan_documents::{Plan, open_shop, read_instance};
 use plan_errors::{About, CliFault, Code, refuse_words};
 use plan_formats::Table;
 use plan_orlib::ShopDoc;

@@ -6,17 +6,15 @@ ghost use Rattle.plan_sgs.specs.Instances.{planned};
 ghost use Rattle.plan_errors.specs.Output.{Refuses};
 ghost use Rattle.plan_cli.specs.TaskViews.{IsSlackViewOf};
 ghost use Rattle.plan_cli.specs.Views.{IfView, view_of};
-ghost use Rattle.plan_cli.specs.Plans.{IsOfProject, PlannedWith, RefusesFile, RefusesWith};
-ghost use Rattle.plan_cli.specs.Details.{NamesVerdict};
+ghost use Rattle.plan_documents.specs.Plans.{IsOfProject, PlannedWith, RefusesFile, RefusesWith};
+ghost use Rattle.plan_documents.specs.Details.{NamesVerdict};
 ghost use Rattle.plan_cli.specs.SlackRun as spec;
 
-use crate::capacities::{Capacity, replaced};
-use crate::documents::Subject;
-use crate::infeasible::infeasible_refusal;
-use crate::projects::{instance_with, read_project};
-use crate::sentences::with_names;
-use crate::starts::read_starts;
 use crate::views::View;
+use plan_documents::{
+    Capacity, Subject, infeasible_refusal, instance_with, read_project, read_starts, replaced,
+    with_names,
+};
 use plan_errors::{About, CliFault, Code, refuse_words};
 use plan_psplib::ProjectDoc;
 use plan_report::SlackFault;
@@ -50,7 +48,7 @@ fn instance_slacks(alloc: Global, listed: &[u8], instance: &Instance) -> Result<
 
 // Returns the table of slacks for the starts in a text, for an instance. Its error has the names in
 // the file of the instance.
-#[tactic(auto, using(crate::proofs::SentenceLemmas::detailed_refuses))]
+#[tactic(auto, using(plan_documents::proofs::SentenceLemmas::detailed_refuses))]
 fn named_slacks(
     alloc: Global,
     listed: &[u8],

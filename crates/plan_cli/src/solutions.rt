@@ -5,20 +5,30 @@ ghost use Rattle.plan_exact.specs.Budgets.{IsBudgetText};
 ghost use Rattle.plan_gantt.specs.ShopBestText.{TellsBestRefusal};
 ghost use Rattle.plan_gantt.specs.ProjectBestText.{TellsNoBestProject};
 ghost use Rattle.plan_errors.specs.Output.{Refuses};
-ghost use Rattle.plan_cli.specs.BestRun.{TellsNoBestOf, TellsSolvingRefusal};
+ghost use Rattle.plan_cli.specs.BestRun.{TellsNoBestOf, TellsSolving, TellsSolvingRefusal};
 ghost use Rattle.plan_cli.specs.BestProjectRun as projects;
 ghost use Rattle.plan_cli.specs.TaskViews as spec;
 ghost use Rattle.plan_cli.specs.Views.{IfView};
 
-use crate::documents::Plan;
-use crate::refusals::exact_refusal;
 use crate::views::View;
-use plan_errors::CliFault;
-use plan_exact::{parse_budget, solve_project, solve_shop};
+use plan_documents::Plan;
+use plan_errors::{About, CliFault, Code, refuse_words};
+use plan_exact::{ExactFault, parse_budget, solve_project, solve_shop};
 use plan_sgs::Instance;
 use plan_shop::Shop;
 use plan_views::{PlanRef, best_view};
 use std::alloc::Global;
+
+// Returns the error of a search.
+fn exact_refusal(alloc: Global, fault: &ExactFault) -> CliFault
+    ensures { Refuses (TellsSolving fault.now) result }
+{
+    match fault {
+        ExactFault::NoMemory => CliFault::Memory,
+        ExactFault::TooLarge => refuse_words(alloc, Code::TooLarge, About::Plan, "too large"),
+        ExactFault::BadBudget => refuse_words(alloc, Code::BadBudget, About::Limit, "budget"),
+    }
+}
 
 // Returns a job shop's best schedule.
 fn solved_shop(alloc: Global, budget: u64, shop: &Shop) -> Result<View, CliFault>

@@ -8,10 +8,10 @@ ghost use Rattle.plan_cli.specs.TaskViews as views;
 ghost use Rattle.plan_cli.specs.Views.{IfView};
 ghost use Rattle.plan_cli.specs.SolveRun as spec;
 
-use crate::documents::Plan;
 use crate::tables::schedule_table;
 use crate::views::View;
 use crate::watchers::{ProofWatcher, SolveWatcher};
+use plan_documents::Plan;
 use plan_errors::CliFault;
 use plan_formats::Table;
 use plan_sgs::Instance;

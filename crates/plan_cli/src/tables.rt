@@ -3,18 +3,17 @@
 ghost use Rattle.std.specs.Prelude.{◌≡◌, IfOk, IfErr};
 ghost use Rattle.plan_gantt.specs.FirstFaults.{TellsFirstFailing};
 ghost use Rattle.plan_errors.specs.Output.{Refuses};
-ghost use Rattle.plan_cli.specs.Documents.{count_of};
+ghost use Rattle.plan_documents.specs.Documents.{count_of};
 ghost use Rattle.plan_cli.specs.Scheduled.{CanBeShown, TellsNoRuleOf};
 ghost use Rattle.plan_formats.specs.Tables.{table_of};
 ghost use Rattle.plan_cli.specs.TaskViews as spec;
 ghost use Rattle.plan_cli.specs.Views.{IfView};
 
-use crate::documents::Plan;
 use crate::plan_refs::plan_ref;
-use crate::projects::read_project;
 use crate::schedules::schedule_by;
 use crate::views::View;
 use plan_cpm::dates;
+use plan_documents::{Plan, read_project};
 use plan_errors::CliFault;
 use plan_formats::Table;
 use plan_sgs::Schedule;

@@ -11,13 +11,9 @@ ghost use Rattle.plan_cli.specs.TaskViews.{IsViewOf};
 ghost use Rattle.plan_cli.specs.Views.{IfView};
 
 use crate::calendars::Dates;
-use crate::capacities::Capacity;
 use crate::commands::{Command, subject_view};
 use crate::comparisons::Pair;
-use crate::documents::{Subject, ids_of_rows, names_of_lines, names_of_rows};
-use crate::imports::{file_import_text, file_shop_text};
 use crate::links::{project_links_in, subject_links};
-use crate::lists::readable;
 use crate::names::names_in;
 use crate::origins::Origin;
 use crate::proof::proof_view;
@@ -25,6 +21,10 @@ use crate::slacks::slacks_of;
 use crate::tables::dates_of;
 use crate::views::{View, named_text, plain_text, text_in};
 use crate::watchers::{Log, ProofWatcher, SolveWatcher};
+use plan_documents::{
+    Capacity, Subject, file_import_text, file_shop_text, ids_of_rows, names_of_lines,
+    names_of_rows, readable,
+};
 use plan_errors::CliFault;
 use plan_formats::Format;
 use plan_table::{ListKind, NameLine, Override, activity_ids, activity_names, order_names};

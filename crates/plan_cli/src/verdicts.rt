@@ -9,15 +9,13 @@ ghost use Rattle.plan_errors.specs.Output.{Refuses};
 ghost use Rattle.plan_cli.specs.TaskViews.{IsVerdictView};
 ghost use Rattle.plan_cli.specs.Views.{IfView, table, view_of};
 ghost use Rattle.plan_views.specs.LineLists.{verdict_view_of};
-ghost use Rattle.plan_cli.specs.Documents.{count_of, problem_of};
+ghost use Rattle.plan_documents.specs.Documents.{count_of, problem_of};
 ghost use Rattle.plan_report.specs.VerdictText.{sentence_of, shop_sentence_of};
-ghost use Rattle.plan_cli.specs.VerdictText.{infeasible_line};
+ghost use Rattle.plan_documents.specs.VerdictText.{infeasible_line};
 ghost use Rattle.plan_cli.specs.CheckRun as spec;
 
-use crate::documents::Plan;
-use crate::infeasible::{infeasible_refusal, shop_infeasible_refusal};
-use crate::starts::starts_of;
 use crate::views::View;
+use plan_documents::{Plan, infeasible_refusal, shop_infeasible_refusal, starts_of};
 use plan_errors::CliFault;
 use plan_report::{push_sentence, push_shop_sentence};
 use plan_sgs::{Verdict, check};

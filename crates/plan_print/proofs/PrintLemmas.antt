@@ -6,7 +6,7 @@ use Rattle.plan_errors.specs.declared.fault.CliFault.{CliFault}
 use Rattle.plan_errors.specs.declared.fault.CliFault.TheVariants as cli
 use Rattle.plan_cli.specs.Tasks.{AreRead, bytes_named}
 use Rattle.plan_cli.specs.NamedTexts.{DoesWith}
-use Rattle.plan_cli.specs.declared.documents.Subject.{Subject}
+use Rattle.plan_documents.specs.declared.documents.Subject.{Subject}
 use Rattle.plan_cli.specs.declared.origins.Origin.{Origin}
 use Rattle.plan_cli.specs.declared.origins.Origin.TheVariants as origin
 use Rattle.plan_print.specs.Prints.{PrintsFrom, PrintsNamed, PrintsWith, Prints, sheet_with}

@@ -10,11 +10,11 @@ use Rattle.plan_gantt.specs.declared.days.DaysFault.TheVariants as days
 use Rattle.plan_cli.specs.DaysRun.{TellsBeyond, TellsDaysFault, TellsNoDays}
 use Rattle.plan_cli.specs.Scheduled.{IsMadeFrom, TellsNotMade}
 use Rattle.plan_cli.specs.declared.calendars.Dates.{Dates}
-use Rattle.plan_cli.specs.declared.documents.Plan.{Plan}
-use Rattle.plan_cli.specs.declared.documents.Subject.{Subject}
+use Rattle.plan_documents.specs.declared.documents.Plan.{Plan}
+use Rattle.plan_documents.specs.declared.documents.Subject.{Subject}
 use Rattle.plan_cli.specs.declared.schedules.Scheduled.{Scheduled}
 use Rattle.plan_cli.specs.declared.origins.Origin.{Origin}
-use Rattle.plan_cli.proofs.RunLemmas.{refuses_as}
+use Rattle.plan_documents.proofs.ErrorLemmas.{refuses_as}
 use Rattle.plan_print.specs.declared.sheets.Sheet.{Sheet}
 use Rattle.plan_print.specs.Sheets.{IsSheetOf, HidesSheet, IsSheetFrom, TellsNoSheetFrom}
 

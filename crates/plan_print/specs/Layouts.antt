@@ -1,8 +1,8 @@
 -- Plans as plan_sheet draws them (docs/definitions.md, "Runs").
 use Rattle.std.specs.Prelude.{Bool}
 use Rattle.plan_sheet.specs.Layouts.{Layout, activities, steps}
-use Rattle.plan_cli.specs.declared.documents.Plan.{Plan}
-use Rattle.plan_cli.specs.declared.documents.Plan.TheVariants as plan
+use Rattle.plan_documents.specs.declared.documents.Plan.{Plan}
+use Rattle.plan_documents.specs.declared.documents.Plan.TheVariants as plan
 
 -- the layout of a plan; that of a job shop has a line for each job, or else for each machine
 abbrev pub layout_of : Plan → Bool → Layout

@@ -6,8 +6,8 @@ use Rattle.plan_cpm.specs.Dates.{DateTable, AreDates, total_float_of}
 use Rattle.plan_sgs.specs.Problem.{Problem, makespan}
 use Rattle.plan_sgs.specs.Instances.{problem_of}
 use Rattle.plan_report.specs.Slack.{AreSlacks}
-use Rattle.plan_cli.specs.declared.documents.Plan.{Plan}
-use Rattle.plan_cli.specs.declared.documents.Plan.TheVariants as plan
+use Rattle.plan_documents.specs.declared.documents.Plan.{Plan}
+use Rattle.plan_documents.specs.declared.documents.Plan.TheVariants as plan
 
 -- the total floats of so many activities, from 1 on
 abbrev pub floats_in : DateTable → ℕ → List ℕ

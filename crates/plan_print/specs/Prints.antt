@@ -6,12 +6,12 @@ use Rattle.plan_errors.specs.Faults.{IsUnread}
 use Rattle.plan_errors.specs.Output.{Writes}
 use Rattle.plan_errors.specs.declared.context.About.TheVariants as about
 use Rattle.plan_errors.specs.declared.fault.CliFault.{CliFault}
-use Rattle.plan_cli.specs.Documents.{IsOfSubject, RefusesSubject}
-use Rattle.plan_cli.specs.Lists.{ReadsAs, RefusesAs}
+use Rattle.plan_documents.specs.Documents.{IsOfSubject, RefusesSubject}
+use Rattle.plan_documents.specs.Lists.{ReadsAs, RefusesAs}
 use Rattle.plan_cli.specs.NamedTexts.{DoesWith, dates_with}
 use Rattle.plan_cli.specs.declared.calendars.Dates.{Dates}
-use Rattle.plan_cli.specs.declared.documents.Subject.{Subject}
-use Rattle.plan_cli.specs.declared.documents.Subject.TheVariants as subject
+use Rattle.plan_documents.specs.declared.documents.Subject.{Subject}
+use Rattle.plan_documents.specs.declared.documents.Subject.TheVariants as subject
 use Rattle.plan_cli.specs.declared.origins.Origin.{Origin}
 use Rattle.plan_cli.specs.declared.origins.Origin.TheVariants as origin
 use Rattle.plan_print.specs.Sheets.{IsSheetFrom, TellsNoSheetFrom}

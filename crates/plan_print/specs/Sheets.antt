@@ -8,12 +8,12 @@ use Rattle.plan_sheet.specs.Plans as plans
 use Rattle.plan_sheet.specs.Reports.{layout_page, IsDatedReport, IsReportBeyond}
 use Rattle.plan_sheet.specs.declared.page.Heading.{Heading}
 use Rattle.plan_cli.specs.DaysRun.{ShowsDays, TellsNoDays}
-use Rattle.plan_cli.specs.Documents.{names_of_rows, names_of_lines}
+use Rattle.plan_documents.specs.Documents.{names_of_rows, names_of_lines}
 use Rattle.plan_cli.specs.Scheduled.{IsBoundFrom, IsScheduleFrom, TellsNotMade}
 use Rattle.plan_cli.specs.declared.calendars.Dates.{Dates}
-use Rattle.plan_cli.specs.declared.documents.Plan.{Plan}
-use Rattle.plan_cli.specs.declared.documents.Subject.{Subject}
-use Rattle.plan_cli.specs.declared.documents.Subject.TheVariants as subject
+use Rattle.plan_documents.specs.declared.documents.Plan.{Plan}
+use Rattle.plan_documents.specs.declared.documents.Subject.{Subject}
+use Rattle.plan_documents.specs.declared.documents.Subject.TheVariants as subject
 use Rattle.plan_cli.specs.declared.origins.Origin.{Origin}
 use Rattle.plan_print.specs.Digests.{file_digest, instance_digest}
 use Rattle.plan_print.specs.Layouts.{layout_of}

@@ -1,8 +1,8 @@
 //! The charts of schedules as SVG.
 
 ghost use Rattle.std.specs.Prelude.{◌≡◌, IfErr};
-ghost use Rattle.plan_cli.specs.Documents.{count_of};
-ghost use Rattle.plan_cli.specs.Run.{IfText};
+ghost use Rattle.plan_documents.specs.Documents.{count_of};
+ghost use Rattle.plan_documents.specs.Lines.{IfText};
 ghost use Rattle.plan_cli.specs.Scheduled.{CanBeShown};
 ghost use Rattle.plan_print.specs.Sheets as spec;
 

@@ -3,8 +3,8 @@
 ghost use Rattle.std.specs.Prelude.{◌≡◌, IfOk, IfErr, IsErrOf, map, string_bytes};
 ghost use Rattle.plan_errors.specs.Output.{Refuses};
 ghost use Rattle.plan_table.specs.Names.{name_of};
-ghost use Rattle.plan_cli.specs.Documents.{count_of};
-ghost use Rattle.plan_cli.specs.Run.{IfText};
+ghost use Rattle.plan_documents.specs.Documents.{count_of};
+ghost use Rattle.plan_documents.specs.Lines.{IfText};
 ghost use Rattle.plan_cli.specs.Scheduled.{CanBeShown};
 ghost use Rattle.plan_cli.specs.DaysRun.{ShowsDays, TellsBeyond, TellsNoDays};
 ghost use Rattle.plan_print.specs.Sheets as spec;

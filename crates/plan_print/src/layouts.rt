@@ -2,7 +2,7 @@
 
 ghost use Rattle.std.specs.Prelude.{◌≡◌};
 ghost use Rattle.plan_sheet.specs.Layouts as layouts;
-ghost use Rattle.plan_cli.specs.Documents.{count_of};
+ghost use Rattle.plan_documents.specs.Documents.{count_of};
 ghost use Rattle.plan_print.specs.Layouts as spec;
 
 use plan_cli::Plan;

@@ -4,7 +4,7 @@ ghost use Rattle.std.specs.Prelude.{◌≡◌, IfOk, IfErr};
 ghost use Rattle.plan_net.specs.Network as networks;
 ghost use Rattle.plan_cpm.specs.Dates.{AreDates};
 ghost use Rattle.plan_sgs.specs.Instances.{problem_of};
-ghost use Rattle.plan_cli.specs.Documents.{count_of};
+ghost use Rattle.plan_documents.specs.Documents.{count_of};
 ghost use Rattle.plan_cli.specs.Scheduled.{CanBeShown};
 ghost use Rattle.plan_print.specs.Margins as spec;
 

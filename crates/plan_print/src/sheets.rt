@@ -2,9 +2,9 @@
 
 ghost use Rattle.std.specs.Prelude.{◌≡◌, IfErr, IfOk};
 ghost use Rattle.plan_errors.specs.Output.{Refuses};
-ghost use Rattle.plan_cli.specs.Details.{NamesVerdict};
-ghost use Rattle.plan_cli.specs.Documents.{count_of};
-ghost use Rattle.plan_cli.specs.Run.{IfText};
+ghost use Rattle.plan_documents.specs.Details.{NamesVerdict};
+ghost use Rattle.plan_documents.specs.Documents.{count_of};
+ghost use Rattle.plan_documents.specs.Lines.{IfText};
 ghost use Rattle.plan_cli.specs.Scheduled.{CanBeShown, IsMadeFrom, TellsNotMade};
 ghost use Rattle.plan_print.specs.Prints as prints;
 ghost use Rattle.plan_print.specs.Prints.{IsSheet, RefusesSheet};
@@ -74,7 +74,7 @@ fn schedule_sheet(
 }
 
 // Returns the schedule of a plan. Its error has the names in the file of the plan.
-#[tactic(auto, using(plan_cli::proofs::SentenceLemmas::detailed_refuses))]
+#[tactic(auto, using(plan_documents::proofs::SentenceLemmas::detailed_refuses))]
 fn named_schedule<V: ProofWatcher + SolveWatcher>(
     alloc: Global,
     subject: Subject<'_>,

@@ -9,7 +9,7 @@ use Rattle.plan_table.specs.Kinds.{Decides, IsPlanFile}
 use Rattle.plan_table.specs.Listing.{table_read_with}
 use Rattle.plan_table.specs.Overrides.{Override}
 use Rattle.plan_table.specs.Reading.{Fault, fault_of}
-use Rattle.plan_table.specs.Refused.{IsRefusedWith}
+use Rattle.plan_table.specs.Refused.{IsUnsoundWith}
 use Rattle.plan_table.specs.Table.{Table}
 use Rattle.plan_spreadsheet.specs.PlainLists.{IsReadable, IsRefused}
 
@@ -42,7 +42,7 @@ no_so h = absurd (subst IsYes h tt)
 
 -- a list whose error is no cycle is refused
 pub refused_yes : (overrides : List Override) (text : List ℕ) (f : declared.TableFault) (cycle : Bool)
-    → IsRefusedWith overrides text (errors.Fault f) → Decides cycle (f.code ≡ code.Cycle)
+    → IsUnsoundWith overrides text (errors.Fault f) → Decides cycle (f.code ≡ code.Cycle)
     → not cycle ≡ true → IsRefused overrides text
 refused_yes overrides text f true given cycle h = no_so (sym h)
 refused_yes overrides text f false (inl is) other h = (fault_of f, is, other)
@@ -50,7 +50,7 @@ refused_yes overrides text f false (inr found) other h = absurd (other found.2.0
 
 -- a list whose error is a cycle isn't
 pub refused_no : (overrides : List Override) (text : List ℕ) (f : declared.TableFault) (cycle : Bool)
-    → IsRefusedWith overrides text (errors.Fault f) → Decides cycle (f.code ≡ code.Cycle)
+    → IsUnsoundWith overrides text (errors.Fault f) → Decides cycle (f.code ≡ code.Cycle)
     → not cycle ≡ false → IsRefused overrides text → ⊥
 refused_no overrides text f true (inl is) cycle h refused =
     refused.2 (same_code (table_read_with overrides text) (fault_of f) refused.0 is refused.1 ∙ cycle)

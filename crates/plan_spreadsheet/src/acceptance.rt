@@ -5,7 +5,7 @@ ghost use Rattle.plan_table.specs.Kinds.{Decides};
 ghost use Rattle.plan_table.specs.Overrides.{override_of};
 ghost use Rattle.plan_spreadsheet.specs.PlainLists as spec;
 
-use plan_table::{Override, ReadError, TableCode, TableFault, is_plan_file, read_table_with};
+use plan_table::{Override, ReadError, TableCode, TableFault, is_plan_file, read_sound_table};
 use std::alloc::{AllocError, Global};
 
 // Whether an error is that of a cycle.
@@ -30,7 +30,7 @@ pub fn is_refused(
     ensures no { IfOk result (λ is. IsFalse is
         → spec.IsRefused (map override_of overrides.now) text.now → ⊥) }
 {
-    match read_table_with(alloc, overrides, text) {
+    match read_sound_table(alloc, overrides, text) {
         Ok(_) => Ok(false),
         Err(ReadError::Memory) => Err(AllocError),
         Err(ReadError::Fault(fault)) => Ok(!is_cycle(&fault)),

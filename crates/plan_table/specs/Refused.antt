@@ -42,6 +42,13 @@ IsCyclic t (errors.Fault f) = NamesCycle t f
 abbrev pub IsUnfit : Table → declared.TableFault → Type 0
 IsUnfit t f = NamesCycle t f ⊎ (IsSound (network_of (table_jobs t)) × (table_fits t ≡ Err (fault_of f)))
 
+-- a text with overrides has no sound table: the first check that it fails, or else a cycle; out of
+-- memory may come at any time
+abbrev pub IsUnsoundWith : List Override → List ℕ → ReadError → Type 0
+IsUnsoundWith overrides text errors.Memory = Unit {0}
+IsUnsoundWith overrides text (errors.Fault f) =
+    (table_read_with overrides text ≡ Err (fault_of f)) ⊎ ((t : Table) × (table_read_with overrides text ≡ Ok t) × NamesCycle t f)
+
 -- a text with overrides is refused for the first check that it fails, or else for a cycle, or else for
 -- a need above its capacity; out of memory may come at any time
 abbrev pub IsRefusedWith : List Override → List ℕ → ReadError → Type 0

@@ -44,7 +44,7 @@ pub use listing::read_rows_of;
 pub use names::{NameLine, activity_ids, activity_names, first_name, resource_names};
 pub use overrides::{Override, given};
 pub use predecessors::{Label, number_by};
-pub use reading::{read_table, read_table_with};
+pub use reading::{read_sound_table, read_table, read_table_with};
 pub use records::Row;
 pub use settlement::{
     Body, cell_of, gives_capacity, gives_successors, has_capacity, ids_place, is_capacities, settle,

@@ -2,15 +2,13 @@
 
 ghost use Rattle.std.specs.Prelude.{◌≡◌, map, IfOk, slice_index_or};
 ghost use Rattle.plan_table.specs.declared.fault.TableCode.TheVariants as code;
-ghost use Rattle.plan_table.specs.Listing.{listing_of};
 ghost use Rattle.plan_table.specs.Needs as spec;
 ghost use Rattle.plan_table.specs.Reading.{Fails, Gives, fault};
 ghost use Rattle.plan_table.specs.Table.{activity_of, resource_of};
 
 use crate::cells::word_fault;
 use crate::fault::{ReadError, TableCode};
-use crate::listing::Listing;
-use crate::table::{Activity, Resource};
+use crate::table::{Activity, Resource, Table};
 use std::alloc::{AllocError, Global};
 
 // The words of the error: a resource, and its capacity.
@@ -95,8 +93,8 @@ fn check_activities(
 
 /// Checks that the needs of a table are at most the capacities of its resources. The error (T19) names
 /// the line of the row, the resource and its capacity.
-pub fn check_needs(alloc: Global, listing: &Listing) -> Result<(), ReadError>
-    ensures { Gives (λ u. u) result (spec.table_fits (listing_of listing.now)) }
+pub fn check_needs(alloc: Global, table: &Table) -> Result<(), ReadError>
+    ensures { Gives (λ u. u) result (spec.table_fits table.now) }
 {
-    check_activities(alloc, &listing.resources, &listing.activities)
+    check_activities(alloc, &table.resources, &table.activities)
 }

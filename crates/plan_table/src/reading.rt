@@ -98,13 +98,36 @@ pub fn read_table(alloc: Global, text: &[u8]) -> Result<Table, ReadError>
     read_table_with(alloc, &[], text)
 }
 
+/// Reads a table with given capacities, as [`read_table_with`] does, but its needs may be above its
+/// capacities: a caller that replaces capacities checks them later.
+#[tactic(auto, using(crate::proofs::CycleLemmas::unsound_first, crate::proofs::CycleLemmas::unsound_cycle))]
+pub fn read_sound_table(
+    alloc: Global,
+    overrides: &[Override<'_>],
+    text: &[u8],
+) -> Result<Table, ReadError>
+    // What is read is what the text says with these capacities.
+    ensures found { IfOk result (λ t. table_read_with (map override_of overrides.now) text.now
+        ≡ Ok t) }
+    // Which check is the first that fails, or which cycle there is.
+    ensures refused { IfErr result (spec.IsUnsoundWith (map override_of overrides.now) text.now) }
+{
+    let listing = read_listing(alloc, overrides, text)?;
+    check_cycle(alloc, &listing)?;
+    Ok(Table {
+        own_ids: listing.own_ids,
+        activities: listing.activities,
+        resources: listing.resources,
+    })
+}
+
 /// Reads a table with given capacities, which override those in the table. If a resource is given
 /// more than once, then its last capacity counts. A resource needs a capacity in the table or in
 /// `overrides` (T10).
 ///
 /// Overrides are checked behind all rows: T14 if the table doesn't have the resource, T12 (line 0)
 /// if the capacity is above 10,000.
-#[tactic(auto, using(crate::proofs::CycleLemmas::refused_first, crate::proofs::CycleLemmas::refused_cycle, crate::proofs::CycleLemmas::refused_need))]
+#[tactic(auto, using(crate::proofs::CycleLemmas::refused_unsound, crate::proofs::CycleLemmas::refused_need))]
 pub fn read_table_with(
     alloc: Global,
     overrides: &[Override<'_>],
@@ -118,12 +141,7 @@ pub fn read_table_with(
     // Which check is the first that fails, or which cycle there is, or which need is too high.
     ensures refused { IfErr result (spec.IsRefusedWith (map override_of overrides.now) text.now) }
 {
-    let listing = read_listing(alloc, overrides, text)?;
-    check_cycle(alloc, &listing)?;
-    check_needs(alloc, &listing)?;
-    Ok(Table {
-        own_ids: listing.own_ids,
-        activities: listing.activities,
-        resources: listing.resources,
-    })
+    let table = read_sound_table(alloc, overrides, text)?;
+    check_needs(alloc, &table)?;
+    Ok(table)
 }

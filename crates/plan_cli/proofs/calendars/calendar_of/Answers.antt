@@ -2,7 +2,7 @@ use Rattle.std.proofs.lemmas.Result.{IfOk-weaker}
 use Rattle.plan_errors.specs.Output.{Refuses}
 use Rattle.plan_cli.specs.Calendars.{AddsHolidays, IsDated, TellsBadHolidays, TellsNoCalendar}
 use Rattle.plan_cli.proofs.CalendarLemmas.{dated, bad_holidays}
-use Rattle.plan_cli.proofs.RunLemmas.{if_err_weaker}
+use Rattle.plan_documents.proofs.ErrorLemmas.{if_err_weaker}
 use Rattle.plan_cli.proofs.calendars.calendar_of.Goals as goal
 
 pub returns-clause-made : goal.returns-clause-made

@@ -3,12 +3,13 @@ use Rattle.std.proofs.lemmas.Result.{err_from_is_err_and}
 use Rattle.plan_sgs.specs.declared.verdict.Verdict.{Verdict}
 use Rattle.plan_table.specs.declared.kinds.ListKind.{ListKind}
 use Rattle.plan_cli.specs.CheckRun.{IsVerdictOn}
-use Rattle.plan_cli.specs.Documents.{IsOfSubject}
-use Rattle.plan_cli.specs.Lists.{text_of}
+use Rattle.plan_documents.specs.Documents.{IsOfSubject}
+use Rattle.plan_documents.specs.Lists.{text_of}
 use Rattle.plan_cli.specs.Tasks.{IsLineOf}
 use Rattle.plan_cli.specs.declared.checks.Checked.{Checked}
 use Rattle.plan_cli.specs.declared.tasks.Task.TheVariants as task
-use Rattle.plan_cli.proofs.ListLemmas.{shown_as, read_as, refused_as, reading_refused}
+use Rattle.plan_documents.proofs.ListLemmas.{read_as, reading_refused}
+use Rattle.plan_cli.proofs.ListTaskLemmas.{shown_as, refused_as}
 use Rattle.plan_cli.proofs.checks.check_text.Goals as goal
 use Rattle.std.proofs.Common.{refl}
 

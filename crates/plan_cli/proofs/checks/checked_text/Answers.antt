@@ -1,13 +1,13 @@
 use Rattle.std.proofs.Common.{List, ℕ, sym, subst}
 use Rattle.std.proofs.lemmas.Result.{err_from_is_err_and}
 use Rattle.plan_cli.specs.CheckRun.{IsVerdictOn, TellsBadStarts}
-use Rattle.plan_cli.specs.Documents.{IsOfSubject}
+use Rattle.plan_documents.specs.Documents.{IsOfSubject}
 use Rattle.plan_cli.specs.Tasks.{ShowsTask}
 use Rattle.plan_cli.specs.TaskViews.{IsVerdictView}
 use Rattle.plan_cli.specs.Views.{view_of}
 use Rattle.plan_cli.specs.declared.tasks.Task.TheVariants as task
 use Rattle.plan_cli.proofs.CheckLemmas.{check_shown, verdict_shown}
-use Rattle.plan_cli.proofs.DocumentLemmas.{of_subject, no_document, no_plan, no_text}
+use Rattle.plan_documents.proofs.DocumentLemmas.{of_subject, no_document, no_plan, no_text}
 use Rattle.plan_cli.proofs.checks.checked_text.Goals as goal
 
 pub returns-clause-text : goal.returns-clause-text

@@ -1,10 +1,10 @@
 use Rattle.std.proofs.lemmas.Result.{IfOk-weaker, err_from_is_err_and}
 use Rattle.plan_cli.specs.Commands.{IsPlanView, IsPlanLine}
-use Rattle.plan_cli.specs.Documents.{IsOfSubject, RefusesSubject}
+use Rattle.plan_documents.specs.Documents.{IsOfSubject, RefusesSubject}
 use Rattle.plan_cli.specs.Views.{view_of}
 use Rattle.plan_errors.specs.Output.{Refuses}
-use Rattle.plan_cli.proofs.DocumentLemmas.{of_subject, no_document, no_plan, no_text}
-use Rattle.plan_cli.proofs.RunLemmas.{if_err_weaker}
+use Rattle.plan_documents.proofs.DocumentLemmas.{of_subject, no_document, no_plan, no_text}
+use Rattle.plan_documents.proofs.ErrorLemmas.{if_err_weaker}
 use Rattle.plan_cli.proofs.commands.subject_view.Goals as goal
 
 pub returns-in_err-document-clause-refused : goal.returns-in_err-document-clause-refused

@@ -1,5 +1,5 @@
 use Rattle.std.proofs.lemmas.Result.{err_from_is_err_and}
-use Rattle.plan_cli.specs.Documents.{sheet_of}
+use Rattle.plan_documents.specs.Documents.{sheet_of}
 use Rattle.plan_cli.proofs.CompareLemmas.{no_first, no_second}
 use Rattle.plan_cli.proofs.comparisons.comparison_of.Goals as goal
 

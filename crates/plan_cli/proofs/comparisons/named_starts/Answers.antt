@@ -5,8 +5,8 @@ use Rattle.plan_orlib.proofs.NameLemmas.{mapped}
 use Rattle.plan_report.specs.StartsText.{SaysStarts}
 use Rattle.plan_errors.specs.Output.{Refuses}
 use Rattle.plan_cli.specs.CompareRun.{IsNamedFault, TellsNoStartsOf}
-use Rattle.plan_cli.specs.Documents.{count_of, sheet_of}
-use Rattle.plan_cli.specs.Starts.{TellsNoStarts}
+use Rattle.plan_documents.specs.Documents.{count_of, sheet_of}
+use Rattle.plan_documents.specs.Starts.{TellsNoStarts}
 use Rattle.plan_cli.proofs.CompareLemmas.{named_refuses}
 use Rattle.plan_cli.proofs.comparisons.named_starts.Goals as goal
 

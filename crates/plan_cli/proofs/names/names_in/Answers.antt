@@ -3,7 +3,7 @@ use Rattle.plan_psplib.specs.Faults.{IsWantOfMemory}
 use Rattle.plan_psplib.specs.Plain.{plain}
 use Rattle.plan_orlib.specs.ShopText as reading
 use Rattle.plan_errors.specs.Output.{Refuses}
-use Rattle.plan_cli.specs.Run.{Tells}
+use Rattle.plan_documents.specs.Lines.{Tells}
 use Rattle.plan_cli.specs.NamesRun.{TellsNotPlain}
 use Rattle.plan_orlib.proofs.NameLemmas.{mapped}
 use Rattle.plan_cli.proofs.RunLemmas.{told_not_plain}

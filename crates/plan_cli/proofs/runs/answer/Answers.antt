@@ -1,7 +1,7 @@
 use Rattle.std.proofs.Common.{List, ℕ, Err, sym, subst}
 use Rattle.std.proofs.lemmas.Result.{err_from_is_err_and}
 use Rattle.plan_cli.specs.Tasks.{RefusesRead, ShowsRead}
-use Rattle.plan_cli.proofs.ListLemmas.{read_front, refused_front}
+use Rattle.plan_cli.proofs.ListTaskLemmas.{read_front, refused_front}
 use Rattle.plan_cli.proofs.RunLemmas.{writes_known, reads_front, sent_writes, refused_writes}
 use Rattle.plan_cli.proofs.runs.answer.Goals as goal
 

@@ -1,7 +1,7 @@
-use Rattle.plan_cli.specs.Plans.{IsOfShop}
+use Rattle.plan_documents.specs.Plans.{IsOfShop}
 use Rattle.plan_cli.specs.ShopRun.{IsShopTableOf, TellsWhyNoShop}
 use Rattle.plan_cli.specs.Tables.{IsTableBy}
-use Rattle.plan_cli.specs.declared.documents.Plan.TheVariants as plan
+use Rattle.plan_documents.specs.declared.documents.Plan.TheVariants as plan
 use Rattle.plan_cli.proofs.PlanLemmas.{table_of_shop, same_line}
 use Rattle.plan_cli.proofs.RunLemmas.{front_as, text_as}
 use Rattle.plan_cli.proofs.runs.shop_run.Goals as goal

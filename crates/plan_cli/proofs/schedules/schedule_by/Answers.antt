@@ -1,6 +1,6 @@
 use Rattle.std.proofs.Common.{IfOk, sym, subst}
 use Rattle.plan_cli.specs.Scheduled.{IsByRule}
-use Rattle.plan_cli.specs.declared.documents.Plan.{Plan}
+use Rattle.plan_documents.specs.declared.documents.Plan.{Plan}
 use Rattle.plan_cli.proofs.schedules.schedule_by.Goals as goal
 
 pub returns-in-Project-clause-starts : goal.returns-in-Project-clause-starts

@@ -4,7 +4,7 @@ use Rattle.plan_sgs.specs.Instances.{problem_of}
 use Rattle.plan_report.specs.Slack.{RefusesSlack}
 use Rattle.plan_errors.specs.Output.{Refuses}
 use Rattle.plan_cli.specs.SlackRun.{TellsBadStarts, TellsBadSlack, TellsSlackFault}
-use Rattle.plan_cli.proofs.RunLemmas.{refuses_as}
+use Rattle.plan_documents.proofs.ErrorLemmas.{refuses_as}
 use Rattle.plan_cli.proofs.SlackLemmas.{bad_starts, slack_refused}
 use Rattle.plan_cli.proofs.slacks.instance_slacks.Goals as goal
 

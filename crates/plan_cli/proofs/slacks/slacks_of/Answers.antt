@@ -2,9 +2,9 @@ use Rattle.std.proofs.Common.{List, map, ap, ◌∙◌}
 use Rattle.plan_table.specs.Names.{name_of}
 use Rattle.plan_table.specs.declared.names.NameLine.{NameLine}
 use Rattle.plan_errors.specs.Output.{Refuses}
-use Rattle.plan_cli.specs.Plans.{RefusesFile, RefusesWith}
+use Rattle.plan_documents.specs.Plans.{RefusesFile, RefusesWith}
 use Rattle.plan_cli.specs.SlackRun.{TellsNoSlack}
-use Rattle.plan_cli.proofs.RunLemmas.{if_err_weaker}
+use Rattle.plan_documents.proofs.ErrorLemmas.{if_err_weaker}
 use Rattle.plan_cli.proofs.SlackLemmas.{file_refused}
 use Rattle.plan_cli.proofs.slacks.slacks_of.Goals as goal
 

@@ -6,7 +6,7 @@ use Rattle.plan_exact.specs.ProjectSolutions.{RefusesProject}
 use Rattle.plan_errors.specs.Output.{Refuses}
 use Rattle.plan_cli.specs.BestProjectRun.{TellsSearchRefusal}
 use Rattle.plan_cli.specs.BestRun.{TellsSolving}
-use Rattle.plan_cli.proofs.RunLemmas.{if_was_ok}
+use Rattle.plan_documents.proofs.ErrorLemmas.{if_was_ok}
 use Rattle.plan_cli.proofs.SearchLemmas.{project_refused}
 use Rattle.plan_cli.specs.Views.{table}
 use Rattle.plan_cli.proofs.solutions.solved_project.Goals as goal

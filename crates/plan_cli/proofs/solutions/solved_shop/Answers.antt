@@ -5,7 +5,7 @@ use Rattle.plan_shop.proofs.ShopBasics.{count_is}
 use Rattle.plan_exact.specs.Solutions.{RefusesSolving}
 use Rattle.plan_errors.specs.Output.{Refuses}
 use Rattle.plan_cli.specs.BestRun.{TellsSolving, TellsSolvingRefusal}
-use Rattle.plan_cli.proofs.RunLemmas.{if_was_ok}
+use Rattle.plan_documents.proofs.ErrorLemmas.{if_was_ok}
 use Rattle.plan_cli.proofs.SearchLemmas.{shop_refused}
 use Rattle.plan_cli.specs.Views.{table}
 use Rattle.plan_cli.proofs.solutions.solved_shop.Goals as goal

@@ -1,9 +1,10 @@
 use Rattle.std.proofs.Common.{ℕ, Vec}
 use Rattle.std.specs.Global.{Global}
 use Rattle.std.proofs.lemmas.Result.{err_from_is_err_and}
-use Rattle.plan_cli.specs.Lists.{text_of}
+use Rattle.plan_documents.specs.Lists.{text_of}
 use Rattle.plan_cli.specs.Tasks.{IsLineOf, with_subject}
-use Rattle.plan_cli.proofs.ListLemmas.{shown_as, refused_as, reading_refused}
+use Rattle.plan_documents.proofs.ListLemmas.{reading_refused}
+use Rattle.plan_cli.proofs.ListTaskLemmas.{shown_as, refused_as}
 use Rattle.plan_cli.proofs.tasks.listed_text.Goals as goal
 
 pub returns-clause-made : goal.returns-clause-made

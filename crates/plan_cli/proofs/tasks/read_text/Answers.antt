@@ -2,7 +2,7 @@ use Rattle.std.proofs.Common.{Option, subst}
 use Rattle.std.specs.Prelude.{IfOk, IfErr}
 use Rattle.plan_errors.specs.Output.{Refuses}
 use Rattle.plan_cli.specs.Tasks.{RefusesOn, ShowsOn}
-use Rattle.plan_cli.specs.declared.documents.Subject.{Subject}
+use Rattle.plan_documents.specs.declared.documents.Subject.{Subject}
 use Rattle.plan_cli.proofs.tasks.read_text.Goals as goal
 
 pub returns-clause-made : goal.returns-clause-made

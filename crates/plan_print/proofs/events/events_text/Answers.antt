@@ -2,7 +2,7 @@ use Rattle.std.specs.Prelude.{string_bytes}
 use Rattle.std.proofs.lemmas.Result.{IfOk-weaker}
 use Rattle.plan_errors.specs.Output.{Refuses}
 use Rattle.plan_cli.specs.DaysRun.{ShowsDays, TellsBeyond, TellsNoDays}
-use Rattle.plan_cli.proofs.RunLemmas.{if_err_weaker}
+use Rattle.plan_documents.proofs.ErrorLemmas.{if_err_weaker}
 use Rattle.plan_print.specs.Sheets.{AreEvents, IsIcsBeyond}
 use Rattle.plan_print.proofs.SheetLemmas.{beyond}
 use Rattle.plan_print.proofs.events.events_text.Goals as goal

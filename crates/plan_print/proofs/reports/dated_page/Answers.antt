@@ -4,7 +4,7 @@ use Rattle.std.proofs.lemmas.Result.{IfOk-weaker}
 use Rattle.plan_errors.specs.Output.{Refuses}
 use Rattle.plan_table.specs.Names.{name_of}
 use Rattle.plan_cli.specs.DaysRun.{ShowsDays, TellsBeyond, TellsNoDays}
-use Rattle.plan_cli.proofs.RunLemmas.{if_err_weaker}
+use Rattle.plan_documents.proofs.ErrorLemmas.{if_err_weaker}
 use Rattle.plan_print.specs.Sheets.{IsDatedPage, IsPageBeyond}
 use Rattle.plan_print.proofs.SheetLemmas.{beyond}
 use Rattle.plan_print.proofs.reports.dated_page.Goals as goal

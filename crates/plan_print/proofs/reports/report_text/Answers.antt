@@ -1,7 +1,7 @@
 use Rattle.std.proofs.Common.{List, Option, map, ap, sym, subst, ◌∙◌}
 use Rattle.plan_table.specs.Names.{Name, name_of}
 use Rattle.plan_cli.specs.DaysRun.{ShowsDays}
-use Rattle.plan_cli.specs.Run.{IfText}
+use Rattle.plan_documents.specs.Lines.{IfText}
 use Rattle.plan_cli.specs.declared.calendars.Dates.{Dates}
 use Rattle.plan_print.specs.Sheets.{IsDatedPage, IsReport, legend_names}
 use Rattle.plan_print.proofs.reports.report_text.Goals as goal

@@ -2,9 +2,9 @@ use Rattle.std.specs.Prelude.{String, string_bytes}
 use Rattle.std.specs.Global.{Global}
 use Rattle.std.proofs.lemmas.Result.{err_from_is_err_and}
 use Rattle.plan_errors.specs.Output.{Refuses}
-use Rattle.plan_cli.specs.Lists.{text_of}
-use Rattle.plan_cli.proofs.ListLemmas.{read_as, read_refused, reading_refused}
-use Rattle.plan_cli.proofs.RunLemmas.{if_err_weaker}
+use Rattle.plan_documents.specs.Lists.{text_of}
+use Rattle.plan_documents.proofs.ListLemmas.{read_as, read_refused, reading_refused}
+use Rattle.plan_documents.proofs.ErrorLemmas.{if_err_weaker}
 use Rattle.plan_print.specs.Prints.{IsSheetBy, RefusesSheetBy, RefusesSheetRead}
 use Rattle.plan_print.proofs.sheets.read_sheet.Goals as goal
 

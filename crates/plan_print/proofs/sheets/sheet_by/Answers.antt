@@ -1,7 +1,7 @@
 use Rattle.std.specs.Prelude.{string_bytes}
 use Rattle.std.proofs.lemmas.Result.{IfOk-weaker}
 use Rattle.plan_errors.specs.Output.{Refuses}
-use Rattle.plan_cli.proofs.RunLemmas.{if_err_weaker, refuses_as}
+use Rattle.plan_documents.proofs.ErrorLemmas.{if_err_weaker, refuses_as}
 use Rattle.plan_print.specs.Prints.{IsSheet, RefusesSheet, IsSheetBy, RefusesSheetBy}
 use Rattle.plan_print.proofs.sheets.sheet_by.Goals as goal
 

@@ -1,8 +1,8 @@
 use Rattle.std.specs.Prelude.{string_bytes}
 use Rattle.std.proofs.lemmas.Result.{IfOk-weaker, err_from_is_err_and}
 use Rattle.plan_errors.specs.Output.{Refuses}
-use Rattle.plan_cli.proofs.DocumentLemmas.{of_subject, no_document, no_plan, no_text}
-use Rattle.plan_cli.proofs.RunLemmas.{if_err_weaker}
+use Rattle.plan_documents.proofs.DocumentLemmas.{of_subject, no_document, no_plan, no_text}
+use Rattle.plan_documents.proofs.ErrorLemmas.{if_err_weaker}
 use Rattle.plan_print.specs.Prints.{IsSheet, RefusesSheet}
 use Rattle.plan_print.specs.Sheets.{IsSheetFrom, TellsNoSheetFrom}
 use Rattle.plan_print.proofs.sheets.sheet_text.Goals as goal

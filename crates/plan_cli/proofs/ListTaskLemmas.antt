@@ -1,0 +1,129 @@
+-- The text of a task for a list, and for the first bytes of a file.
+use Rattle.std.proofs.Common.{◌≡◌, String, inl, inr, ℕ, ◌+◌, List, [], ◌∷◌, Option, Some, None, Result, Ok, Err, take, refl, sym, subst, arith}
+use Rattle.std.specs.Prelude.{IfOk, IfErr}
+use Rattle.std.specs.Global.{Global}
+use Rattle.plan_psplib.specs.Plain.{longest_text}
+use Rattle.plan_table.specs.Kinds.{IsKind}
+use Rattle.plan_table.specs.Names.{Name}
+use Rattle.plan_table.specs.declared.kinds.ListKind.{ListKind}
+use Rattle.plan_table.specs.declared.kinds.ListKind.TheVariants as kinds
+use Rattle.plan_errors.specs.declared.fault.CliFault.{CliFault}
+use Rattle.plan_errors.specs.Output.{Refuses}
+use Rattle.plan_documents.specs.Capacities.{Replaces}
+use Rattle.plan_documents.specs.declared.capacities.Capacity.{Capacity}
+use Rattle.plan_documents.specs.Lists.{IsMadeBy, IsMadeOf, RefusesActivities, RefusesIn, RefusesKind, RefusesList, RefusesMade, RefusesSubjectOn, IsReadAs, RefusesReading, ReadsAs, RefusesAs, text_of}
+use Rattle.plan_documents.specs.Spreadsheets.{IsListOf, OfList, TellsNoList}
+use Rattle.plan_cli.specs.Tasks.{IsLineOf, ShowsTask, list_subject, with_subject, rows_on, ShowsOn, ShowsRead, RefusesOn, RefusesRead}
+use Rattle.plan_documents.specs.declared.documents.Subject.{Subject}
+use Rattle.plan_documents.specs.declared.documents.Subject.TheVariants as subject
+use Rattle.plan_documents.specs.declared.lists.Reading.{Reading}
+use Rattle.plan_cli.specs.declared.tasks.Rows.{Rows}
+use Rattle.plan_cli.specs.declared.tasks.Task.{Task}
+use Rattle.plan_documents.proofs.ErrorLemmas.{refuses_as, if_err_weaker}
+use Rattle.plan_cli.proofs.RunLemmas.{HoldsByFront}
+use Rattle.plan_cli.proofs.TaskLemmas.{shown_front, task_line_front, import_front, no_import_front, no_sound_import_front, shop_import_front, no_shop_import_front, kind_front, list_front, refuses_list_front}
+use Rattle.plan_documents.proofs.ListLemmas.{read_refused, read_as}
+
+-- ---- the text of a task
+
+-- a text of the same task, with the same rows
+same_task : {X E : Type 0} (view : X → List ℕ) (t u : Task) (r q : Rows) (bytes : List ℕ) (result : Result X E)
+    → u ≡ t → q ≡ r → IfOk result (λ x. ShowsTask q u bytes (view x)) → IfOk result (λ x. ShowsTask r t bytes (view x))
+same_task view t u r q bytes result task rows shown =
+    subst (λ (p : Rows). IfOk result (λ x. ShowsTask p t bytes (view x))) rows
+    (subst (λ (w : Task). IfOk result (λ x. ShowsTask q w bytes (view x))) task shown)
+
+-- the text of a task for what is read is that for the file
+pub shown_as : {X E : Type 0} (view : X → List ℕ) (of : Subject) (file : List ℕ) (t u : Task) (r q : Rows) (kind : Option ListKind) (s : Subject)
+    (text bytes : List ℕ) (result : Result X E)
+    → IsReadAs of file kind s text → u ≡ with_subject t s → q ≡ rows_on kind r → bytes ≡ text
+    → IfOk result (λ x. ShowsTask q u bytes (view x))
+    → IfOk result (λ x. ShowsOn (Some of) r t file (view x))
+shown_as view of file t u r q kind s text bytes result is task rows same shown =
+    read_as (λ k w read x. ShowsTask (rows_on k r) (with_subject t w) read (view x)) of file kind s text bytes result is same
+    (same_task view (with_subject t s) u (rows_on kind r) q bytes result task rows shown)
+
+-- the error of a task for what is read is that for the file
+pub refused_as : {X : Type 0} (of : Subject) (file : List ℕ) (t u : Task) (kind : Option ListKind) (s : Subject) (text bytes : List ℕ)
+    (result : Result X CliFault)
+    → IsReadAs of file kind s text → u ≡ with_subject t s → bytes ≡ text
+    → IfErr result (Refuses (IsLineOf u bytes)) → IfErr result (Refuses (RefusesOn (Some of) t file))
+refused_as of file t u kind s text bytes (Ok v) is task same told = tt
+refused_as of file t u kind s text bytes (Err e) is task same told =
+    read_refused of file (λ w read. IsLineOf (with_subject t w) read) kind s text bytes e is same
+    (subst (λ (w : Task). Refuses (IsLineOf w bytes) e) task told)
+
+-- ---- the first bytes of a file
+
+made_front : (kind : ListKind) → HoldsByFront (IsMadeOf kind)
+made_front kinds.Activities = import_front []
+made_front kinds.Orders = shop_import_front
+
+activities_line_front : (given : List Capacity) → HoldsByFront (RefusesActivities given)
+activities_line_front [] = no_import_front []
+activities_line_front (first ∷ more) = no_sound_import_front
+
+list_line_front : (kind : ListKind) (of : Subject) → HoldsByFront (RefusesList kind of)
+list_line_front kinds.Activities (subject.Project given) = activities_line_front given.now
+list_line_front kinds.Activities (subject.Shop name) = no_import_front []
+list_line_front kinds.Orders of = no_shop_import_front
+
+-- a fact about the text that a command takes from the front of a file is one about the file
+as_front : (of : Subject) (Holds : Option ListKind → Subject → List ℕ → Type 0) (file : List ℕ)
+    → ((s : Subject) → Holds None s (take (longest_text + 1) file) → Holds None s file)
+    → ReadsAs of (take (longest_text + 1) file) Holds → ReadsAs of file Holds
+as_front of Holds file whole (None, s, text, is, holds) =
+    by_list (list_front [] (λ l. IsKind l None) file is.list is.list_is (kind_front file None) is.kind_is)
+  where
+    by_list : OfList [] file (λ l. IsKind l None) → ReadsAs of file Holds
+    by_list (l, l_is, kind_is) = (
+      None,
+      s,
+      file,
+      record { list = l; list_is = l_is; kind_is = kind_is; read = (is.read.0, refl) },
+      whole s (subst (Holds None s) is.read.1 holds),
+    )
+as_front of Holds file whole (Some kind, s, text, is, holds) =
+    by_list (list_front [] (λ l. IsKind l (Some kind) × IsMadeOf kind l text) file is.list is.list_is front_made (is.kind_is, is.read.0))
+  where
+    front_made : IsKind (take (longest_text + 1) file) (Some kind) × IsMadeOf kind (take (longest_text + 1) file) text
+        → IsKind file (Some kind) × IsMadeOf kind file text
+    front_made (kind_is, made) = (kind_front file (Some kind) kind_is, made_front kind file text made)
+
+    by_list : OfList [] file (λ l. IsKind l (Some kind) × IsMadeOf kind l text) → ReadsAs of file Holds
+    by_list (l, l_is, (kind_is, made)) = (Some kind, s, text, record { list = l; list_is = l_is; kind_is = kind_is; read = (made, is.read.1) }, holds)
+
+made_refused_front : (kind : ListKind) (of : Subject) → HoldsByFront (RefusesMade kind of)
+made_refused_front kind of file line (inl tells) = inl (list_line_front kind of file line tells)
+made_refused_front kind of file line (inr (text, made, tells)) = inr (text, made_front kind file text made, tells)
+
+kind_refused_front : (kind : Option ListKind) (of : Subject) → HoldsByFront (RefusesKind kind of)
+kind_refused_front None of file line tells = absurd tells
+kind_refused_front (Some kind) of file line tells = made_refused_front kind of file line tells
+
+in_front : (of : Subject) → HoldsByFront (RefusesIn of)
+in_front of file line (kind, is, tells) = (kind, kind_front file kind is, kind_refused_front kind of file line tells)
+
+reading_front : (of : Subject) → HoldsByFront (RefusesReading of)
+reading_front of = refuses_list_front [] (RefusesIn of) (in_front of)
+
+shows_front : (of : Option Subject) (t : Task) (r : Rows) → HoldsByFront (ShowsOn of r t)
+shows_front None t r file text is = shown_front t r file text is
+shows_front (Some of) t r file text is =
+    as_front of (λ kind s read. ShowsTask (rows_on kind r) (with_subject t s) read text) file
+    (λ s shown. shown_front (with_subject t s) r file text shown) is
+
+refuses_front : (of : Option Subject) (t : Task) → HoldsByFront (RefusesOn of t)
+refuses_front None t file line told = task_line_front t file line told
+refuses_front (Some of) t file line (inl tells) = inl (reading_front of file line tells)
+refuses_front (Some of) t file line (inr is) =
+    inr (as_front of (λ kind s read. IsLineOf (with_subject t s) read line) file
+    (λ s told. task_line_front (with_subject t s) file line told) is)
+
+-- the text of a task for what is read of the front of a file is that for the file
+pub read_front : (t : Task) (r : Rows) → HoldsByFront (ShowsRead r t)
+read_front t r = shows_front (list_subject t) t r
+
+-- the line that refuses what is read of the front of a file is that for the file
+pub refused_front : (t : Task) → HoldsByFront (RefusesRead t)
+refused_front t = refuses_front (list_subject t) t

@@ -1,7 +1,0 @@
-use Rattle.std.proofs.Common.{ℕ, ◌+◌, ◌<◌}
-use Rattle.plan_cli.specs.Capacities.{IsNumberName}
-use Rattle.plan_cli.proofs.capacities.numbered_index.Given as goal
-
--- none of the resources so far has the number
-abbrev pub invariant-loop-k : goal.invariant-loop-k
-invariant-loop-k l = (k : ℕ) → k < l.k → IsNumberName (k + 1) l.name → ⊥

@@ -1,0 +1,25 @@
+-- Texts that are lists.
+use Rattle.std.proofs.Common.{◌≡◌, ℕ, List, [], Ok, Err, true, inl, inr}
+use Rattle.plan_table.specs.declared.fault.ReadError.TheVariants as errors
+use Rattle.plan_table.specs.declared.fault.TableFault.{TableFault}
+use Rattle.plan_table.specs.Listing.{table_read}
+use Rattle.plan_table.specs.Reading.{fault_of}
+use Rattle.plan_table.specs.Refused.{IsRefused}
+use Rattle.plan_table.specs.ShopReading.{shop_table_read}
+use Rattle.plan_table.specs.ShopTable.{ShopTable}
+use Rattle.plan_table.specs.Table.{Table}
+use Rattle.plan_documents.specs.Contents.{is_in_activities, is_in_orders, IsActivityList, IsOrderList}
+
+pub activities_read : (text : List ℕ) (t : Table) → table_read text ≡ Ok t → IsActivityList text
+activities_read text t is = inl (t, is)
+
+pub activities_refused : (text : List ℕ) (first : TableFault) → IsRefused text (errors.Fault first)
+    → is_in_activities first.code ≡ true → IsActivityList text
+activities_refused text first refused is = inr (first, refused, is)
+
+pub orders_read : (text : List ℕ) (t : ShopTable) → shop_table_read text ≡ Ok t → IsOrderList text
+orders_read text t is = inl (t, is)
+
+pub orders_refused : (text : List ℕ) (first : TableFault) → shop_table_read text ≡ Err (fault_of first)
+    → is_in_orders first.code ≡ true → IsOrderList text
+orders_refused text first refused is = inr (first, refused, is)

@@ -1,0 +1,13 @@
+pub mod ErrorLemmas
+pub mod CapacityLemmas
+pub mod QuoteLemmas
+pub mod RefusalLemmas
+pub mod ContentsLemmas
+pub mod DetailLemmas
+pub mod SentenceLemmas
+pub mod StartLemmas
+pub mod DocumentLemmas
+pub mod InfeasibleLemmas
+pub mod ImportLemmas
+pub mod SpreadsheetLemmas
+pub mod ListLemmas

@@ -1,0 +1,33 @@
+//! The projects and the job shops in files and in lists, as values, and the errors of these files.
+#![tactic(auto)]
+
+mod capacities;
+mod contents;
+mod details;
+mod documents;
+mod imports;
+mod infeasible;
+mod lists;
+mod notes;
+mod projects;
+mod quotes;
+mod refusals;
+mod sentences;
+mod shops;
+mod spreadsheets;
+mod starts;
+mod table_faults;
+
+pub use capacities::{Capacity, replaced};
+pub use documents::{
+    Document, Plan, Subject, ids_of_rows, names_of_lines, names_of_rows, plan_of, read_document,
+};
+pub use imports::{file_import_text, file_shop_text};
+pub use infeasible::{infeasible_refusal, shop_infeasible_refusal};
+pub use lists::{Reading, readable};
+pub use notes::notes_of;
+pub use projects::{instance_with, read_project};
+pub use refusals::{file_refusal, need_refusal, rule_refusal};
+pub use sentences::with_names;
+pub use shops::{open_shop, read_instance};
+pub use starts::{read_starts, starts_of};
