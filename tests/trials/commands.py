@@ -22,6 +22,7 @@ A trial file lists files, commands and their outputs, to the byte:
     $ PLAN_HINTS=1 plan cpm six.sm        a command with a variable of the environment
     | the lines of standard output        status 0 and nothing on standard error
     ~ the same                            lines that end with CR LF
+    = a line on standard error            below standard output: status 0, and a note on a list
     ! the line on standard error          status 1 and nothing on standard output; the hint is a
                                           second line
     ? the lines on standard error         status 2 and nothing on standard output
@@ -58,18 +59,18 @@ class Block:
 
     def __init__(self, number, line):
         self.number, self.line = number, line
-        self.printed, self.told, self.misused = [], [], []
+        self.printed, self.noted, self.told, self.misused = [], [], [], []
 
     def add(self, line):
         """Takes a line that begins with a bar, a tilde or a mark."""
         if line[1:2] not in ("", " "):
             raise Wrong(f"below `{self.line}` there is no blank in {line}")
-        lines = {"!": self.told, "?": self.misused}.get(line[0], self.printed)
+        lines = {"=": self.noted, "!": self.told, "?": self.misused}.get(line[0], self.printed)
         lines.append(line[2:] + ("\r" if line[0] == "~" else ""))
 
     def refuse_lines(self):
         """That there are no lines below the block, which doesn't take any."""
-        if self.printed or self.told or self.misused:
+        if self.printed or self.noted or self.told or self.misused:
             raise ValueError("no lines are wanted below it")
 
     def wanted(self):
@@ -78,11 +79,13 @@ class Block:
             raise ValueError("more than one line of an error is wanted")
         if [self.printed, self.told, self.misused].count([]) < 2:
             raise ValueError("lines of several kinds are wanted")
+        if len(self.noted) > 1 or self.noted and not self.printed:
+            raise ValueError("one line of notes is wanted, below an output")
         if self.misused:
             return 2, b"", text_of(self.misused)
         if self.told:
             return 1, b"", text_of(self.told)
-        return 0, text_of(self.printed), b""
+        return 0, text_of(self.printed), text_of(self.noted)
 
 
 def text_of(lines):
@@ -95,7 +98,7 @@ def blocks_of(path):
     blocks = []
     lines = content_of(path).decode().split("\n")
     for number, line in enumerate(lines, 1):
-        if line[:1] in ("|", "~", "!", "?"):
+        if line[:1] in ("|", "~", "=", "!", "?"):
             blocks[-1].add(line)
         elif line and not line.startswith("#"):
             blocks.append(Block(number, line))
@@ -149,7 +152,7 @@ class Trial:
 
     def plain(self, block, name, text):
         """The content of a file: named, below its name, or after it."""
-        if text or not block.printed:
+        if text or block.noted or not block.printed:
             block.refuse_lines()
             return quoted(text) if text else content_of(EXAMPLES, name)
         return block.wanted()[1]

@@ -26,8 +26,8 @@ from answers import Wrong, plan, same, written
 Activity = collections.namedtuple("Activity", "id name duration waits needs group")
 Plan = collections.namedtuple("Plan", "activities capacities")
 
-# Forms that the program doesn't read yet: `12FS+2d`, and `crew[2],digger` under Resource Names.
-LATER = {"links", "resource names"}
+# Forms that the program doesn't read yet: `crew[2],digger` under Resource Names.
+LATER = {"resource names"}
 
 HEADERS = {
     "id": "ID|id|Nr.|No|Number|Task ID|nr|Activity ID",
@@ -61,7 +61,7 @@ def drawn_plan(random, has_names):
     activities = []
     for k in range(count):
         before = [j for j in range(count) if order.index(j) < order.index(k) and random.random() < 0.35]
-        waits = {j: 0 if "links" in LATER else random.choice((0, 0, 0, 1, 2, 10)) for j in before}
+        waits = {j: random.choice((0, 0, 0, 1, 2, 10)) for j in before}
         needs = {name: random.randint(0, capacities[name]) for name in resources}
         activities.append(Activity(ids[k], names[k], random.choice((0, 1, 2, 3, 12)), waits, needs, 0))
     return Plan(activities, capacities)
@@ -124,7 +124,7 @@ class Form:
             word = self.word_of(drawn, j)
             if wait:
                 word += self.random.choice((f"FS+{wait}d", f"+{wait}d", f"FS+{wait} days", f"+{wait}"))
-            elif "links" not in LATER and self.random.random() < 0.1:
+            elif self.random.random() < 0.1:
                 word += "FS"
             words.append(word)
         return self.random.choice((", ", ",", ";", "; ")).join(words)
@@ -254,6 +254,8 @@ def plan_of(text, drawn, has_ids):
 def try_export(random, folder):
     drawn = drawn_plan(random, True)
     form = Form(random, drawn)
+    if not form.has_ids:
+        drawn = without_waits(drawn)
     data = form.bytes(drawn)
     written(folder, "list.csv", data)
     given = [f"--capacity={name}={most}" for name, most in drawn.capacities.items()] if form.given else []
@@ -267,6 +269,12 @@ def try_export(random, folder):
         raise Wrong(f"{what}\n  refused: {errors!r}")
     found = plan_of(output.decode(), drawn, form.has_ids)
     same(what, normal(found), normal(drawn))
+
+
+def without_waits(drawn):
+    """The plan with predecessors alone. A list without ids is read without waits."""
+    activities = [a._replace(waits=dict.fromkeys(a.waits, 0)) for a in drawn.activities]
+    return Plan(activities, drawn.capacities)
 
 
 def without_unused(drawn, used):

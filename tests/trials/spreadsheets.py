@@ -179,12 +179,15 @@ def project_of(text):
     return found, [(name, int(most)) for _, name, most in resources]
 
 
-def ids_of(text):
-    """The ids of the activities, if the list has a column of them."""
+def ids_of(text, count):
+    """The ids of so many activities, if the list has a column of them. Those that it lacks are
+    waits, which follow the rows."""
     (_, head), *rows = records(text)
     place = columns_of(head, rows)[0].get("id")
-    found = [cells[place] for _, cells in rows] if place is not None else []
-    return [name for name in found if name.lower() != "capacity"]
+    if place is None:
+        return []
+    found = [cells[place] for _, cells in rows if cells[place].lower() != "capacity"]
+    return found + [f"wait+{k}" for k in range(count - len(found))]
 
 
 def numbers_in(cell, line, numbers, waits):
@@ -285,7 +288,8 @@ def is_imported(path, activities, resources, least):
     names, amounts = [name for name, _ in resources], [most for _, most in resources]
     with open(path, "rb") as file:
         data = file.read()
-    text = tables.Project(rows, names, amounts, ids_of(text_of(data))).text().encode()
+    ids = ids_of(text_of(data), len(rows))
+    text = tables.Project(rows, names, amounts, ids).text().encode()
     if ran("import", path) != (0, text, notes_of(data)):
         return False
     status, output, _ = ran("solve", "-", data=text)

@@ -1,0 +1,428 @@
+#!/usr/bin/env python3
+"""Draws plans, writes each as a list, and compares what the commands that read lists print with models
+in Python: the rows with ids, names, resources and predecessors, as text, CSV and JSON, and the line of
+notes on standard error.
+
+    tests/trials/list_rows.py               2,000 lists; prints nothing on success
+    tests/trials/list_rows.py CASES SEED    so many, drawn from this seed
+
+A list has ids or none, notes, one of three separators and of five encodings. The schedules, slacks and
+verdicts are those of model/, the forms those of docs/formats.md. A schedule of `plan solve` isn't known
+beforehand: it has to be active, and all else follows from its starts. The program is the one that
+./plan runs, or the one that PLAN_PROGRAM names.
+"""
+
+import csv
+import datetime
+import io
+import json
+import os
+import sys
+import tempfile
+from random import Random
+
+sys.dont_write_bytecode = True
+sys.path.insert(0, os.path.dirname(os.path.abspath(__file__)))
+
+import results
+from answers import Wrong, plan, same, written
+from model import schedules, texts, verdicts
+from model.projects import Project
+
+RULES = ("lft", "slk", "spt", "mts", "num")
+NAMES = ("Roof", "Walls, north", "Fundament Süd", 'The "big" one', "", "a\\b", "</td>&amp;", "=1+1", "'", "Straße")
+# Texts for columns without a capacity, each with a header that no rule knows.
+NOTES = {"Boss": ("Ann", "Béla", "two men"), "Site, old": ("north", "7a"), "crew leader": ("Tom", "n/a")}
+HEADERS = {"id": ("id", "ID", "Nr.", "Task ID"), "name": ("name", "Task", "Vorgang")}
+HEADERS |= {"duration": ("duration", "Days", "Dauer"), "after": ("predecessors", "After", "Vorgänger")}
+RESOURCES = ("crew", "Digger", "maçon")
+WORDS = {**results.WORDS, "A": "start_a", "B": "start_b"}
+FORMS = ("text", "csv", "json")
+
+
+# ---- what is drawn
+
+
+class List:
+    """A drawn plan of rows 1 to n, which are the activities 2 to n + 1 between a start and an end."""
+
+    def __init__(self, draw):
+        count = draw.choice((1, 2, 3, 5, 8))
+        self.ids = drawn_ids(draw, count) if draw.random() < 0.7 else []
+        self.resources = draw.sample(RESOURCES, draw.randrange(4)) if self.ids else []
+        self.capacities = [draw.randrange(1, 4) for _ in self.resources]
+        self.has_names = draw.random() < 0.8
+        self.names = [draw.choice(NAMES) if self.has_names else "" for _ in range(count)]
+        self.durations = [draw.randrange(6) for _ in range(count)]
+        order = draw.sample(range(count), count)
+        self.before = [[] for _ in range(count)]
+        for place, k in enumerate(order):
+            self.before[k] = sorted(draw.sample(order[:place], min(place, draw.randrange(3))))
+        self.needs = [[draw.randrange(most + 1) for most in self.capacities] for _ in range(count)]
+        self.notes = draw.sample(list(NOTES), draw.choice((0, 0, 1, 2)))
+
+    def reorder(self, heads):
+        """Takes up the order of the columns with these heads, for resources and notes."""
+        self.notes = [name for name in heads if name in NOTES]
+        places = [self.resources.index(name) for name in heads if name in self.resources]
+        self.resources = [self.resources[k] for k in places]
+        self.capacities = [self.capacities[k] for k in places]
+        self.needs = [[own[k] for k in places] for own in self.needs]
+
+    def project(self):
+        """The project of the list. Without resources it has one, of which there is nothing."""
+        end = len(self.durations) + 2
+        durations = {1: 0, **{k + 2: days for k, days in enumerate(self.durations)}, end: 0}
+        arcs = [(i + 2, k + 2) for k, before in enumerate(self.before) for i in before]
+        arcs += [(1, k + 2) for k, before in enumerate(self.before) if not before]
+        last = set(range(2, end)) - {i for i, _ in arcs}
+        arcs += [(i, end) for i in last] if end > 2 else [(1, end)]
+        none = [0] * max(1, len(self.capacities))
+        needs = {1: none, **{k + 2: own or none for k, own in enumerate(self.needs)}, end: none}
+        return Project(durations, arcs, needs, self.capacities or none)
+
+    def numbers(self):
+        """The activities that have a row in the outputs."""
+        count = len(self.durations)
+        return range(2, count + 2) if self.ids else range(1, count + 3)
+
+    def label(self, number):
+        return self.ids[number - 2] if self.ids else str(number)
+
+    def name(self, number):
+        return self.names[number - 2] if 2 <= number < len(self.names) + 2 else ""
+
+    def links(self, number):
+        """The resources and the predecessors of an activity, as CSV and JSON have them."""
+        amounts = zip(self.resources, self.needs[number - 2])
+        used = ", ".join(f"{name} {amount}" for name, amount in amounts if amount)
+        return {"resources": used, "predecessors": ", ".join(self.ids[i] for i in self.before[number - 2])}
+
+
+def drawn_ids(draw, count):
+    form = draw.choice(("{}", "A{}", "{}0", "step-{}", "Süd{}", "an-id-of-some-more-letters-{}"))
+    return [form.format(k + 1) for k in range(count)]
+
+
+def rows_of(draw, drawn):
+    """The rows of the list, in a drawn order of columns."""
+    columns = [(draw.choice(HEADERS["duration"]), list(map(str, drawn.durations)), "")]
+    if drawn.ids:
+        columns.append((draw.choice(HEADERS["id"]), drawn.ids, draw.choice(("capacity", "Capacity"))))
+    if drawn.has_names:
+        columns.append((draw.choice(HEADERS["name"]), drawn.names, ""))
+    words = drawn.ids or [str(k + 1) for k in range(len(drawn.durations))]
+    before = [draw.choice((" ", ",", "; ")).join(words[i] for i in own) for own in drawn.before]
+    columns.append((draw.choice(HEADERS["after"]), before, ""))
+    for k, name in enumerate(drawn.resources):
+        columns.append((name, [str(own[k]) for own in drawn.needs], str(drawn.capacities[k])))
+    for name in drawn.notes:
+        cells = [draw.choice(NOTES[name] + ("",)) for _ in drawn.durations]
+        cells[draw.randrange(len(cells))] = draw.choice(NOTES[name])
+        columns.append((name, cells, ""))
+    draw.shuffle(columns)
+    drawn.reorder([name for name, _, _ in columns])
+    rows = [[cells[k] for _, cells, _ in columns] for k in range(len(drawn.durations))]
+    if drawn.resources:
+        rows.insert(draw.randrange(len(rows) + 1), [most for _, _, most in columns])
+    return [[name for name, _, _ in columns], *rows]
+
+
+def bytes_of(draw, drawn):
+    """The list, and the line of notes on it."""
+    text = io.StringIO()
+    mark = draw.choice(",;\t")
+    csv.writer(text, delimiter=mark, lineterminator=draw.choice(("\n", "\r\n"))).writerows(rows_of(draw, drawn))
+    text = text.getvalue()
+    encoding = draw.choice(("utf-8", "utf-8", "utf-8-sig", "utf-16", "utf-16-be", "cp1252"))
+    data = text.encode(encoding)
+    if encoding == "utf-16-be":
+        data = b"\xfe\xff" + data
+    notes = ["read as Windows-1252"] if encoding == "cp1252" and not text.isascii() else []
+    notes += ["ignored columns: " + ", ".join(drawn.notes)] if drawn.notes else []
+    return data, "".join("; ".join(notes) + "\n" for _ in notes[:1]).encode()
+
+
+# ---- the forms of a table
+
+
+class Sheet:
+    """A table with a row for each activity: its cells under these heads, of this width. `flags` marks
+    some activities; `words` are the lines below, `members` those of JSON."""
+
+    def __init__(self, drawn, heads, width, cells, flags=None, words=(), members=None):
+        self.drawn, self.heads, self.width, self.cells, self.flags = drawn, heads, width, cells, flags
+        self.words, self.members = words, members or {}
+
+    def front(self):
+        return "id" if self.drawn.ids else "act"
+
+    def line(self, places, front, cells):
+        return padded(places, front) + "".join(padded(self.width, cell) for cell in cells)
+
+    def text(self):
+        drawn = self.drawn
+        places = max([4, *(len(name.encode()) for name in drawn.ids)])
+        lines = [(self.line(places, self.front(), self.heads), "name")]
+        for j in drawn.numbers():
+            line = self.line(places, drawn.label(j), map(shown, self.cells[j]))
+            lines.append((line + (" *" if self.flags and self.flags[j] else ""), drawn.name(j)))
+        place = max(len(line.encode()) for line, name in lines if name) + 1
+        rows = [line + " " * (place - len(line.encode())) + name if name else line for line, name in lines]
+        return "".join(row + "\n" for row in [*rows, *self.words]).encode()
+
+    def columns(self):
+        """The heads behind the first one, with the cells of each activity."""
+        drawn = self.drawn
+        found = {head: {j: cells[k] for j, cells in self.cells.items()} for k, head in enumerate(self.heads)}
+        if self.flags:
+            found["critical"] = self.flags
+        if any(drawn.names):
+            found["name"] = {j: drawn.name(j) or None for j in drawn.numbers()}
+        if drawn.ids:
+            links = {j: drawn.links(j) for j in drawn.numbers()}
+            found |= {head: {j: own[head] for j, own in links.items()} for head in ("resources", "predecessors")}
+        return found
+
+    def csv(self):
+        """The records."""
+        drawn, columns = self.drawn, self.columns()
+        rows = [[drawn.label(j), *(field(cells[j]) for cells in columns.values())] for j in drawn.numbers()]
+        return [[self.front(), *columns], *rows]
+
+    def json(self):
+        drawn, columns = self.drawn, self.columns()
+        rows = []
+        for j in drawn.numbers():
+            row = {"act": j, "activity": j, **{head: cells[j] for head, cells in columns.items()}}
+            row |= {WORDS[head]: value for head, value in row.items() if head in WORDS}
+            rows.append({**row, "id": drawn.label(j)} if drawn.ids else row)
+        return {**self.members, "rows": rows}
+
+
+class Signed(int):
+    """A number that text shows with its sign."""
+
+
+def padded(width, text):
+    return " " * (width - len(text.encode())) + text
+
+
+def shown(cell):
+    if cell is None:
+        return "-"
+    return f"{cell:+d}" if isinstance(cell, Signed) and cell else str(cell)
+
+
+def field(cell):
+    return "" if cell is None else str(cell).lower() if isinstance(cell, bool) else str(cell)
+
+
+def dumped(value):
+    return json.dumps(value, sort_keys=True, separators=(",", ":"), ensure_ascii=False).encode() + b"\n"
+
+
+def compare(what, form, output, sheet):
+    """Compares an output with a table, or with a chart."""
+    if form == "csv":
+        found = list(csv.reader(io.StringIO(output.decode(), newline="")))
+        same(what, found, sheet.csv())
+    else:
+        same(what, output, sheet.text() if form == "text" else dumped(sheet.json()))
+
+
+class Chart:
+    """The chart of a schedule."""
+
+    def __init__(self, drawn, project, starts):
+        self.drawn, self.project = drawn, project
+        self.spans = {j: (starts[j], starts[j] + project.durations[j]) for j in starts}
+        self.whole = max(end for _, end in self.spans.values())
+
+    def text(self):
+        drawn = self.drawn
+        places = max([4, *(len(name.encode()) for name in drawn.ids)])
+        lines = ["unit 1"]
+        for j in drawn.numbers():
+            cells = texts.cells_of(1, self.whole, [self.spans[j]])
+            lines.append(f"{padded(places, drawn.label(j))} |{cells}|" + (" " + drawn.name(j) if drawn.name(j) else ""))
+        return "".join(line + "\n" for line in lines).encode()
+
+    def csv(self):
+        drawn, has_names = self.drawn, any(self.drawn.names)
+        rows = [[drawn.label(j), *map(str, self.spans[j]), *[drawn.name(j)] * has_names] for j in drawn.numbers()]
+        return [["id" if drawn.ids else "activity", "start", "end", *["name"] * has_names], *rows]
+
+    def json(self):
+        drawn, rows = self.drawn, []
+        for j in drawn.numbers():
+            row = {"activity": j, "bars": [dict(zip(("start", "end"), self.spans[j]))]}
+            row |= {"id": drawn.label(j)} if drawn.ids else {}
+            rows.append(row | ({"name": drawn.name(j) or None} if any(drawn.names) else {}))
+        return {"makespan": self.whole, "rows": rows, "unit": 1}
+
+
+# ---- the commands
+
+
+class Case:
+    """A list in a folder, with its project."""
+
+    def __init__(self, draw, folder):
+        self.draw, self.folder, self.drawn = draw, folder, List(draw)
+        self.data, self.notes = bytes_of(draw, self.drawn)
+        written(folder, "list.csv", self.data)
+        self.project = self.drawn.project()
+        self.rule = draw.choice(RULES)
+        self.starts = schedules.rule_starts(self.project, self.rule)
+        self.form = draw.choice(FORMS)
+
+    def output(self, *words):
+        """What a command prints in the form of the case, with the notes on the list."""
+        form = [] if self.form == "text" else ["--format", self.form]
+        self.what = f"{self.data!r}: {words} as {self.form}"
+        status, output, errors = plan(self.folder, words[0], *form, *words[1:])
+        same(f"{self.what}: the status and the notes", (status, errors), (0, self.notes))
+        return output
+
+    def moved(self):
+        """Starts of which some are later."""
+        starts = dict(self.starts)
+        for _ in range(self.draw.randrange(3)):
+            starts[self.draw.choice(list(starts))] += self.draw.randrange(1, 4)
+        return starts
+
+    def write(self, name, starts):
+        return written(self.folder, name, " ".join(str(starts[j]) for j in sorted(starts)).encode())
+
+
+def times_of(project, starts):
+    return {j: [days, starts[j], starts[j] + days] for j, days in project.durations.items()}
+
+
+def try_chart(case):
+    output = case.output("chart", case.rule, "list.csv")
+    compare(case.what, case.form, output, Chart(case.drawn, case.project, case.starts))
+
+
+def try_days(case):
+    first = datetime.date(2024, 1, 1) + datetime.timedelta(case.draw.randrange(3000))
+    marks = case.draw.choice(("1111100", "1111111", "1000010", "0000001"))
+    cells = {}
+    for j, days in case.project.durations.items():
+        spans = (case.starts[j], case.starts[j] + days - 1)
+        cells[j] = [texts.marked_day(str(first), marks, t) for t in spans] if days else [None, None]
+    output = case.output("days", case.rule, str(first), marks, "list.csv")
+    compare(case.what, case.form, output, Sheet(case.drawn, ["first", "last"], 12, cells))
+
+
+def try_check(case):
+    starts = case.moved()
+    output = case.output("check", "list.csv", case.write("starts", starts))
+    verdict = verdicts.verdict(case.project, starts)
+    wanted = {"text": verdict + "\n", "csv": f"verdict\n{verdict}\n", "json": f'{{"rows":[{{"verdict":"{verdict}"}}]}}\n'}
+    same(case.what, output.decode(), wanted[case.form])
+
+
+def try_compare(case):
+    first, second = case.moved(), case.moved()
+    words = ["list.csv", case.write("first", first), case.write("second", second)]
+    cells = {j: [first[j], second[j], Signed(second[j] - first[j])] for j in first}
+    lines, members = [], {}
+    for name, starts in (("A", first), ("B", second)):
+        whole, verdict = schedules.makespan(case.project, starts), verdicts.verdict(case.project, starts)
+        lines.append(f"{name} makespan {whole}: {verdict}")
+        members |= {f"makespan_{name}": whole, f"verdict_{name}": verdict}
+    sheet = Sheet(case.drawn, ["A", "B", "shift"], 8, cells, None, lines, members)
+    output = case.output("compare", *words)
+    compare(case.what, case.form, output, sheet)
+
+
+def try_slack(case):
+    project, starts = case.project, case.starts
+    slacks = {j: verdicts.slack(project, starts, j) for j in starts}
+    output = case.output("slack", "list.csv", case.write("starts", starts))
+    chain = chain_in(case, output, slacks)
+    cells = {j: [*own, slacks[j]] for j, own in times_of(project, starts).items()}
+    labels = None if chain is None else [case.drawn.label(j) for j in chain if j in case.drawn.numbers()]
+    members = {"chain": chain, **({"chain_ids": labels} if case.drawn.ids else {})}
+    line = "no chain" if chain is None else " ".join(["chain", *labels])
+    flags = {j: slack == 0 for j, slack in slacks.items()}
+    sheet = Sheet(case.drawn, ["d", "start", "end", "slack"], 8, cells, flags, [line], members)
+    compare(case.what, case.form, output, sheet)
+
+
+def chain_in(case, output, slacks):
+    """The chain that an output shows, as numbers, once it is one. There may be several. At a makespan
+    of 0 it is the start, which has no id."""
+    if case.form == "csv":
+        return None
+    if case.form == "json":
+        chain = json.loads(output)["chain"]
+    else:
+        words = output.decode().split("\n")[-2].split(" ")
+        named = {case.drawn.label(j): j for j in case.drawn.numbers()}
+        chain = None if words == ["no", "chain"] else [named[word] for word in words[1:]] or [1]
+    model = results.Model.__new__(results.Model)
+    project, count = case.project, len(slacks)
+    model.durations = [project.durations[j] for j in range(1, count + 1)]
+    model.arcs = [(i - 1, j - 1) for i, j in project.arcs]
+    model.needs = [project.needs[j] for j in range(1, count + 1)]
+    starts, slacks = ([found[j] for j in range(1, count + 1)] for found in (case.starts, slacks))
+    if chain is None:
+        same(f"{case.what}: no chain", model.has_chain(starts, slacks), False)
+    elif not chain or not model.is_chain(starts, slacks, [j - 1 for j in chain]):
+        raise Wrong(f"{case.what}: {chain} is no chain")
+    return chain
+
+
+def try_solve(case):
+    """The starts are those of the JSON; the other forms are made of them."""
+    form, case.form = case.form, "json"
+    value = json.loads(case.output("solve", "--conflicts", "1000", "list.csv"))
+    case.form = form
+    output = case.output("solve", "--conflicts", "1000", "list.csv")
+    starts = solved_starts(case, value)
+    same(f"{case.what}: the verdict", verdicts.verdict(case.project, starts), "active")
+    whole, bounds = schedules.makespan(case.project, starts), ("lower_bound", "upper_bound", "status")
+    members = {"makespan": whole, **{name: value[name] for name in bounds}}
+    same(f"{case.what}: the bounds", (value["lower_bound"], value["upper_bound"], value["status"]), (whole, whole, "optimal"))
+    cells = times_of(case.project, starts)
+    sheet = Sheet(case.drawn, ["d", "start", "end"], 8, cells, None, [f"makespan {whole}"], members)
+    if form == "text":
+        output = output.removeprefix(f"optimal {whole}\n".encode())
+    compare(case.what, form, output, sheet)
+
+
+def solved_starts(case, value):
+    """The starts in the JSON of a solution. Those of the start and the end follow, if the list has ids."""
+    starts = {row["activity"]: row["start"] for row in value["rows"]}
+    if case.drawn.ids:
+        starts = {1: 0, **starts, len(starts) + 2: value["makespan"]}
+    return starts
+
+
+COMMANDS = (try_chart, try_days, try_check, try_compare, try_slack, try_solve)
+
+
+def try_list_rows(cases=2000, seed=1):
+    memory = "/dev/shm" if os.path.isdir("/dev/shm") else None
+    with tempfile.TemporaryDirectory(dir=memory) as folder:
+        for number in range(cases):
+            draw = Random(f"{seed} {number}")
+            try:
+                draw.choice(COMMANDS)(Case(draw, folder))
+            except Wrong as wrong:
+                raise Wrong(f"list {number} of seed {seed}: {wrong}") from None
+
+
+def main():
+    cases, seed = [int(word) for word in sys.argv[1:3]] + [2000, 1][len(sys.argv) - 1 :]
+    try:
+        try_list_rows(cases, seed)
+    except Wrong as wrong:
+        sys.exit(f"list_rows.py: {wrong}")
+
+
+if __name__ == "__main__":
+    main()
