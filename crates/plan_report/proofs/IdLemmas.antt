@@ -1,6 +1,6 @@
 -- Tables with ids: what their rows show, and the result of reading them.
 use Rattle.std.proofs.Common.{◌≡◌, ℕ, suc, ◌≤◌, ◌+◌, ◌==◌, Bool, true, false, if◌then◌else◌, List, [], ◌∷◌, ◌++◌, Ok, All, length, take, drop, refl, sym, ap, ◌∙◌, subst, append_assoc, append-nil, arith}
-use Rattle.std.specs.Prelude.{nat_le, slice_index_or}
+use Rattle.std.specs.Prelude.{nat_le}
 use Rattle.std.specs.List.{AllByRecursion}
 use Rattle.std.proofs.lemmas.Bool.{leb-true, le-leb, eqb-true, eq-eqb}
 use Rattle.std.proofs.lemmas.List.{length-append, length-take-le, take-append-drop}
@@ -10,7 +10,7 @@ use Rattle.plan_psplib.specs.declared.text.fault.FileCode.TheVariants as code
 use Rattle.plan_psplib.specs.Tokens.{check}
 use Rattle.plan_psplib.proofs.GoesLemmas.{then_ok, same_ok, ok_bind, check_ok, ok_check, both_true}
 use Rattle.plan_gantt.specs.Limits.{latest_start}
-use Rattle.plan_report.specs.Sheet.{IdEntry, Row, Sheet, ShowsSheet, ShowsStart, has_columns, sheet_at}
+use Rattle.plan_report.specs.Sheet.{IdEntry, Row, Sheet, ShowsStart, has_columns, sheet_at}
 use Rattle.plan_report.specs.IdRows.{ShowAllById, ShowsBy, ShowsById, ShowsIds, ShowsRows, all_known, all_starts, begins_with_id, behind_id, entries_with, greatest_end, has_ids, is_id_head, id_columns, id_rows_at, known_at, last_line, rows_at, rows_before, rows_with, start_by_id, start_of, starts_by_id, starts_of_body, unknown_code}
 use Rattle.plan_report.specs.declared.starts.Form.{Form}
 use Rattle.plan_report.proofs.SheetLemmas.{sheet_early, sheet_shows, sheet_whole, shows_sheet, shows_start, start_shows}

@@ -10,7 +10,7 @@ use Rattle.plan_psplib.specs.declared.text.fault.FileCode.TheVariants as code
 use Rattle.plan_psplib.specs.Tokens.{◌>>=◌, fault, check}
 use Rattle.plan_sgs.specs.Problem.{greatest_below}
 use Rattle.plan_gantt.specs.Limits.{latest_start}
-use Rattle.plan_report.specs.Sheet.{Entry, IdEntry, Row, Sheet, ShowsSheet, ShowsStart, start_in}
+use Rattle.plan_report.specs.Sheet.{IdEntry, Row, Sheet, ShowsSheet, ShowsStart, start_in}
 use Rattle.plan_report.specs.Sheet.{begins_with_makespan, has_columns, sheet_at}
 use Rattle.plan_report.specs.declared.starts.Form.{Form}
 use Rattle.plan_report.specs.declared.starts.Form.TheVariants as forms

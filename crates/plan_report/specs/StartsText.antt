@@ -1,7 +1,7 @@
 -- Texts of starts in four forms: bare numbers, a printed table, its CSV or its JSON
 -- (docs/definitions.md, "Reports").
-use Rattle.std.specs.Prelude.{◌≡◌, ℕ, Some, ◌==◌, ◌&&◌, ◌||◌, Bool, true, false, if◌then◌else◌, List, []}
-use Rattle.std.specs.Prelude.{◌∷◌, Result, Ok, map, drop, filter, length, codes}
+use Rattle.std.specs.Prelude.{◌≡◌, ℕ, Some, ◌==◌, ◌&&◌, ◌||◌, Bool, true, false, if◌then◌else◌}
+use Rattle.std.specs.Prelude.{List, [], ◌∷◌, Result, Ok, map, drop, filter, length, codes}
 use Rattle.std.specs.Prelude.{bytes_eq, nat_eq}
 use Rattle.std.specs.List.{range_with_len, slice_split, starts_with}
 use Rattle.serde_json.specs.Data.{Data}

@@ -184,7 +184,8 @@ fn only_start(
 ) -> Result<u64, ReadError>
     requires { entry.now.entry.duration ≤ 10000 }
     ensures start { Gives (λ n. n) result (spec.start_of row.now.line
-        (sheets.row_of row.now ∷ spec.rows_with form entry.now.id.now (map sheets.row_of others.now))
+        (sheets.row_of row.now
+        ∷ spec.rows_with form entry.now.id.now (map sheets.row_of others.now))
         (sheets.id_entry_of entry.now)) }
     ensures early { IfOk result (λ start. start ≤ LATEST_START) }
 {
@@ -244,7 +245,8 @@ fn greatest_end(entries: &[IdEntry<'_>], starts: &[u64]) -> u64
 {
     let mut latest = 0;
     for i in 0..entries.len() {
-        latest = latest.max(starts[i] + entries[i].entry.duration);
+        let end = starts[i] + entries[i].entry.duration;
+        latest = latest.max(end);
     }
     latest
 }

@@ -35,9 +35,7 @@ fn are_inner_named(ids: &[NameLine<'_>], network: &Network) -> bool
 fn are_complete(ids: &[NameLine<'_>], network: &Network) -> bool
     ensures { result ≡ spec.are_complete (map name_of ids.now) network.now }
 {
-    !is_named(ids, 1)
-        && !is_named(ids, network.len() as u64)
-        && are_inner_named(ids, network)
+    !is_named(ids, 1) && !is_named(ids, network.len() as u64) && are_inner_named(ids, network)
 }
 
 // Returns the id of an activity, empty if it has none.
@@ -83,7 +81,8 @@ fn inner_entries<'a>(
 {
     let mut entries = Vec::new(alloc);
     for j in 2..network.len() {
-        entries.push(id_entry(alloc, ids, network, j as u32)?)?;
+        let entry = id_entry(alloc, ids, network, j as u32)?;
+        entries.push(entry)?;
     }
     Ok(entries)
 }

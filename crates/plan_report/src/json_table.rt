@@ -166,7 +166,7 @@ fn id_text(id: &str) -> &str
 // Appends a cell with an id, empty if there is none or if it is no cell.
 fn push_id(text: &mut String, id: Option<&str>) -> Result<(), AllocError>
     ensures { OnOk result (string_bytes text.new
-        ≡ string_bytes text.old ++ spec.id_cell (option_map (λ id. id.now) id)) }
+        ≡ string_bytes text.old ++ spec.id_cell (option_map (λ id. id.now) id.entry)) }
 {
     if let Some(id) = id {
         text.push_str(id_text(id))?;

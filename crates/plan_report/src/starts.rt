@@ -375,14 +375,14 @@ pub fn read_starts_text(
 }
 
 /// Reads the starts of a project's activities, in whole time units: index `k` is activity `k + 1`.
-/// The forms and the errors are those of [`read_starts_text`], and activities can have ids: each has
-/// the first one of its number in `ids`.
+/// The forms and the errors are those of [`read_starts_text`], and activities can have ids. The id
+/// of an activity is the first one of its number in `ids`.
 ///
 /// If all activities but the first and the last have an id, and these two have none, a table, CSV
 /// or JSON may have the column `id` in place of the activity's number. It has a row for each
-/// activity with an id, in any order. A cell of CSV may have the id in quotes. In JSON the first row
-/// shows whether there are ids; the numbers of activities don't count then. The first activity
-/// starts at 0, and the last at the greatest end of all others.
+/// activity with an id, in any order. A cell of CSV may have the id in quotes. JSON is such a table
+/// if its first row has a string `id`; the numbers of activities don't count then. The first
+/// activity starts at 0, and the last at the greatest end of all others.
 ///
 /// Errors of such a table: `Count` (F9) if a row is missing or left over, `JobOrder` (F7) for a row
 /// whose id isn't that of exactly one activity or is that of an earlier row, or whose duration or
