@@ -42,7 +42,7 @@ pub struct Ids<'a> {
     lines: Vec<NameLine<'a>>,
 }
 
-impl Model for Ids<'_> {
+impl<'a> Model for Ids<'a> {
     ghost use Rattle.std.specs.Prelude.{List, map};
     ghost use Rattle.plan_table.specs.Names.{Name, name_of};
 
