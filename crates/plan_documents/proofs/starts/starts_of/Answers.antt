@@ -12,7 +12,7 @@ returns-in-Project-clause-refused c =
     let r = c.read_starts.result in
     let text = c.args.text.now in
     subst (λ (p : Plan). IfErr r (Refuses (TellsNoStarts (sheet_of p) text))) (sym c.in-Project.is)
-    (subst (λ (n : Net). IfErr r (Refuses (TellsNoStarts (id_sheet c.in-Project.ids.now n) text))) c.network.ensures.network
+    (subst (λ (n : Net). IfErr r (Refuses (TellsNoStarts (id_sheet c.in-Project.ids n) text))) c.network.ensures.network
     c.read_starts.ensures.refused)
 
 pub returns-in-Shop-clause-refused : goal.returns-in-Shop-clause-refused
