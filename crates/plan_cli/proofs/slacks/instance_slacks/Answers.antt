@@ -25,7 +25,7 @@ returns-in_err-starts-clause-refused c =
     let names = ids_in c.args.file.now in
     let i = c.args.instance.now in
     let listed = c.args.listed.now in
-    let error = err_from_is_err_and c.from_residual.result c.from_residual.ensures.1 in
+    let error = err_from_is_err_and c.from_residual-in_err-starts.result c.from_residual-in_err-starts.ensures.1 in
     rw (error.1, error.2) (refuses_as (TellsBadStarts names listed i) (TellsBadSlack names listed i) c.in_err-starts.field-0.0 (λ line tells. inl tells)
     (bad_starts c.in_ok-ids.ids names listed i c.network.result.now c.in_err-starts.field-0.0 c.network.ensures.instance.fit
     c.network.ensures.network c.in_ok-ids.ensures c.in_err-starts.ensures.refused))
