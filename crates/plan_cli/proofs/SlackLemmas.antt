@@ -1,9 +1,9 @@
 -- The slacks of the starts in a text.
-use Rattle.std.proofs.Common.{◌≡◌, inr, ℕ, List, Result, Ok, Err, subst}
+use Rattle.std.proofs.Common.{◌≡◌, inr, ℕ, List, Result, Ok, Err, sym, subst}
 use Rattle.std.specs.Prelude.{IfErr}
 use Rattle.plan_net.specs.Network.{Net}
 use Rattle.plan_sgs.specs.Problem.{NeedsFit}
-use Rattle.plan_sgs.specs.Instances.{Planned, problem_of}
+use Rattle.plan_sgs.specs.Instances.{Planned, planned, problem_of}
 use Rattle.plan_report.specs.Slack.{RefusesSlack}
 use Rattle.plan_report.specs.IdSheets.{id_sheet}
 use Rattle.plan_report.specs.StartsText.{SaysStarts}
@@ -12,6 +12,7 @@ use Rattle.plan_errors.specs.declared.fault.CliFault.{CliFault}
 use Rattle.plan_errors.specs.Output.{Refuses}
 use Rattle.plan_psplib.specs.Project.{Project, SaysProject}
 use Rattle.plan_table.specs.Names.{Name}
+use Rattle.plan_documents.specs.Capacities.{Replaces}
 use Rattle.plan_documents.specs.Plans.{RefusesFile, RefusesWith, resources_in}
 use Rattle.plan_documents.specs.declared.capacities.Capacity.{Capacity}
 use Rattle.plan_cli.specs.SlackRun.{TellsBadStarts, TellsSlackFault, TellsBadSlack, TellsNoSlack}
@@ -59,3 +60,18 @@ pub file_refused : (ids : List Name) (listed file : List ℕ) (names : List Name
 file_refused ids listed file names given p e says same t =
     refuses_as (RefusesWith names given p (TellsNoSlack ids listed)) (RefusesFile given (TellsNoSlack ids listed) file) e
     (λ line tells. inr (p, says, subst (λ (ns : List Name). RefusesWith ns given p (TellsNoSlack ids listed) line) same tells)) t
+
+-- an error of the project with these capacities is one with the given capacities
+pub with_refused : {A : Type 0} (ids : List Name) (listed : List ℕ) (names : List Name) (given : List Capacity) (p : Project)
+    (list capacities made : List ℕ) (r : Result A CliFault)
+    → list ≡ p.available → Replaces names given list capacities → made ≡ capacities
+    → IfErr r (Refuses (TellsNoSlack ids listed (planned p made)))
+    → IfErr r (Refuses (RefusesWith names given p (TellsNoSlack ids listed)))
+with_refused ids listed names given p list capacities made (Ok x) same replaced is told = tt
+with_refused ids listed names given p list capacities made (Err e) same replaced is told =
+    refuses_as (TellsNoSlack ids listed (planned p made)) (RefusesWith names given p (TellsNoSlack ids listed)) e
+    (λ line tells. inr (
+      made,
+      subst (λ (l : List ℕ). Replaces names given l made) same (subst (λ (c : List ℕ). Replaces names given list c) (sym is) replaced),
+      tells,
+    )) told
