@@ -26,7 +26,7 @@ from answers import plan, same, written
 from drawing import Draw
 from drawing.words import PROJECT_RULES, SHOP_RULES
 from holidays import MARKS, STARTS
-from tables import damaged, drawn_table, is_utf8, kind_in, windows_1252
+from tables import damaged, drawn_table, is_utf8, kind_in, kind_of
 
 # The commands that need the file of a project or of a job shop.
 PLAIN = (["cpm"], ["schedule", "lft"], ["best-project", "100"])
@@ -82,15 +82,6 @@ def drawn_list(draw, is_shop):
     """A list, and whether it was damaged."""
     data = (orders_text(draw) if is_shop else drawn_table(draw.random)[0]).encode()
     return damaged(draw.random, data) if draw.chance(0.25) else data
-
-
-# ---- the kind of a list, by its header
-
-
-def kind_of(data):
-    """The kind of list that a file is by its header, in UTF-8, or else perhaps in Windows-1252."""
-    found = "none" if is_utf8(data) else kind_in(windows_1252(data).encode())
-    return kind_in(data) if found == "none" else found
 
 
 # ---- commands
