@@ -130,6 +130,12 @@ def words_on(command, file, instance, options=()):
     return [front[0], *options, *front[1:], file, *behind, *instance]
 
 
+def is_quick(command, made):
+    """That a command doesn't search a large file: a search that its limit ends may print another
+    schedule each time."""
+    return "--solve" not in command[0] or len(made) < 2600
+
+
 def starts_table(folder, is_shop, made):
     """A file of starts: those of a schedule by a rule, if there is one."""
     words = ["shop", "mwkr", made, "shop"] if is_shop else ["schedule", "lft", made]
@@ -163,12 +169,14 @@ def try_made(draw, what, folder, is_shop, made, notes):
         written(folder, starts, file.read())
     own = draw.pick(([], ["-"], ["shop"])) if is_shop else []
     other = ["shop"] if is_shop else []
-    for command in named_commands(draw, is_shop, starts):
+    commands = named_commands(draw, is_shop, starts)
+    for command in filter(lambda command: is_quick(command, made), commands):
         named, plainly = rows_of(draw)
         given = [] if command[0][0] == "compare" else capacities_of(draw, is_shop)
         given = (named + given, plainly + given)
         compare_command(what, folder, command, (own, other), given, made_folder, notes)
-    for command in plain_commands(draw, is_shop, starts):
+    commands = plain_commands(draw, is_shop, starts)
+    for command in filter(lambda command: is_quick(command, made), commands):
         if command[0][:2] == ["chart", "--svg"] and is_shop:
             own = ["shop"]
         compare_command(what, folder, command, (own, other), ([], []), made_folder, notes)
