@@ -26,7 +26,7 @@ from answers import plan, same, written
 from drawing import Draw
 from drawing.words import PROJECT_RULES, SHOP_RULES
 from holidays import MARKS, STARTS
-from tables import damaged, drawn_table, is_utf8, kind_in, windows_1252
+from tables import damaged, drawn_table, is_utf8, kind_in, kind_of
 
 # The commands that need the file of a project or of a job shop.
 PLAIN = (["cpm"], ["schedule", "lft"], ["best-project", "100"])
@@ -84,15 +84,6 @@ def drawn_list(draw, is_shop):
     return damaged(draw.random, data) if draw.chance(0.25) else data
 
 
-# ---- the kind of a list, by its header
-
-
-def kind_of(data):
-    """The kind of list that a file is by its header, in UTF-8, or else perhaps in Windows-1252."""
-    found = "none" if is_utf8(data) else kind_in(windows_1252(data).encode())
-    return kind_in(data) if found == "none" else found
-
-
 # ---- commands
 
 
@@ -139,6 +130,12 @@ def words_on(command, file, instance, options=()):
     return [front[0], *options, *front[1:], file, *behind, *instance]
 
 
+def is_quick(command, made):
+    """That a command doesn't search a large file: a search that its limit ends may print another
+    schedule each time."""
+    return "--solve" not in command[0] or len(made) < 2600
+
+
 def starts_table(folder, is_shop, made):
     """A file of starts: those of a schedule by a rule, if there is one."""
     words = ["shop", "mwkr", made, "shop"] if is_shop else ["schedule", "lft", made]
@@ -172,12 +169,14 @@ def try_made(draw, what, folder, is_shop, made, notes):
         written(folder, starts, file.read())
     own = draw.pick(([], ["-"], ["shop"])) if is_shop else []
     other = ["shop"] if is_shop else []
-    for command in named_commands(draw, is_shop, starts):
+    commands = named_commands(draw, is_shop, starts)
+    for command in filter(lambda command: is_quick(command, made), commands):
         named, plainly = rows_of(draw)
         given = [] if command[0][0] == "compare" else capacities_of(draw, is_shop)
         given = (named + given, plainly + given)
         compare_command(what, folder, command, (own, other), given, made_folder, notes)
-    for command in plain_commands(draw, is_shop, starts):
+    commands = plain_commands(draw, is_shop, starts)
+    for command in filter(lambda command: is_quick(command, made), commands):
         if command[0][:2] == ["chart", "--svg"] and is_shop:
             own = ["shop"]
         compare_command(what, folder, command, (own, other), ([], []), made_folder, notes)

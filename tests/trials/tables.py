@@ -4,8 +4,8 @@ ones of tests/tables.
 
     tests/trials/tables.py [--tables 5000] [--seed 1]
 
-Each table is drawn with names, quotes, blanks and all three delimiters; one in three is then damaged
-at some byte. The model reads it with Python's module csv and prints the `.sm` text or the error line
+Each table is drawn with names, quotes, blanks, waits, groups, all three delimiters and encodings; one
+in four is then damaged at some byte. The model reads it, and prints the `.sm` text or the error line
 that docs/formats.md describes. It prints nothing on success. The program is the one that ./plan runs,
 or the one that PLAN_PROGRAM names.
 """
@@ -39,6 +39,8 @@ LONGEST_ID = 32
 
 BLANKS = "\t\v\f\r\x1a "
 RULE = "*" * 72
+# The marks of UTF-16, with the low byte of a unit first and the other way round.
+MARKS = (b"\xff\xfe", b"\xfe\xff")
 COLUMNS = {
     "duration": "duration",
     "id": "id",
@@ -250,14 +252,10 @@ class Table:
         activities = [(n, name) for (n, _), name in zip(rows, ids) if not self.is_capacity(name)]
         if len(activities) > MOST_ROWS:
             raise Refused(f"T12 limit line {activities[MOST_ROWS][0]}")
-        names = [name for _, name in activities]
-        self.numbers = {}
-        for k, name in enumerate(names):
-            self.numbers.setdefault(name, k + 2)
         at = self.kinds.index("name") if "name" in self.kinds else None
         called = [c[at].strip(BLANKS) if at is not None and at < len(c) else "" for (_, c), name in zip(rows, ids)
                   if not self.is_capacity(name)]
-        self.named = {name: k + 2 for k, name in enumerate(called) if called.count(name) == 1}
+        self.labels = Labels([name for _, name in activities], called)
         self.rows, self.capacities, self.seen, self.total = [], None, [], 0
         for (n, c), name in zip(rows, ids):
             self.take(n, c, name)
@@ -271,14 +269,6 @@ class Table:
         if self.id_at is None:
             return str(k + 1)
         return cells[self.id_at].strip(BLANKS) if self.id_at < len(cells) else ""
-
-    def number_of(self, word):
-        """The number of the activity with this id, or of the only one with this name; if there is none, that
-        for the word without FS at its end."""
-        found = self.numbers.get(word, self.named.get(word))
-        if found is None and word.endswith("FS"):
-            found = self.numbers.get(word[:-2], self.named.get(word[:-2]))
-        return found
 
     def is_capacity(self, name):
         return self.id_at is not None and lower(name) == "capacity"
@@ -303,9 +293,9 @@ class Table:
                 for word in words_of(cell):
                     if has_control(word):
                         raise Refused(f"T2 not text line {line}")
-                    if self.number_of(word) is None:
+                    if self.labels.number_of(word) is None:
                         raise Refused(f"T8 line {line} predecessor {word}")
-                    row["before"].append(self.number_of(word))
+                    row["before"].append(self.labels.number_of(word))
             elif kind == "resource":
                 fault = f"T9 line {line} need {self.resources[resource]}"
                 row["needs"].append(amount(cell, fault, line) if cell else 0)
@@ -459,15 +449,24 @@ def kind_in(data):
     return "none"
 
 
+def kind_of(data):
+    """The kind of list that a file is by its header, in UTF-8 or in UTF-16, or else perhaps in Windows-1252."""
+    if data[:2] in MARKS:
+        return kind_in(data.decode("utf-16").encode())
+    found = "none" if is_utf8(data) else kind_in(windows_1252(data).encode())
+    return kind_in(data) if found == "none" else found
+
+
 def decoded(data):
-    """The text of a file, and whether its encoding is a guess: another one than UTF-8 is Windows-1252
-    if the file is a list then."""
+    """The text of a file, and whether its encoding is a guess: another one than UTF-8 is UTF-16 if it
+    has a mark, and else Windows-1252, if the file is a list then."""
     if is_utf8(data):
         return data.decode(), False
-    text = windows_1252(data)
+    is_guess = data[:2] not in MARKS
+    text = windows_1252(data) if is_guess else data.decode("utf-16")
     if kind_in(text.encode()) == "none":
         raise Refused(f"T2 not text line {bad_line(data)}")
-    return text, True
+    return text, is_guess
 
 
 def bad_line(data):
@@ -529,6 +528,73 @@ def without_groups(found, given):
     return [(line, ["" if k in outlines else cell for k, cell in enumerate(cells)]) for line, cells in kept]
 
 
+class Labels:
+    """The ids and names of activities, by which the words of a list name them."""
+
+    def __init__(self, ids, names):
+        self.numbers, self.names = {}, names
+        for k, name in enumerate(ids):
+            self.numbers.setdefault(name, k + 2)
+        self.named = {name: k + 2 for k, name in enumerate(names) if names.count(name) == 1}
+
+    def number_of(self, word):
+        """The number of the activity with this id, or of the only one with this name; if there is none, that
+        for the word without FS at its end."""
+        found = self.numbers.get(word, self.named.get(word))
+        if found is None and word.endswith("FS"):
+            found = self.numbers.get(word[:-2], self.named.get(word[:-2]))
+        return found
+
+
+def wait_in(word, labels):
+    """The predecessor and the lag of a word such as `A+2d`, or None."""
+    before, plus, lag = word.partition("+")
+    digits = re.match("[0-9]*", lag)[0]
+    is_lag = number_of(digits) is not None and number_of(digits) <= GREATEST and lower(lag[len(digits):]) in DAYS
+    return (before, lag) if plus and before and labels.number_of(before) is not None and is_lag else None
+
+
+def linked(cell, labels, waits):
+    """A cell of predecessors in which the ids of waiting rows stand for waits, which are added to others."""
+    words = []
+    for part in re.split("[,;]", cell):
+        is_behind = False
+        for word in words_of(part):
+            wait = wait_in(word, labels) if labels.number_of(word) is None else None
+            if labels.number_of(word) is None and is_behind and lower(word) in DAYS:
+                is_behind = False
+                continue
+            is_behind = wait is not None
+            words.append(f"wait+{len(waits)}" if wait else word)
+            waits += [wait] if wait else []
+    return " ".join(words)
+
+
+def with_waits(found, given):
+    """The records with a waiting row for each wait, at their end."""
+    kinds, keys, names = header_of(*found[0])
+    kinds = settled(kinds, keys, names, [cells for _, cells in found[1:]], given)
+    if "id" not in kinds or "predecessors" not in kinds:
+        return found
+    ids, at = kinds.index("id"), kinds.index("predecessors")
+    rows = [cells for _, cells in found[1:] if lower(cell_at(cells, ids)) != "capacity"]
+    called = [cell_at(cells, kinds.index("name")) if "name" in kinds else "" for cells in rows]
+    labels = Labels([cell_at(cells, ids) for cells in rows], called)
+    if len(rows) > MOST_ROWS or any(name.startswith("wait+") for name in [*labels.numbers, *called]):
+        return found
+    waits, kept = [], found[:1]
+    for line, cells in found[1:]:
+        count = len(waits)
+        if lower(cell_at(cells, ids)) != "capacity":
+            cell = linked(cell_at(cells, at), labels, waits)
+        kept.append((line, [*cells[:at], cell, *cells[at + 1 :]] if len(waits) > count else cells))
+    last = found[-1][0] + sum(cell.count("\n") for cell in found[-1][1])
+    for k, (before, lag) in enumerate(waits):
+        cells = {"id": f"wait+{k}", "duration": lag, "predecessors": before}
+        kept.append((last, [cells.get(kind, "") for kind in kinds]))
+    return kept
+
+
 def plain_rows(found, given):
     """The records of the plain list, and the headers of its notes."""
     try:
@@ -538,7 +604,7 @@ def plain_rows(found, given):
         return found, []
     notes = [k for k, key in columns.items() if key not in SUCCESSORS
              and any(cell_at(cells, k) and number_of(cell_at(cells, k)) is None for _, cells in found[1:])]
-    return without(found, notes), [names[k] for k in notes]
+    return with_waits(without(found, notes), given), [names[k] for k in notes]
 
 
 def table_of(text, is_list, given):
@@ -600,6 +666,28 @@ def drawn_header(draw, kind, words):
     return draw.choice(HEADS[kind])
 
 
+def drawn_case(draw, word):
+    return draw.choice([word, word.upper(), word.capitalize()])
+
+
+def drawn_depths(draw, count):
+    """How deep the rows of a list are: each one at most 1 deeper than the one before it."""
+    depths = []
+    for _ in range(count):
+        depths.append(draw.randrange(1, min(4, depths[-1] + 2)) if depths else 1)
+    return depths
+
+
+def drawn_link(draw, name):
+    """A word for a predecessor, at times with a wait, and rarely one that is none."""
+    if draw.random() < 0.1:
+        lag = draw.choice(["0", "1", "2", "10"]) + draw.choice(["", "d", " d", "d", " days", "Tage", " JOURS"])
+        return name + draw.choice(["", "FS"]) + "+" + lag
+    if draw.random() < 0.02:
+        return draw.choice(["Garden", "名前FS", "FS", name + "SS", name + "FS-2d", name + "+2,5d", name + "+", "+2", "d"])
+    return name + ("FS" if draw.random() < 0.1 else "")
+
+
 def drawn_table(draw):
     """A table that is mostly good, as text."""
     delimiter = draw.choice([",", ";", "\t"])
@@ -610,27 +698,33 @@ def drawn_table(draw):
     notes = draw.sample(NOTES, draw.choice([0, 0, 1, 2, 4]))
     if draw.random() < 0.05:
         notes.append(draw.choice(["Successors", "NACHFOLGER", " successeurs", "sucesoras"]))
-    kinds += notes
+    outlines = [drawn_case(draw, draw.choice(LEVELS + OUTLINES))] if draw.random() < 0.15 else []
+    kinds += notes + outlines
     draw.shuffle(kinds)
     ids = [chr(65 + k) if count <= 26 else f"a{k}" for k in range(count)]
     if "id" not in kinds:
         ids = [str(k + 1) for k in range(count)]
+    depths = drawn_depths(draw, count) if outlines else [1] * count
+    groups = [k for k in range(count - 1) if depths[k + 1] > depths[k] and "id" in kinds]
     words = draw.random() < 0.3
     lines = [[drawn_header(draw, k, words) if k in HEADS else k for k in kinds]]
     order = list(range(count))
-    if draw.random() < 0.3:
+    if draw.random() < 0.3 and not outlines:
         draw.shuffle(order)
     for place, k in enumerate(order):
-        before = draw.sample(order[:place], min(place, draw.randrange(4)))
+        earlier = [i for i in order[:place] if i not in groups or draw.random() < 0.02]
+        before = draw.sample(earlier, min(len(earlier), draw.randrange(4)))
         row = {"duration": str(draw.randrange(30)), "id": ids[k], "name": draw.choice(NAMES)}
         if draw.random() < 0.1:
             row["duration"] += draw.choice([",0", ".0", ""]) + draw.choice(["", " ", "  "]) + draw.choice(DAYS + ["Days"])
         if draw.random() < 0.01:
             row["duration"] += draw.choice([".5", ",00", " hrs", ",0 0"])
         kept = draw.choice([" ", ",", "; "])
-        row["predecessors"] = kept.join(draw.choice([ids[i]] * 6 + [ids[i] + "FS", "Garden", "名前FS"]) for i in before)
+        row["predecessors"] = kept.join(drawn_link(draw, ids[i]) for i in before)
         row.update({name: draw.choice(["", "0", "1", "3"]) for name in resources})
         row.update({name: draw.choice(["", "1", "2024-05-01", "see plan"]) for name in notes})
+        for name in outlines:
+            row[name] = str(depths[k]) if lower(name) in LEVELS else ".".join(["1"] * depths[k])
         if draw.random() < 0.02:
             row[draw.choice(kinds)] = draw.choice(["x", "-1", "99999", "A B", "1000000000"])
         lines.append([row[kind] for kind in kinds])
@@ -645,6 +739,19 @@ def drawn_table(draw):
     mark = "\ufeff" if draw.random() < 0.2 else ""
     text = end.join(delimiter.join(drawn_cell(draw, cell, delimiter) for cell in line) for line in lines)
     return mark + text + (end if draw.random() < 0.8 else ""), delimiter
+
+
+def drawn_bytes(draw, text):
+    """A table in an encoding; one in UTF-8 is damaged at times."""
+    way = draw.randrange(12)
+    bare = text.removeprefix("\ufeff")
+    if way == 0:
+        return MARKS[0] + bare.encode("utf-16-le")
+    if way == 1:
+        return MARKS[1] + bare.encode("utf-16-be")
+    if way == 2:
+        return bare.encode("cp1252", "replace")
+    return damaged(draw, text.encode()) if way < 6 else text.encode()
 
 
 def damaged(draw, data):
@@ -698,12 +805,10 @@ def try_drawn_tables(count, seed):
     draw = random.Random(seed)
     for n in range(count):
         text, delimiter = drawn_table(draw)
-        data = text.encode()
         found = records(text.removeprefix("\ufeff"), delimiter)
         if not same_as_module(text.removeprefix("\ufeff"), delimiter, found):
             raise Wrong(f"table {n}: the model's records differ from those of Python's module csv")
-        if draw.random() < 1 / 3:
-            data = damaged(draw, data)
+        data = drawn_bytes(draw, text)
         given = {draw.choice(["crew0", "CREW0"]): draw.randrange(9)} if draw.random() < 0.2 else {}
         options = [f"--capacity={name}={amount}" for name, amount in given.items()]
         answer = imported(data, options)
