@@ -6,6 +6,7 @@ use Rattle.plan_sgs.specs.Instances.{Planned, planned, problem_of}
 use Rattle.plan_shop.specs.Shop.{JobShop}
 use Rattle.plan_shop.specs.Shop as shops
 use Rattle.plan_table.specs.Names.{Name}
+use Rattle.plan_documents.specs.Documents.{ids_in}
 use Rattle.plan_gantt.specs.FirstFaults.{TellsFirstFailing}
 use Rattle.plan_gantt.specs.ScheduleText.{IsScheduleTextOf, TellsRefusal}
 use Rattle.plan_gantt.specs.ShopTable.{shop_table_text}
@@ -49,19 +50,19 @@ refused_file IsLine file line (inr (p, says, inl (k, first, between, at, replace
 refused_file IsLine file line (inr (p, says, inr with_none)) = inr (p, says, as_in_file (resources_in file) p (λ i. IsLine i line) with_none)
 
 -- a text for the plan of a project whose needs are within its capacities
-abbrev pub Fitting : (Plan → List ℕ → Type 0) → Planned → List ℕ → Type 0
-Fitting IsText i text = NeedsFit (problem_of i) × IsText (plan.Project i) text
+abbrev pub Fitting : List Name → (Plan → List ℕ → Type 0) → Planned → List ℕ → Type 0
+Fitting ids IsText i text = NeedsFit (problem_of i) × IsText (plan.Project i ids) text
 
 -- a line for a need that is above its capacity, or for such a plan
-abbrev pub Needing : (Plan → List ℕ → Type 0) → Planned → List ℕ → Type 0
-Needing IsLine i line = TellsNeed i line ⊎ (NeedsFit (problem_of i) × IsLine (plan.Project i) line)
+abbrev pub Needing : List Name → (Plan → List ℕ → Type 0) → Planned → List ℕ → Type 0
+Needing ids IsLine i line = TellsNeed i line ⊎ (NeedsFit (problem_of i) × IsLine (plan.Project i ids) line)
 
 -- the table by a rule is that of a file
-pub table_of_file : (name file text : List ℕ) → IsOfProject [] (Fitting (IsTableBy name)) file text
+pub table_of_file : (name file text : List ℕ) → IsOfProject [] (Fitting (ids_in file) (IsTableBy name)) file text
     → IsScheduleTableOf name file text
-table_of_file name file text made = by_rule (of_file (Fitting (IsTableBy name)) file text made)
+table_of_file name file text made = by_rule (of_file (Fitting (ids_in file) (IsTableBy name)) file text made)
   where
-    by_rule : (p : Project) × SaysProject file p × Fitting (IsTableBy name) (as_available p) text
+    by_rule : (p : Project) × SaysProject file p × Fitting (ids_in file) (IsTableBy name) (as_available p) text
         → IsScheduleTableOf name file text
     by_rule (p, says, (fit, t)) = (
       p,
@@ -73,58 +74,58 @@ table_of_file name file text made = by_rule (of_file (Fitting (IsTableBy name)) 
       ),
     )
 
-refusal_by : (name : List ℕ) (i : Planned) (line : List ℕ) → Needing (TellsNoRuleOf name) i line → TellsRefusal name i line
-refusal_by name i line (inl (first, need, told)) = (first, inl need, told)
-refusal_by name i line (inr (fit, (first, word, told))) = (first, inr (fit, word), told)
+refusal_by : (ids : List Name) (name : List ℕ) (i : Planned) (line : List ℕ) → Needing ids (TellsNoRuleOf name) i line → TellsRefusal name i line
+refusal_by ids name i line (inl (first, need, told)) = (first, inl need, told)
+refusal_by ids name i line (inr (fit, (first, word, told))) = (first, inr (fit, word), told)
 
 -- the same for the task of a schedule
 pub schedule_texts : (t : Task) (rule : Bor (List ℕ)) (given : Bor (List Capacity)) → t ≡ task.Schedule rule (subject.Project given) → given.now ≡ []
     → (file text : List ℕ) → ShowsRead rows.Plain t file text → IsScheduleTableOf rule.now file text
 schedule_texts t rule given same none file text is =
     table_of_file rule.now file text
-    (subst (λ (c : List Capacity). IsOfProject c (Fitting (IsTableBy rule.now)) file text) none (subst (λ (u : Task). ShowsRead rows.Plain u file text) same is))
+    (subst (λ (c : List Capacity). IsOfProject c (Fitting (ids_in file) (IsTableBy rule.now)) file text) none (subst (λ (u : Task). ShowsRead rows.Plain u file text) same is))
 
-pub no_table_of_file : (name file line : List ℕ) → RefusesFile [] (Needing (TellsNoRuleOf name)) file line
+pub no_table_of_file : (name file line : List ℕ) → RefusesFile [] (Needing (ids_in file) (TellsNoRuleOf name)) file line
     → TellsWhyNoSchedule name file line
-no_table_of_file name file line refused = by_rule (refused_file (Needing (TellsNoRuleOf name)) file line refused)
+no_table_of_file name file line refused = by_rule (refused_file (Needing (ids_in file) (TellsNoRuleOf name)) file line refused)
   where
-    by_rule : TellsFirstFailing file line ⊎ ((p : Project) × SaysProject file p × Needing (TellsNoRuleOf name) (as_available p) line)
+    by_rule : TellsFirstFailing file line ⊎ ((p : Project) × SaysProject file p × Needing (ids_in file) (TellsNoRuleOf name) (as_available p) line)
         → TellsWhyNoSchedule name file line
     by_rule (inl first) = inl first
-    by_rule (inr (p, says, tells)) = inr (p, says, refusal_by name (as_available p) line tells)
+    by_rule (inr (p, says, tells)) = inr (p, says, refusal_by (ids_in file) name (as_available p) line tells)
 
 -- the same for the task of a schedule
 pub schedule_lines : (t : Task) (rule : Bor (List ℕ)) (given : Bor (List Capacity)) → t ≡ task.Schedule rule (subject.Project given) → given.now ≡ []
     → (file line : List ℕ) → RefusesRead t file line → TellsWhyNoSchedule rule.now file line
 schedule_lines t rule given same none file line is =
     no_table_of_file rule.now file line
-    (subst (λ (c : List Capacity). RefusesFile c (Needing (TellsNoRuleOf rule.now)) file line) none (subst (λ (u : Task). RefusesRead u file line) same is))
+    (subst (λ (c : List Capacity). RefusesFile c (Needing (ids_in file) (TellsNoRuleOf rule.now)) file line) none (subst (λ (u : Task). RefusesRead u file line) same is))
 
 -- the best schedule is that of a file
-pub best_of_file : (budget file text : List ℕ) → IsOfProject [] (Fitting (IsBestOf budget)) file text
+pub best_of_file : (budget file text : List ℕ) → IsOfProject [] (Fitting (ids_in file) (IsBestOf budget)) file text
     → IsBestProjectTableOf budget file text
-best_of_file budget file text made = fitting (of_file (Fitting (IsBestOf budget)) file text made)
+best_of_file budget file text made = fitting (of_file (Fitting (ids_in file) (IsBestOf budget)) file text made)
   where
-    fitting : (p : Project) × SaysProject file p × Fitting (IsBestOf budget) (as_available p) text
+    fitting : (p : Project) × SaysProject file p × Fitting (ids_in file) (IsBestOf budget) (as_available p) text
         → IsBestProjectTableOf budget file text
     fitting (p, says, (fit, t)) = (p, says, t)
 
-pub no_best_of_file : (budget file line : List ℕ) → RefusesFile [] (Needing (TellsNoBestOf budget)) file line
+pub no_best_of_file : (budget file line : List ℕ) → RefusesFile [] (Needing (ids_in file) (TellsNoBestOf budget)) file line
     → TellsWhyNoBestProject budget file line
-no_best_of_file budget file line refused = refused_file (Needing (TellsNoBestOf budget)) file line refused
+no_best_of_file budget file line refused = refused_file (Needing (ids_in file) (TellsNoBestOf budget)) file line refused
 
 -- the same for the task of a best schedule
 pub best_texts : (t : Task) (budget : Bor (List ℕ)) (given : Bor (List Capacity)) → t ≡ task.Best budget (subject.Project given) → given.now ≡ []
     → (file text : List ℕ) → ShowsRead rows.Plain t file text → IsBestProjectTableOf budget.now file text
 best_texts t budget given same none file text is =
     best_of_file budget.now file text
-    (subst (λ (c : List Capacity). IsOfProject c (Fitting (IsBestOf budget.now)) file text) none (subst (λ (u : Task). ShowsRead rows.Plain u file text) same is))
+    (subst (λ (c : List Capacity). IsOfProject c (Fitting (ids_in file) (IsBestOf budget.now)) file text) none (subst (λ (u : Task). ShowsRead rows.Plain u file text) same is))
 
 pub best_lines : (t : Task) (budget : Bor (List ℕ)) (given : Bor (List Capacity)) → t ≡ task.Best budget (subject.Project given) → given.now ≡ []
     → (file line : List ℕ) → RefusesRead t file line → TellsWhyNoBestProject budget.now file line
 best_lines t budget given same none file line is =
     no_best_of_file budget.now file line
-    (subst (λ (c : List Capacity). RefusesFile c (Needing (TellsNoBestOf budget.now)) file line) none (subst (λ (u : Task). RefusesRead u file line) same is))
+    (subst (λ (c : List Capacity). RefusesFile c (Needing (ids_in file) (TellsNoBestOf budget.now)) file line) none (subst (λ (u : Task). RefusesRead u file line) same is))
 
 -- the table by a rule is that of an instance in a file
 pub table_of_shop : (name instance file text : List ℕ) → IsOfShop instance (λ s. IsTableBy name (plan.Shop s)) file text

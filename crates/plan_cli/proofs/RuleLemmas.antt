@@ -1,5 +1,5 @@
 -- The error of a name that no rule has.
-use Rattle.std.proofs.Common.{◌≡◌, ℕ, List, codes, refl}
+use Rattle.std.proofs.Common.{◌≡◌, ℕ, List, [], codes, refl}
 use Rattle.plan_sgs.specs.Instances.{Planned}
 use Rattle.plan_sgs.specs.Keys.{RefusesWord}
 use Rattle.plan_sgs.specs.declared.fault.SgsFault.{SgsFault}
@@ -17,9 +17,9 @@ use Rattle.plan_documents.proofs.ErrorLemmas.{refuses_as}
 -- no rule of projects has the name
 pub no_rule : (name : List ℕ) (i : Planned) (first : SgsFault) (e : CliFault)
     → RefusesWord name first → Refuses (λ line. line ≡ codes "S3 unknown rule") e
-    → Refuses (TellsNoRuleOf name (plan.Project i)) e
+    → Refuses (TellsNoRuleOf name (plan.Project i [])) e
 no_rule name i first e refused told =
-    refuses_as (λ line. line ≡ codes "S3 unknown rule") (TellsNoRuleOf name (plan.Project i)) e
+    refuses_as (λ line. line ≡ codes "S3 unknown rule") (TellsNoRuleOf name (plan.Project i [])) e
     (λ line is. (sgs.UnknownRule, (refl, refused.1), is)) told
 
 -- no rule of job shops has the name

@@ -21,7 +21,8 @@ use Rattle.plan_sgs.specs.Problem.{NeedsFit}
 use Rattle.plan_sgs.specs.Instances.{Planned, problem_of}
 use Rattle.plan_shop.specs.Shop.{JobShop}
 use Rattle.plan_documents.specs.Plans.{IsOfProject, RefusesFile, IsOfShop, RefusesShop}
-use Rattle.plan_documents.specs.Documents.{IsOfSubject, RefusesSubject}
+use Rattle.plan_table.specs.Names.{Name}
+use Rattle.plan_documents.specs.Documents.{IsOfSubject, RefusesSubject, ids_in}
 use Rattle.plan_cli.specs.NamesRun.{AreNamesOf, TellsNotPlain}
 use Rattle.plan_cli.specs.ProveRun.{IsProofTableOf, TellsWhyNoProof}
 use Rattle.plan_documents.specs.declared.documents.Plan.{Plan}
@@ -318,12 +319,29 @@ refuses_shop_front instance IsLine file line (inr (doc, says, tells)) = inr (doc
 
 -- the text for the project or the job shop in the front of a file is that for the file
 pub of_subject_front : (subject : Subject) (IsText : Plan → List ℕ → Type 0) → HoldsByFront (IsOfSubject subject IsText)
-of_subject_front (subject.Project given) IsText =
-    of_project_front given.now (λ i text. NeedsFit (problem_of i) × IsText (plan.Project i) text)
-of_subject_front (subject.Shop instance) IsText = of_shop_front instance.now (λ s. IsText (plan.Shop s))
+of_subject_front (subject.Project given) IsText file text (p, says, shown) =
+    subst (λ (bytes : List ℕ). IsOfSubject (subject.Project given) IsText bytes text)
+    (whole_front file (project_short (take (longest_text + 1) file) p says)) (p, says, shown)
+of_subject_front (subject.Shop instance) IsText file text is = of_shop_front instance.now (λ s. IsText (plan.Shop s)) file text is
 
 -- the line that refuses the front of a file is that for the file
 pub refuses_subject_front : (subject : Subject) (IsLine : Plan → List ℕ → Type 0) → HoldsByFront (RefusesSubject subject IsLine)
-refuses_subject_front (subject.Project given) IsLine =
-    refuses_file_front given.now (λ i line. TellsNeed i line ⊎ (NeedsFit (problem_of i) × IsLine (plan.Project i) line))
-refuses_subject_front (subject.Shop instance) IsLine = refuses_shop_front instance.now (λ s. IsLine (plan.Shop s))
+refuses_subject_front (subject.Project given) IsLine file line (inl first) = inl (line_front file line first)
+refuses_subject_front (subject.Project given) IsLine file line (inr (p, says, tells)) =
+    subst (λ (bytes : List ℕ). RefusesSubject (subject.Project given) IsLine bytes line)
+    (whole_front file (project_short (take (longest_text + 1) file) p says)) (inr (p, says, tells))
+refuses_subject_front (subject.Shop instance) IsLine file line tells = refuses_shop_front instance.now (λ s. IsLine (plan.Shop s)) file line tells
+
+-- the same for the slacks of a project, which its ids decide
+pub of_ids_front : (given : List Capacity) (IsText : List Name → Planned → List ℕ → Type 0)
+    → HoldsByFront (λ file. IsOfProject given (IsText (ids_in file)) file)
+of_ids_front given IsText file text (p, says, shown) =
+    subst (λ (bytes : List ℕ). IsOfProject given (IsText (ids_in bytes)) bytes text)
+    (whole_front file (project_short (take (longest_text + 1) file) p says)) (p, says, shown)
+
+pub refuses_ids_front : (given : List Capacity) (IsLine : List Name → Planned → List ℕ → Type 0)
+    → HoldsByFront (λ file. RefusesFile given (IsLine (ids_in file)) file)
+refuses_ids_front given IsLine file line (inl first) = inl (line_front file line first)
+refuses_ids_front given IsLine file line (inr (p, says, tells)) =
+    subst (λ (bytes : List ℕ). RefusesFile given (IsLine (ids_in bytes)) bytes line)
+    (whole_front file (project_short (take (longest_text + 1) file) p says)) (inr (p, says, tells))

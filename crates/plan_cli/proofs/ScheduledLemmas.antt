@@ -1,5 +1,5 @@
 -- Schedules by a rule are within the limits of texts.
-use Rattle.std.proofs.Common.{◌≡◌, ℕ, ◌+◌, ◌≤◌, ◌<◌, List, get_or, sym, ◌∙◌, subst, arith}
+use Rattle.std.proofs.Common.{◌≡◌, ℕ, ◌+◌, ◌≤◌, ◌<◌, List, get_or, sym, ◌∙◌, subst, arith, []}
 use Rattle.std.specs.Prelude.{All}
 use Rattle.plan_sgs.specs.Problem.{IsActive, count, duration, makespan}
 use Rattle.plan_sgs.specs.Instances.{Planned, problem_of}
@@ -35,7 +35,7 @@ fits_early i s active ends is = record {
 -- the schedule of an instance by a rule can be shown
 pub shown_by : (i : Planned) (s : Schedule) → IsActive (problem_of i) s.starts.items
     → AllEndBy (problem_of i) s.starts.items placing.latest_end
-    → s.makespan ≡ makespan (problem_of i) s.starts.items → IsShowable (plan.Project i) s
+    → s.makespan ≡ makespan (problem_of i) s.starts.items → IsShowable (plan.Project i []) s
 shown_by i s active ends is = record { makespan = is; fits = fits_early i s active ends is }
 
 -- the duration of a step is within the limit of files

@@ -1,54 +1,77 @@
 -- The slacks of the starts in a text.
-use Rattle.std.proofs.Common.{◌≡◌, inr, ℕ, List, Result, Ok, Err, subst}
+use Rattle.std.proofs.Common.{◌≡◌, inr, ℕ, List, Result, Ok, Err, sym, subst}
 use Rattle.std.specs.Prelude.{IfErr}
 use Rattle.plan_net.specs.Network.{Net}
 use Rattle.plan_sgs.specs.Problem.{NeedsFit}
-use Rattle.plan_sgs.specs.Instances.{Planned, problem_of}
+use Rattle.plan_sgs.specs.Instances.{Planned, planned, problem_of}
 use Rattle.plan_report.specs.Slack.{RefusesSlack}
-use Rattle.plan_report.specs.StartsText.{SaysStarts, activity_sheet}
+use Rattle.plan_report.specs.IdSheets.{id_sheet}
+use Rattle.plan_report.specs.StartsText.{SaysStarts}
 use Rattle.plan_report.specs.declared.slack.SlackFault.{SlackFault}
 use Rattle.plan_errors.specs.declared.fault.CliFault.{CliFault}
 use Rattle.plan_errors.specs.Output.{Refuses}
 use Rattle.plan_psplib.specs.Project.{Project, SaysProject}
 use Rattle.plan_table.specs.Names.{Name}
+use Rattle.plan_documents.specs.Capacities.{Replaces}
 use Rattle.plan_documents.specs.Plans.{RefusesFile, RefusesWith, resources_in}
 use Rattle.plan_documents.specs.declared.capacities.Capacity.{Capacity}
 use Rattle.plan_cli.specs.SlackRun.{TellsBadStarts, TellsSlackFault, TellsBadSlack, TellsNoSlack}
 use Rattle.plan_documents.specs.Starts.{TellsNoStarts}
 use Rattle.plan_documents.proofs.ErrorLemmas.{refuses_as}
 
--- the text of the starts is refused, for the network of an instance
-pub bad_starts : (listed : List ℕ) (i : Planned) (net : Net) (e : CliFault) → NeedsFit (problem_of i)
-    → net ≡ i.project.network
-    → Refuses (TellsNoStarts (activity_sheet net) listed) e → Refuses (TellsBadStarts listed i) e
-bad_starts listed i net e fit same t =
-    refuses_as (TellsNoStarts (activity_sheet net) listed) (TellsBadStarts listed i) e
-    (λ line tells. (fit, subst (λ (n : Net). TellsNoStarts (activity_sheet n) listed line) same tells)) t
+-- the text of the starts is refused, for the network of an instance and the ids in its file
+pub bad_starts : (ids names : List Name) (listed : List ℕ) (i : Planned) (net : Net) (e : CliFault) → NeedsFit (problem_of i)
+    → net ≡ i.project.network → ids ≡ names
+    → Refuses (TellsNoStarts (id_sheet ids net) listed) e → Refuses (TellsBadStarts names listed i) e
+bad_starts ids names listed i net e fit same are t =
+    refuses_as (TellsNoStarts (id_sheet ids net) listed) (TellsBadStarts names listed i) e
+    (λ line tells. (
+      fit,
+      subst (λ (ns : List Name). TellsNoStarts (id_sheet ns i.project.network) listed line) are
+          (subst (λ (n : Net). TellsNoStarts (id_sheet ids n) listed line) same tells),
+    )) t
 
--- the starts of a network in a text are those of an instance with that network
-pub said_of : (listed starts : List ℕ) (i : Planned) (net : Net) → net ≡ i.project.network
-    → SaysStarts (activity_sheet net) listed starts → SaysStarts (activity_sheet i.project.network) listed starts
-said_of listed starts i net same said = subst (λ (n : Net). SaysStarts (activity_sheet n) listed starts) same said
+-- the starts of a network in a text are those of an instance with that network and these ids
+pub said_of : (ids names : List Name) (listed starts : List ℕ) (i : Planned) (net : Net) → net ≡ i.project.network → ids ≡ names
+    → SaysStarts (id_sheet ids net) listed starts → SaysStarts (id_sheet names i.project.network) listed starts
+said_of ids names listed starts i net same are said =
+    subst (λ (ns : List Name). SaysStarts (id_sheet ns i.project.network) listed starts) are
+    (subst (λ (n : Net). SaysStarts (id_sheet ids n) listed starts) same said)
 
-pub slack_refused : (listed : List ℕ) (i : Planned) (net : Net) (starts : List ℕ) (first : SlackFault) (e : CliFault)
-    → net ≡ i.project.network → SaysStarts (activity_sheet net) listed starts → RefusesSlack (problem_of i) starts first
-    → Refuses (TellsSlackFault first) e → Refuses (TellsBadSlack listed i) e
-slack_refused listed i net starts first e same said refused t =
-    refuses_as (TellsSlackFault first) (TellsBadSlack listed i) e
-    (λ line tells. inr (starts, said_of listed starts i net same said, (first, refused, tells))) t
+pub slack_refused : (ids names : List Name) (listed : List ℕ) (i : Planned) (net : Net) (starts : List ℕ) (first : SlackFault) (e : CliFault)
+    → net ≡ i.project.network → ids ≡ names → SaysStarts (id_sheet ids net) listed starts → RefusesSlack (problem_of i) starts first
+    → Refuses (TellsSlackFault first) e → Refuses (TellsBadSlack names listed i) e
+slack_refused ids names listed i net starts first e same are said refused t =
+    refuses_as (TellsSlackFault first) (TellsBadSlack names listed i) e
+    (λ line tells. inr (starts, said_of ids names listed starts i net same are said, (first, refused, tells))) t
 
 -- if no need is above its capacity, the starts are refused
-pub no_slack : {A : Type 0} (listed : List ℕ) (i made : Planned) (r : Result A CliFault) → made ≡ i
-    → IfErr r (Refuses (TellsBadSlack listed made)) → IfErr r (Refuses (TellsNoSlack listed i))
-no_slack listed i made (Ok text) same t = tt
-no_slack listed i made (Err e) same t =
-    refuses_as (TellsBadSlack listed made) (TellsNoSlack listed i) e
-    (λ line tells. inr (subst (λ (p : Planned). TellsBadSlack listed p line) same tells)) t
+pub no_slack : {A : Type 0} (ids : List Name) (listed : List ℕ) (i made : Planned) (r : Result A CliFault) → made ≡ i
+    → IfErr r (Refuses (TellsBadSlack ids listed made)) → IfErr r (Refuses (TellsNoSlack ids listed i))
+no_slack ids listed i made (Ok text) same t = tt
+no_slack ids listed i made (Err e) same t =
+    refuses_as (TellsBadSlack ids listed made) (TellsNoSlack ids listed i) e
+    (λ line tells. inr (subst (λ (p : Planned). TellsBadSlack ids listed p line) same tells)) t
 
 -- an error of the project in a file with given capacities is an error of the file
-pub file_refused : (listed file : List ℕ) (names : List Name) (given : List Capacity) (p : Project) (e : CliFault)
-    → SaysProject file p → names ≡ resources_in file → Refuses (RefusesWith names given p (TellsNoSlack listed)) e
-    → Refuses (RefusesFile given (TellsNoSlack listed) file) e
-file_refused listed file names given p e says same t =
-    refuses_as (RefusesWith names given p (TellsNoSlack listed)) (RefusesFile given (TellsNoSlack listed) file) e
-    (λ line tells. inr (p, says, subst (λ (ns : List Name). RefusesWith ns given p (TellsNoSlack listed) line) same tells)) t
+pub file_refused : (ids : List Name) (listed file : List ℕ) (names : List Name) (given : List Capacity) (p : Project) (e : CliFault)
+    → SaysProject file p → names ≡ resources_in file → Refuses (RefusesWith names given p (TellsNoSlack ids listed)) e
+    → Refuses (RefusesFile given (TellsNoSlack ids listed) file) e
+file_refused ids listed file names given p e says same t =
+    refuses_as (RefusesWith names given p (TellsNoSlack ids listed)) (RefusesFile given (TellsNoSlack ids listed) file) e
+    (λ line tells. inr (p, says, subst (λ (ns : List Name). RefusesWith ns given p (TellsNoSlack ids listed) line) same tells)) t
+
+-- an error of the project with these capacities is one with the given capacities
+pub with_refused : {A : Type 0} (ids : List Name) (listed : List ℕ) (names : List Name) (given : List Capacity) (p : Project)
+    (list capacities made : List ℕ) (r : Result A CliFault)
+    → list ≡ p.available → Replaces names given list capacities → made ≡ capacities
+    → IfErr r (Refuses (TellsNoSlack ids listed (planned p made)))
+    → IfErr r (Refuses (RefusesWith names given p (TellsNoSlack ids listed)))
+with_refused ids listed names given p list capacities made (Ok x) same replaced is told = tt
+with_refused ids listed names given p list capacities made (Err e) same replaced is told =
+    refuses_as (TellsNoSlack ids listed (planned p made)) (RefusesWith names given p (TellsNoSlack ids listed)) e
+    (λ line tells. inr (
+      made,
+      subst (λ (l : List ℕ). Replaces names given l made) same (subst (λ (c : List ℕ). Replaces names given list c) (sym is) replaced),
+      tells,
+    )) told

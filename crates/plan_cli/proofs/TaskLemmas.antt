@@ -47,7 +47,7 @@ use Rattle.plan_cli.specs.declared.tasks.Task.TheVariants as task
 use Rattle.plan_cli.specs.TaskViews.{IsViewOf}
 use Rattle.plan_cli.specs.Views.{View, plain_text}
 use Rattle.plan_cli.proofs.ViewTextLemmas.{view_text}
-use Rattle.plan_cli.proofs.RunLemmas.{HoldsByFront, of_subject_front, refuses_subject_front, of_project_front, refuses_file_front, names_front, not_plain_front, proof_front, no_proof_front, table_front, line_front, project_short, plain_short, whole_front}
+use Rattle.plan_cli.proofs.RunLemmas.{HoldsByFront, of_subject_front, refuses_subject_front, of_project_front, refuses_file_front, of_ids_front, refuses_ids_front, names_front, not_plain_front, proof_front, no_proof_front, table_front, line_front, project_short, plain_short, whole_front}
 
 -- a plan file isn't too long
 plan_short : (text : List ℕ) → IsPlanFile text → length text ≤ longest_text
@@ -265,7 +265,7 @@ task_front (task.Chart from subject) = of_subject_front subject (IsChartFrom fro
 task_front (task.Days from dates subject) = of_subject_front subject (IsDaysFrom from dates)
 task_front task.Names = names_front
 task_front (task.Check starts subject) = of_subject_front subject (TellsVerdictOn starts.now)
-task_front (task.Slack starts given) = of_project_front given.now (IsSlackOf starts.now)
+task_front (task.Slack starts given) = of_ids_front given.now (λ ids. IsSlackOf ids starts.now)
 task_front (task.Compare starts subject) = of_subject_front subject (IsCompared starts.a.now starts.b.now)
 task_front (task.Best budget subject) = of_subject_front subject (IsBestOf budget.now)
 task_front (task.Prove nodes instance) = proof_front nodes.now instance.now
@@ -280,7 +280,7 @@ task_line_front (task.Chart from subject) = refuses_subject_front subject (Tells
 task_line_front (task.Days from dates subject) = refuses_subject_front subject (TellsNoDaysFrom from dates)
 task_line_front task.Names = not_plain_front
 task_line_front (task.Check starts subject) = refuses_subject_front subject (TellsBadStarts starts.now)
-task_line_front (task.Slack starts given) = refuses_file_front given.now (TellsNoSlack starts.now)
+task_line_front (task.Slack starts given) = refuses_ids_front given.now (λ ids. TellsNoSlack ids starts.now)
 task_line_front (task.Compare starts subject) = refuses_subject_front subject (TellsNotCompared starts.a.now starts.b.now)
 task_line_front (task.Best budget subject) = refuses_subject_front subject (TellsNoBestOf budget.now)
 task_line_front (task.Prove nodes instance) = no_proof_front nodes.now instance.now

@@ -31,7 +31,8 @@ use Rattle.plan_cli.specs.ChartRun as charts
 use Rattle.plan_cli.specs.CheckRun.{TellsVerdictOn, sentence_of}
 use Rattle.plan_cli.specs.CompareRun.{Compares, IsCompared}
 use Rattle.plan_cli.specs.DaysRun.{IsDaysFrom, IsDaysTable, ShowsDays}
-use Rattle.plan_documents.specs.Documents.{IsOfSubject}
+use Rattle.plan_table.specs.Names.{Name}
+use Rattle.plan_documents.specs.Documents.{IsOfSubject, ids_in}
 use Rattle.plan_documents.specs.ImportRun.{IsImport, IsShopImport}
 use Rattle.plan_cli.specs.PlanRefs.{viewed}
 use Rattle.plan_cli.specs.ProofText.{IsBoundLine}
@@ -109,8 +110,8 @@ by_verdict listed p v is = (
   },
 )
 
-by_slack : (listed : List ℕ) (i : Planned) (v : View) → IsSlackViewOf listed i v → IsSlackOf listed i (plain_text v)
-by_slack listed i v is = (
+by_slack : (ids : List Name) (listed : List ℕ) (i : Planned) (v : View) → IsSlackViewOf ids listed i v → IsSlackOf ids listed i (plain_text v)
+by_slack ids listed i v is = (
   is.starts,
   is.said,
   subst (λ (bytes : List ℕ). IsSlackText i is.starts bytes) (sym (ap plain_text is.shown)) (slack_text i is.starts is.slacks is.are),
@@ -135,7 +136,7 @@ best_text p solved =
     ∙ ap (λ bytes. best.kind_line solved.kind solved.schedule.makespan ++ bytes) (schedule_text p solved.schedule.starts.items solved.schedule.makespan)
 
 by_budget : (argument : List ℕ) (p : Plan) (v : View) → IsBestViewOf argument p v → IsBestOf argument p (plain_text v)
-by_budget argument (plan.Project i) v (budget, spelled, is) = (
+by_budget argument (plan.Project i ids) v (budget, spelled, is) = (
   budget,
   spelled,
   record {
@@ -207,7 +208,7 @@ view_text (task.Chart from who) file v is = of_subject who (IsChartViewFrom from
 view_text (task.Days from dates who) file v is = of_subject who (IsDaysViewFrom from dates) (IsDaysFrom from dates) file v (λ p. by_dates from dates p v) is
 view_text task.Names file v (plain, shown) = (plain, ap plain_text shown ∙ lines_text_of (codes "name") (names_of file))
 view_text (task.Check starts who) file v is = of_subject who (IsVerdictView starts.now) (TellsVerdictOn starts.now) file v (λ p. by_verdict starts.now p v) is
-view_text (task.Slack starts given) file v (p, said, (capacities, replaced, is)) = (p, said, (capacities, replaced, by_slack starts.now _ v is))
+view_text (task.Slack starts given) file v (p, said, (capacities, replaced, is)) = (p, said, (capacities, replaced, by_slack (ids_in file) starts.now _ v is))
 view_text (task.Compare starts who) file v is =
     of_subject who (IsComparedView starts.a.now starts.b.now) (IsCompared starts.a.now starts.b.now) file v (λ p. by_pair starts.a.now starts.b.now p v) is
 view_text (task.Best budget who) file v is = of_subject who (IsBestViewOf budget.now) (IsBestOf budget.now) file v (λ p. by_budget budget.now p v) is

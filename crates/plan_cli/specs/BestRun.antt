@@ -36,10 +36,10 @@ TellsSolving first line = (first ≡ exact.NoMemory → ⊥) × (line ≡ exact_
 
 -- a text shows the best schedule of a plan within the budget that an argument spells
 abbrev pub IsBestOf : List ℕ → Plan → List ℕ → Type 0
-IsBestOf argument (plan.Project i) = IsBestProjectTextOf argument i
+IsBestOf argument (plan.Project i ids) = IsBestProjectTextOf argument i
 IsBestOf argument (plan.Shop s) = IsBestTextOf argument s
 
 -- a line reports the error of that search: the size of the plan, or else the argument
 abbrev pub TellsNoBestOf : List ℕ → Plan → List ℕ → Type 0
-TellsNoBestOf argument (plan.Project i) = TellsNoBestProject argument i
+TellsNoBestOf argument (plan.Project i ids) = TellsNoBestProject argument i
 TellsNoBestOf argument (plan.Shop s) = TellsBestRefusal argument s

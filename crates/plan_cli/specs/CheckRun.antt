@@ -16,7 +16,7 @@ use Rattle.plan_documents.specs.declared.documents.Plan.TheVariants as plan
 
 -- the sentence of a verdict on the starts of a plan
 abbrev pub sentence_of : Plan → Verdict → List ℕ
-sentence_of (plan.Project i) verdict = verdicts.sentence_of verdict
+sentence_of (plan.Project i ids) verdict = verdicts.sentence_of verdict
 sentence_of (plan.Shop s) verdict = verdicts.shop_sentence_of s verdict
 
 -- the first verdict on the starts in a text

@@ -5,5 +5,5 @@ use Rattle.plan_documents.specs.declared.documents.Plan.TheVariants as plan
 
 -- the project or the job shop of a plan
 abbrev pub viewed : Plan → views.Plan
-viewed (plan.Project i) = views.project i
+viewed (plan.Project i ids) = views.project i
 viewed (plan.Shop s) = views.shop s

@@ -1,7 +1,7 @@
 -- Schedules that texts can show (docs/definitions.md, "Runs").
 use Rattle.std.specs.Prelude.{◌≡◌, ◌⊎◌, ℕ, ◌≤◌, List, Option, Some, None, length, EachIndex}
 use Rattle.std.specs.Prelude.{slice_index}
-use Rattle.plan_sgs.specs.Problem.{IsActive, IsFeasible, IsShortest, makespan}
+use Rattle.plan_sgs.specs.Problem.{Problem, IsActive, IsFeasible, IsShortest, makespan}
 use Rattle.plan_sgs.specs.Instances.{Planned}
 use Rattle.plan_sgs.specs.Keys.{rule_text, RefusesWord}
 use Rattle.plan_sgs.specs.declared.rule.Rule.{Rule}
@@ -42,7 +42,7 @@ pub record IsShopScheduleBy (name : List ℕ) (s : JobShop) (starts : List ℕ) 
 
 -- the same for a plan
 abbrev pub IsByRule : List ℕ → Plan → List ℕ → Type 0
-IsByRule name (plan.Project i) = IsScheduleBy name i
+IsByRule name (plan.Project i ids) = IsScheduleBy name i
 IsByRule name (plan.Shop s) = IsShopScheduleBy name s
 
 -- the starts are those of a feasible list in a text
@@ -77,10 +77,14 @@ pub record CanBeShown (count : ℕ) (schedule : Schedule) : Type 0 where
       slice_index schedule.starts.items k ≤ latest_start)
   pub ends : schedule.makespan ≤ latest_end
 
--- a schedule of a plan that texts can show, with its makespan
-pub record IsShowable (p : Plan) (schedule : Schedule) : Type 0 where
-  pub makespan : schedule.makespan ≡ makespan (problem_of p) schedule.starts.items
-  pub fits : CanBeShown (count_of p) schedule
+-- a schedule of a problem that texts can show, with its makespan
+pub record IsShown (problem : Problem) (count : ℕ) (schedule : Schedule) : Type 0 where
+  pub makespan : schedule.makespan ≡ makespan problem schedule.starts.items
+  pub fits : CanBeShown count schedule
+
+-- the same of a plan
+abbrev pub IsShowable : Plan → Schedule → Type 0
+IsShowable p schedule = IsShown (problem_of p) (count_of p) schedule
 
 -- the schedule of a plan, with its makespan and the lower bound that is known
 pub record IsMadeFrom (from : Origin) (p : Plan) (made : Scheduled) : Type 0 where
@@ -90,7 +94,7 @@ pub record IsMadeFrom (from : Origin) (p : Plan) (made : Scheduled) : Type 0 whe
 
 -- a line reports that no rule has the name
 abbrev pub TellsNoRuleOf : List ℕ → Plan → List ℕ → Type 0
-TellsNoRuleOf name (plan.Project i) line =
+TellsNoRuleOf name (plan.Project i ids) line =
     (first : SgsFault) × RefusesWord name first × (line ≡ schedule_fault_text_of first)
 TellsNoRuleOf name (plan.Shop s) line = TellsNoRule name line
 

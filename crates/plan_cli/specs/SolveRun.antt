@@ -1,6 +1,6 @@
 -- The output of `plan solve` for the bytes that it reads (docs/definitions.md, "Runs").
 use Rattle.std.specs.Prelude.{◌≡◌, ◌≤◌, ℕ, List, ◌++◌}
-use Rattle.plan_sgs.specs.Problem.{IsActive, IsShortest, makespan}
+use Rattle.plan_sgs.specs.Problem.{Problem, IsActive, IsShortest, makespan}
 use Rattle.plan_solve.specs.Solutions.{IsLowerBound}
 use Rattle.plan_solve.specs.declared.solving.Solved.{Solved}
 use Rattle.plan_documents.specs.Documents.{problem_of, count_of}
@@ -9,16 +9,20 @@ use Rattle.plan_cli.specs.Scheduled.{CanBeShown}
 use Rattle.plan_cli.specs.Tables.{table_of}
 use Rattle.plan_documents.specs.declared.documents.Plan.{Plan}
 
--- An active schedule of a plan that texts can show, with its makespan, and a lower bound of the
+-- An active schedule of a problem that texts can show, with its makespan, and a lower bound of the
 -- makespans of all feasible ones. If they meet, the schedule is a shortest one.
-pub record IsSolution (p : Plan) (solved : Solved) : Type 0 where
-  pub active : IsActive (problem_of p) solved.schedule.starts.items
-  pub makespan : solved.schedule.makespan ≡ makespan (problem_of p) solved.schedule.starts.items
-  pub bound : IsLowerBound (problem_of p) solved.lower
+pub record Solves (problem : Problem) (count : ℕ) (solved : Solved) : Type 0 where
+  pub active : IsActive problem solved.schedule.starts.items
+  pub makespan : solved.schedule.makespan ≡ makespan problem solved.schedule.starts.items
+  pub bound : IsLowerBound problem solved.lower
   pub below : solved.lower ≤ solved.schedule.makespan
   pub shortest : solved.lower ≡ solved.schedule.makespan →
-      IsShortest (problem_of p) solved.schedule.starts.items
-  pub fits : CanBeShown (count_of p) solved.schedule
+      IsShortest problem solved.schedule.starts.items
+  pub fits : CanBeShown count solved.schedule
+
+-- the same of a plan
+abbrev pub IsSolution : Plan → Solved → Type 0
+IsSolution p solved = Solves (problem_of p) (count_of p) solved
 
 -- a text is the line with a lower bound and a makespan, and then the table of a schedule
 abbrev pub ShowsSolution : Plan → ℕ → List ℕ → ℕ → List ℕ → Type 0

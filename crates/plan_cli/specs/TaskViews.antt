@@ -25,7 +25,9 @@ use Rattle.plan_solve.specs.Solutions.{IsLowerBound}
 use Rattle.plan_prove.specs.Proofs as proofs
 use Rattle.plan_prove.specs.Nodes.{IsNodesText}
 use Rattle.plan_prove.specs.declared.proof.Proof.{Proof}
-use Rattle.plan_report.specs.StartsText.{SaysStarts, activity_sheet}
+use Rattle.plan_report.specs.IdSheets.{id_sheet}
+use Rattle.plan_report.specs.StartsText.{SaysStarts}
+use Rattle.plan_table.specs.Names.{Name}
 use Rattle.plan_formats.specs.Tables.{Table}
 use Rattle.plan_views.specs.Bounds.{best_view_of, bound_line_of, with_line_of}
 use Rattle.plan_views.specs.Charts.{Chart, chart_view_of}
@@ -38,7 +40,7 @@ use Rattle.plan_views.specs.ScheduleTables.{schedule_view_of}
 use Rattle.plan_views.specs.SlackTables.{IsSlackView}
 use Rattle.plan_cli.specs.Calendars.{IsDated}
 use Rattle.plan_cli.specs.CompareRun.{SayPair}
-use Rattle.plan_documents.specs.Documents.{IsOfSubject, problem_of, sheet_of}
+use Rattle.plan_documents.specs.Documents.{IsOfSubject, ids_in, problem_of, sheet_of}
 use Rattle.plan_cli.specs.CheckRun.{sentence_of}
 use Rattle.plan_documents.specs.ImportRun.{IsImport, IsShopImport}
 use Rattle.plan_cli.specs.PlanRefs.{viewed}
@@ -101,10 +103,10 @@ pub record IsVerdictView (listed : List ℕ) (p : Plan) (view : View) : Type 0 w
   pub first : IsFirstVerdict (problem_of p) starts verdict
   pub shown : view ≡ table (verdict_view_of (sentence_of p verdict))
 
--- the slacks of the schedule with the starts in a text
-pub record IsSlackViewOf (listed : List ℕ) (i : Planned) (view : View) : Type 0 where
+-- the slacks of the schedule with the starts in a text, for a project with ids
+pub record IsSlackViewOf (ids : List Name) (listed : List ℕ) (i : Planned) (view : View) : Type 0 where
   pub starts : List ℕ
-  pub said : SaysStarts (activity_sheet i.project.network) listed starts
+  pub said : SaysStarts (id_sheet ids i.project.network) listed starts
   pub slacks : Table
   pub are : IsSlackView i starts slacks
   pub shown : view ≡ table slacks
@@ -143,7 +145,7 @@ pub record IsBestShopViewBy (budget : ℕ) (s : JobShop) (view : View) : Type 0 
 
 -- the best schedule of a plan, if an argument is the budget
 abbrev pub IsBestViewOf : List ℕ → Plan → View → Type 0
-IsBestViewOf argument (plan.Project i) view =
+IsBestViewOf argument (plan.Project i ids) view =
     (budget : ℕ) × IsBudgetText argument budget × IsBestProjectViewBy budget i view
 IsBestViewOf argument (plan.Shop s) view =
     (budget : ℕ) × IsBudgetText argument budget × IsBestShopViewBy budget s view
@@ -206,7 +208,7 @@ IsViewOf (task.Chart from subject) = IsOfSubject subject (IsChartViewFrom from)
 IsViewOf (task.Days from dates subject) = IsOfSubject subject (IsDaysViewFrom from dates)
 IsViewOf task.Names = IsNameView
 IsViewOf (task.Check starts subject) = IsOfSubject subject (IsVerdictView starts.now)
-IsViewOf (task.Slack starts given) = IsOfProject given.now (IsSlackViewOf starts.now)
+IsViewOf (task.Slack starts given) = λ file. IsOfProject given.now (IsSlackViewOf (ids_in file) starts.now) file
 IsViewOf (task.Compare starts subject) =
     IsOfSubject subject (IsComparedView starts.a.now starts.b.now)
 IsViewOf (task.Best budget subject) = IsOfSubject subject (IsBestViewOf budget.now)

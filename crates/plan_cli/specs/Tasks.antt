@@ -48,7 +48,7 @@ IsTextOf (task.Chart from subject) = IsOfSubject subject (IsChartFrom from)
 IsTextOf (task.Days from dates subject) = IsOfSubject subject (IsDaysFrom from dates)
 IsTextOf task.Names = AreNamesOf
 IsTextOf (task.Check starts subject) = IsOfSubject subject (TellsVerdictOn starts.now)
-IsTextOf (task.Slack starts given) = IsOfProject given.now (IsSlackOf starts.now)
+IsTextOf (task.Slack starts given) = λ file. IsOfProject given.now (IsSlackOf (ids_in file) starts.now) file
 IsTextOf (task.Compare starts subject) =
     IsOfSubject subject (IsCompared starts.a.now starts.b.now)
 IsTextOf (task.Best budget subject) = IsOfSubject subject (IsBestOf budget.now)
@@ -65,7 +65,7 @@ IsLineOf (task.Chart from subject) = RefusesSubject subject (TellsNotMade from)
 IsLineOf (task.Days from dates subject) = RefusesSubject subject (TellsNoDaysFrom from dates)
 IsLineOf task.Names = TellsNotPlain
 IsLineOf (task.Check starts subject) = RefusesSubject subject (TellsBadStarts starts.now)
-IsLineOf (task.Slack starts given) = RefusesFile given.now (TellsNoSlack starts.now)
+IsLineOf (task.Slack starts given) = λ file. RefusesFile given.now (TellsNoSlack (ids_in file) starts.now) file
 IsLineOf (task.Compare starts subject) =
     RefusesSubject subject (TellsNotCompared starts.a.now starts.b.now)
 IsLineOf (task.Best budget subject) = RefusesSubject subject (TellsNoBestOf budget.now)

@@ -15,7 +15,7 @@ pub(crate) fn plan_ref<'p>(plan: &'p Plan<'p>) -> PlanRef<'p>
     ensures problem { views.problem_of (views.plan_of result) ≡ problem_of plan.now }
 {
     match plan {
-        Plan::Project(instance) => PlanRef::Project(instance),
+        Plan::Project(instance, _) => PlanRef::Project(instance),
         Plan::Shop(shop) => PlanRef::Shop(shop),
     }
 }

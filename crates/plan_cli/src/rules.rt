@@ -1,6 +1,6 @@
 //! The schedules of projects and job shops by a priority rule.
 
-ghost use Rattle.std.specs.Prelude.{◌≡◌, IfOk, IfErr};
+ghost use Rattle.std.specs.Prelude.{◌≡◌, IfOk, IfErr, []};
 ghost use Rattle.plan_sgs.specs.Problem.{IsActive};
 ghost use Rattle.plan_shop.specs.Shop.{problem_of};
 ghost use Rattle.plan_gantt.specs.ScheduleText.{IsSchedule};
@@ -17,7 +17,7 @@ use std::alloc::Global;
 // Returns the schedule of an instance by a rule.
 fn schedule_by_rule(alloc: Global, instance: &Instance, rule: Rule) -> Result<Schedule, CliFault>
     ensures made { IfOk result (λ made. IsSchedule instance.now rule made.starts.items) }
-    ensures showable { IfOk result (IsShowable (Plan.Project instance.now)) }
+    ensures showable { IfOk result (IsShowable (Plan.Project instance.now [])) }
     ensures refused { IfErr result (λ e. e ≡ CliFault.Memory) }
 {
     serial(alloc, instance, rule).map_err(|_| CliFault::Memory)
@@ -30,8 +30,8 @@ pub(crate) fn project_schedule_by(
     instance: &Instance,
 ) -> Result<Schedule, CliFault>
     ensures starts { IfOk result (λ made. IsScheduleBy name.now instance.now made.starts.items) }
-    ensures showable { IfOk result (IsShowable (Plan.Project instance.now)) }
-    ensures refused { IfErr result (Refuses (TellsNoRuleOf name.now (Plan.Project instance.now))) }
+    ensures showable { IfOk result (IsShowable (Plan.Project instance.now [])) }
+    ensures refused { IfErr result (Refuses (TellsNoRuleOf name.now (Plan.Project instance.now []))) }
 {
     match Rule::parse(name) {
         Ok(rule) => schedule_by_rule(alloc, instance, rule),

@@ -35,7 +35,7 @@ pub(crate) fn schedule_by(alloc: Global, name: &str, plan: &Plan<'_>) -> Result<
     ensures refused { IfErr result (Refuses (spec.TellsNoRuleOf name.now plan.now)) }
 {
     match plan {
-        Plan::Project(instance) => project_schedule_by(alloc, name, instance),
+        Plan::Project(instance, _) => project_schedule_by(alloc, name, instance),
         Plan::Shop(shop) => shop_schedule_by(alloc, name, shop),
     }
 }
@@ -48,7 +48,7 @@ fn plan_makespan(plan: &Plan<'_>, starts: &[u64]) -> u64
     ensures ends { result ≤ latest_end }
 {
     match plan {
-        Plan::Project(instance) => makespan_of(instance, starts),
+        Plan::Project(instance, _) => makespan_of(instance, starts),
         Plan::Shop(shop) => shop_makespan_of(shop, starts),
     }
 }

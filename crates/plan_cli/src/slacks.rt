@@ -8,12 +8,13 @@ ghost use Rattle.plan_cli.specs.TaskViews.{IsSlackViewOf};
 ghost use Rattle.plan_cli.specs.Views.{IfView, view_of};
 ghost use Rattle.plan_documents.specs.Plans.{IsOfProject, PlannedWith, RefusesFile, RefusesWith};
 ghost use Rattle.plan_documents.specs.Details.{NamesVerdict};
+ghost use Rattle.plan_documents.specs.Documents.{ids_in};
 ghost use Rattle.plan_cli.specs.SlackRun as spec;
 
 use crate::views::View;
 use plan_documents::{
-    Capacity, Subject, infeasible_refusal, instance_with, read_project, read_starts, replaced,
-    with_names,
+    Capacity, Subject, ids_of, infeasible_refusal, instance_with, read_project, read_starts,
+    replaced, with_names,
 };
 use plan_errors::{About, CliFault, Code, refuse_words};
 use plan_psplib::ProjectDoc;
@@ -34,12 +35,18 @@ fn slack_refusal(alloc: Global, fault: SlackFault) -> CliFault
     }
 }
 
-// Returns the table of slacks for the starts in a text, for an instance.
-fn instance_slacks(alloc: Global, listed: &[u8], instance: &Instance) -> Result<View, CliFault>
-    ensures made { IfView result (IsSlackViewOf listed.now instance.now) }
-    ensures refused { IfErr result (Refuses (spec.TellsBadSlack listed.now instance.now)) }
+// Returns the table of slacks for the starts in a text, for an instance with the ids in a file.
+fn instance_slacks(
+    alloc: Global,
+    listed: &[u8],
+    instance: &Instance,
+    file: &[u8],
+) -> Result<View, CliFault>
+    ensures made { IfView result (IsSlackViewOf (ids_in file.now) listed.now instance.now) }
+    ensures refused { IfErr result (Refuses (spec.TellsBadSlack (ids_in file.now) listed.now instance.now)) }
 {
-    let starts = read_starts(alloc, instance.network(), listed)?;
+    let ids = ids_of(alloc, file)?;
+    let starts = read_starts(alloc, instance.network(), &ids, listed)?;
     match slack_view(alloc, instance, &starts) {
         Ok(table) => Ok(View::Table(table)),
         Err(fault) => Err(slack_refusal(alloc, fault)),
@@ -56,11 +63,11 @@ fn named_slacks(
     subject: Subject<'_>,
     file: &[u8],
 ) -> Result<View, CliFault>
-    ensures made { IfView result (IsSlackViewOf listed.now instance.now) }
-    ensures refused { IfErr result (Refuses (spec.TellsBadSlack listed.now instance.now)) }
+    ensures made { IfView result (IsSlackViewOf (ids_in file.now) listed.now instance.now) }
+    ensures refused { IfErr result (Refuses (spec.TellsBadSlack (ids_in file.now) listed.now instance.now)) }
     ensures names { IfErr result (NamesVerdict subject.entry file.now) }
 {
-    match instance_slacks(alloc, listed, instance) {
+    match instance_slacks(alloc, listed, instance, file) {
         Ok(view) => Ok(view),
         Err(fault) => Err(with_names(alloc, subject, file, fault)),
     }
@@ -76,9 +83,9 @@ fn planned_slacks(
 ) -> Result<View, CliFault>
     requires { length capacities.now ≡ length project.now.available }
     ensures made { IfView result
-        (IsSlackViewOf listed.now (planned project.now capacities.now)) }
+        (IsSlackViewOf (ids_in file.now) listed.now (planned project.now capacities.now)) }
     ensures refused { IfErr result (Refuses
-        (spec.TellsNoSlack listed.now (planned project.now capacities.now))) }
+        (spec.TellsNoSlack (ids_in file.now) listed.now (planned project.now capacities.now))) }
 {
     let instance = instance_with(alloc, project, capacities, file)?;
     named_slacks(alloc, listed, &instance, Subject::Project(&[]), file)
@@ -94,10 +101,10 @@ fn project_slacks(
     file: &[u8],
 ) -> Result<View, CliFault>
     ensures made { IfView result (λ view. PlannedWith (map name_of names.now) given.now project.now
-        (λ i. IsSlackViewOf listed.now i view)) }
+        (λ i. IsSlackViewOf (ids_in file.now) listed.now i view)) }
     ensures refused { IfErr result (Refuses
         (RefusesWith (map name_of names.now) given.now project.now
-        (spec.TellsNoSlack listed.now))) }
+        (spec.TellsNoSlack (ids_in file.now) listed.now))) }
 {
     let capacities = replaced(alloc, names, given, project.avail())?;
     planned_slacks(alloc, listed, project, &capacities, file)
@@ -111,9 +118,9 @@ pub(crate) fn slacks_of(
     given: &[Capacity<'_>],
     file: &[u8],
 ) -> Result<View, CliFault>
-    ensures made { IfView result (IsOfProject given.now (IsSlackViewOf listed.now) file.now) }
+    ensures made { IfView result (IsOfProject given.now (IsSlackViewOf (ids_in file.now) listed.now) file.now) }
     ensures refused { IfErr result (Refuses
-        (RefusesFile given.now (spec.TellsNoSlack listed.now) file.now)) }
+        (RefusesFile given.now (spec.TellsNoSlack (ids_in file.now) listed.now) file.now)) }
 {
     let project = read_project(alloc, file)?;
     let names = resource_names(alloc, file)?;

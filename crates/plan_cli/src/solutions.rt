@@ -1,6 +1,6 @@
 //! `plan best` and `plan best-project`: the best schedules that a search within a budget finds.
 
-ghost use Rattle.std.specs.Prelude.{IfErr};
+ghost use Rattle.std.specs.Prelude.{IfErr, []};
 ghost use Rattle.plan_exact.specs.Budgets.{IsBudgetText};
 ghost use Rattle.plan_gantt.specs.ShopBestText.{TellsBestRefusal};
 ghost use Rattle.plan_gantt.specs.ProjectBestText.{TellsNoBestProject};
@@ -63,7 +63,7 @@ fn solved_project(alloc: Global, budget: u64, instance: &Instance) -> Result<Vie
 // Returns the same within the budget that an argument spells. An argument that isn't a budget is
 // handled like 0, so the project's size is tested first.
 fn best_of_project(alloc: Global, budget: &str, instance: &Instance) -> Result<View, CliFault>
-    ensures made { IfView result (spec.IsBestViewOf budget.now (Plan.Project instance.now)) }
+    ensures made { IfView result (spec.IsBestViewOf budget.now (Plan.Project instance.now [])) }
     ensures refused { IfErr result (Refuses (TellsNoBestProject budget.now instance.now)) }
 {
     let budget = parse_budget(budget).unwrap_or(0);
@@ -76,7 +76,7 @@ pub(crate) fn best_of(alloc: Global, budget: &str, plan: &Plan<'_>) -> Result<Vi
     ensures refused { IfErr result (Refuses (TellsNoBestOf budget.now plan.now)) }
 {
     match plan {
-        Plan::Project(instance) => best_of_project(alloc, budget, instance),
+        Plan::Project(instance, _) => best_of_project(alloc, budget, instance),
         Plan::Shop(shop) => best_of_shop(alloc, budget, shop),
     }
 }

@@ -1,6 +1,6 @@
 //! `plan solve`: a schedule of a project or a job shop and a lower bound of its least makespan.
 
-ghost use Rattle.std.specs.Prelude.{◌≡◌, IfOk, IfErr};
+ghost use Rattle.std.specs.Prelude.{◌≡◌, IfOk, IfErr, []};
 ghost use Rattle.plan_solve.specs.Solutions.{IsConflictLimit};
 ghost use Rattle.plan_errors.specs.Output.{Refuses};
 ghost use Rattle.plan_formats.specs.Tables.{table_of};
@@ -30,7 +30,7 @@ fn solved_project<V: SolveWatcher, L: Log>(
     log: &mut L,
 ) -> Result<Solved, AllocError>
     requires { IsConflictLimit conflicts }
-    ensures { IfOk result (spec.IsSolution (Plan.Project instance.now)) }
+    ensures { IfOk result (spec.IsSolution (Plan.Project instance.now [])) }
 {
     match solve_logged(alloc, instance, conflicts, watcher, log) {
         Ok(solved) => Ok(solved),
@@ -80,7 +80,7 @@ pub(crate) fn solution_of<V: ProofWatcher + SolveWatcher, L: Log>(
     ensures { IfOk result (spec.IsSolution plan.now) }
 {
     match plan {
-        Plan::Project(instance) => {
+        Plan::Project(instance, _) => {
             solved_project(alloc, allowed(conflicts), instance, watcher, log)
         }
         Plan::Shop(shop) => solved_shop(alloc, allowed(conflicts), shop, watcher, log),

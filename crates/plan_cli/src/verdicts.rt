@@ -28,7 +28,7 @@ fn plan_infeasible(alloc: Global, plan: &Plan<'_>, verdict: Verdict) -> CliFault
         (λ line. line ≡ infeasible_line (spec.sentence_of plan.now verdict)) result }
 {
     match plan {
-        Plan::Project(_) => infeasible_refusal(alloc, verdict),
+        Plan::Project(_, _) => infeasible_refusal(alloc, verdict),
         Plan::Shop(shop) => shop_infeasible_refusal(alloc, shop, verdict),
     }
 }
@@ -39,7 +39,7 @@ fn push_verdict(text: &mut String, plan: &Plan<'_>, verdict: Verdict) -> Result<
         ≡ string_bytes text.old ++ spec.sentence_of plan.now verdict) }
 {
     match plan {
-        Plan::Project(_) => push_sentence(text, verdict),
+        Plan::Project(_, _) => push_sentence(text, verdict),
         Plan::Shop(shop) => push_shop_sentence(text, shop, verdict),
     }
 }
@@ -61,7 +61,9 @@ fn first_verdict(alloc: Global, plan: &Plan<'_>, starts: &[u64]) -> Result<Verdi
     ensures refused { IfErr result (λ e. e ≡ CliFault.Memory) }
 {
     match plan {
-        Plan::Project(instance) => { check(alloc, instance, starts).map_err(|_| CliFault::Memory) }
+        Plan::Project(instance, _) => {
+            check(alloc, instance, starts).map_err(|_| CliFault::Memory)
+        }
         Plan::Shop(shop) => Ok(plan_shop::check(shop, starts)),
     }
 }

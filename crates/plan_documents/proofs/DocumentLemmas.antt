@@ -2,7 +2,7 @@
 use Rattle.std.proofs.Common.{◌≡◌, ◌⊎◌, inl, inr, ℕ, List, sym, subst}
 use Rattle.plan_errors.specs.declared.fault.CliFault.{CliFault}
 use Rattle.plan_errors.specs.Output.{Refuses}
-use Rattle.plan_documents.specs.Documents.{IsDocumentOf, TellsNoDocument, plan_in, HasFit, TellsNoPlan, IsOfSubject, RefusesSubject}
+use Rattle.plan_documents.specs.Documents.{IsDocumentOf, TellsNoDocument, plan_in, ids_in, HasFit, TellsNoPlan, IsOfSubject, RefusesSubject}
 use Rattle.plan_documents.specs.declared.documents.Subject.{Subject}
 use Rattle.plan_documents.specs.declared.documents.Subject.TheVariants as subject
 use Rattle.plan_documents.specs.declared.documents.Document.{Document}
@@ -17,7 +17,7 @@ use denote.Ref.{Bor}
 use Rattle.plan_documents.proofs.ErrorLemmas.{refuses_as}
 
 of_document : {X : Type 0} (s : Subject) (file : List ℕ) (d : Document) (IsText : Plan → X → Type 0) (text : X)
-    → IsDocumentOf s file d → HasFit (plan_in d) → IsText (plan_in d) text → IsOfSubject s IsText file text
+    → IsDocumentOf s file d → HasFit (plan_in d (ids_in file)) → IsText (plan_in d (ids_in file)) text → IsOfSubject s IsText file text
 of_document (subject.Project given) file (document.Project p capacities) IsText text is fit made = (p, is.0, (capacities.items, is.1, (fit, made)))
 of_document (subject.Project given) file (document.Shop doc) IsText text is fit made = absurd is
 of_document (subject.Shop instance) file (document.Project p capacities) IsText text is fit made = absurd is
@@ -25,7 +25,7 @@ of_document (subject.Shop instance) file (document.Shop doc) IsText text is fit 
 
 -- a text or a value for the plan of a document is one for the file of the document
 pub of_subject : {X : Type 0} (s : Subject) (file : List ℕ) (d : Document) (p : Plan) (IsText : Plan → X → Type 0) (text : X)
-    → IsDocumentOf s file d → p ≡ plan_in d → HasFit p → IsText p text → IsOfSubject s IsText file text
+    → IsDocumentOf s file d → p ≡ plan_in d (ids_in file) → HasFit p → IsText p text → IsOfSubject s IsText file text
 of_subject s file d p IsText text is same fit made =
     of_document s file d IsText text is (subst HasFit same fit) (subst (λ (q : Plan). IsText q text) same made)
 
@@ -68,7 +68,7 @@ no_plan s file d IsLine e is t =
     refuses_as (TellsNoPlan d) (RefusesSubject s IsLine file) e (λ line tells. no_plan_line s file d IsLine line is tells) t
 
 refused_line : (s : Subject) (file : List ℕ) (d : Document) (IsLine : Plan → List ℕ → Type 0) (line : List ℕ)
-    → IsDocumentOf s file d → HasFit (plan_in d) → IsLine (plan_in d) line → RefusesSubject s IsLine file line
+    → IsDocumentOf s file d → HasFit (plan_in d (ids_in file)) → IsLine (plan_in d (ids_in file)) line → RefusesSubject s IsLine file line
 refused_line (subject.Project given) file (document.Project p capacities) IsLine line is fit tells = inr (p, is.0, inr (capacities.items, is.1, inr (fit, tells)))
 refused_line (subject.Project given) file (document.Shop doc) IsLine line is fit tells = absurd is
 refused_line (subject.Shop instance) file (document.Project p capacities) IsLine line is fit tells = absurd is
@@ -76,7 +76,7 @@ refused_line (subject.Shop instance) file (document.Shop doc) IsLine line is fit
 
 -- what refuses the plan of a document refuses the text for its file
 pub no_text : (s : Subject) (file : List ℕ) (d : Document) (p : Plan) (IsLine : Plan → List ℕ → Type 0) (e : CliFault)
-    → IsDocumentOf s file d → p ≡ plan_in d → HasFit p → Refuses (IsLine p) e → Refuses (RefusesSubject s IsLine file) e
+    → IsDocumentOf s file d → p ≡ plan_in d (ids_in file) → HasFit p → Refuses (IsLine p) e → Refuses (RefusesSubject s IsLine file) e
 no_text s file d p IsLine e is same fit t =
     refuses_as (IsLine p) (RefusesSubject s IsLine file) e
     (λ line tells. refused_line s file d IsLine line is (subst HasFit same fit) (subst (λ (q : Plan). IsLine q line) same tells)) t

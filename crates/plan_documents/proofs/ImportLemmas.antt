@@ -1,5 +1,5 @@
 -- Lists that are refused.
-use Rattle.std.proofs.Common.{◌≡◌, ℕ, List, Err}
+use Rattle.std.proofs.Common.{◌≡◌, ℕ, List, [], Err}
 use Rattle.plan_table.specs.declared.fault.TableFault.{TableFault}
 use Rattle.plan_table.specs.declared.fault.ReadError.TheVariants as errors
 use Rattle.plan_table.specs.Overrides.{Override}

@@ -12,7 +12,8 @@ use Rattle.plan_shop.specs.Shop as shops
 use Rattle.plan_shop.specs.Docs.{shop_of}
 use Rattle.plan_gantt.specs.FirstFaults.{TellsFirstFailing, TellsFirstShopFault}
 use Rattle.plan_report.specs.Sheet.{Sheet}
-use Rattle.plan_report.specs.StartsText.{activity_sheet, step_sheet}
+use Rattle.plan_report.specs.IdSheets.{id_sheet}
+use Rattle.plan_report.specs.StartsText.{step_sheet}
 use Rattle.plan_table.specs.Names.{Name, names_behind, activity_key, id_key}
 use Rattle.plan_table.specs.ShopNames.{instance_names, machine_key, order_key}
 use Rattle.plan_documents.specs.Capacities.{Replaces, TellsUnknown}
@@ -25,24 +26,28 @@ use Rattle.plan_documents.specs.declared.documents.Document.TheVariants as docum
 use Rattle.plan_documents.specs.declared.documents.Plan.{Plan}
 use Rattle.plan_documents.specs.declared.documents.Plan.TheVariants as plan
 
+-- the ids of the activities in a project file
+abbrev pub ids_in : List ℕ → List Name
+ids_in file = names_behind id_key file
+
 -- the scheduling problem of a plan
 abbrev pub problem_of : Plan → Problem
-problem_of (plan.Project i) = projects.problem_of i
+problem_of (plan.Project i ids) = projects.problem_of i
 problem_of (plan.Shop s) = shops.problem_of s
 
 -- the number of its activities or steps
 abbrev pub count_of : Plan → ℕ
-count_of (plan.Project i) = networks.count_of i.project.network
+count_of (plan.Project i ids) = networks.count_of i.project.network
 count_of (plan.Shop s) = count_steps s
 
--- the sheet of its starts, as `schedule` or `shop` prints it
+-- the sheet of its starts, as `schedule` or `shop` prints it; with the ids of its activities
 abbrev pub sheet_of : Plan → Sheet
-sheet_of (plan.Project i) = activity_sheet i.project.network
+sheet_of (plan.Project i ids) = id_sheet ids i.project.network
 sheet_of (plan.Shop s) = step_sheet s
 
 -- no need of a project is above its capacity
 abbrev pub HasFit : Plan → Type 0
-HasFit (plan.Project i) = NeedsFit (projects.problem_of i)
+HasFit (plan.Project i ids) = NeedsFit (projects.problem_of i)
 HasFit (plan.Shop s) = Unit {0}
 
 -- a document is that of the project in a file, with given capacities in place of those of the file,
@@ -67,10 +72,11 @@ abbrev pub IsWhole : Document → Type 0
 IsWhole (document.Project p capacities) = length capacities.items ≡ length p.available
 IsWhole (document.Shop doc) = Unit {0}
 
--- the plan of a document: a project with these capacities, or a job shop with all machines open
-abbrev pub plan_in : Document → Plan
-plan_in (document.Project p capacities) = plan.Project (planned p capacities.items)
-plan_in (document.Shop doc) = plan.Shop (shop_of doc)
+-- the plan of a document, with the ids of its activities: a project with these capacities, or a job
+-- shop with all machines open
+abbrev pub plan_in : Document → List Name → Plan
+plan_in (document.Project p capacities) ids = plan.Project (planned p capacities.items) ids
+plan_in (document.Shop doc) ids = plan.Shop (shop_of doc)
 
 -- a line gives the first need of a project that is above its capacity
 abbrev pub TellsNoPlan : Document → List ℕ → Type 0
@@ -80,19 +86,20 @@ TellsNoPlan (document.Shop doc) line = ⊥
 -- a text or a value is one for the project or the job shop in a file; no need of a project is above
 -- its capacity
 abbrev pub IsOfSubject : {X : Type 0} → Subject → (Plan → X → Type 0) → List ℕ → X → Type 0
-IsOfSubject (subject.Project given) IsText = IsOfProject given.now
-    (λ i text. NeedsFit (projects.problem_of i) × IsText (plan.Project i) text)
-IsOfSubject (subject.Shop instance) IsText =
-    IsOfShop instance.now (λ s. IsText (plan.Shop s))
+IsOfSubject (subject.Project given) IsText file = IsOfProject given.now
+    (λ i text. NeedsFit (projects.problem_of i) × IsText (plan.Project i (ids_in file)) text) file
+IsOfSubject (subject.Shop instance) IsText file =
+    IsOfShop instance.now (λ s. IsText (plan.Shop s)) file
 
 -- a line gives the first check that a file fails, or else the first given capacity of a resource
 -- that its project lacks, or else the first need that is above its capacity, or else it refuses the
 -- plan
 abbrev pub RefusesSubject : Subject → (Plan → List ℕ → Type 0) → List ℕ → List ℕ → Type 0
-RefusesSubject (subject.Project given) IsLine = RefusesFile given.now (λ i line.
-    TellsNeed i line ⊎ (NeedsFit (projects.problem_of i) × IsLine (plan.Project i) line))
-RefusesSubject (subject.Shop instance) IsLine =
-    RefusesShop instance.now (λ s. IsLine (plan.Shop s))
+RefusesSubject (subject.Project given) IsLine file = RefusesFile given.now (λ i line.
+    TellsNeed i line
+    ⊎ (NeedsFit (projects.problem_of i) × IsLine (plan.Project i (ids_in file)) line)) file
+RefusesSubject (subject.Shop instance) IsLine file =
+    RefusesShop instance.now (λ s. IsLine (plan.Shop s)) file
 
 -- the names of the activities of a project, or of the orders of a job shop
 abbrev pub names_of_rows : Subject → List ℕ → List Name
@@ -103,10 +110,6 @@ names_of_rows (subject.Shop instance) file = instance_names order_key instance.n
 abbrev pub names_of_lines : Subject → List ℕ → List Name
 names_of_lines (subject.Project given) file = names_behind activity_key file
 names_of_lines (subject.Shop instance) file = instance_names machine_key instance.now file
-
--- the ids of the activities in a project file
-abbrev pub ids_in : List ℕ → List Name
-ids_in file = names_behind id_key file
 
 -- the ids of the activities of a project; a job shop has none
 abbrev pub ids_of_rows : Subject → List ℕ → List Name

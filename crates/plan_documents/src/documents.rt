@@ -17,6 +17,7 @@ use plan_table::{
     NameLine, activity_ids, activity_names, machine_names, order_names, resource_names,
 };
 use std::alloc::{AllocError, Global};
+use std::marker::Model;
 
 /// The project or the job shop of a command.
 #[derive(Clone, Copy, Debug, Drop)]
@@ -35,11 +36,44 @@ pub enum Document {
     Shop(ShopDoc),
 }
 
-/// A project whose needs are within its capacities, or a job shop with all machines open.
+/// The ids of a project's activities.
+#[derive(Drop)]
+pub struct Ids<'a> {
+    lines: Vec<NameLine<'a>>,
+}
+
+impl<'a> Model for Ids<'a> {
+    ghost use Rattle.std.specs.Prelude.{List, map};
+    ghost use Rattle.plan_table.specs.Names.{Name, name_of};
+
+    ghost Value = { List Name };
+
+    ghost view = { λ ids. map name_of ids.lines.items };
+}
+
+impl<'a> Ids<'a> {
+    /// Returns the lines with the ids.
+    pub fn lines(&self) -> &[NameLine<'a>]
+        ensures { map name_of result.now ≡ self.now }
+    {
+        &self.lines
+    }
+}
+
+/// A project whose needs are within its capacities, with the ids of its activities, or a job shop
+/// with all machines open.
 #[derive(Drop)]
 pub enum Plan<'a> {
-    Project(Instance<'a>),
+    Project(Instance<'a>, Ids<'a>),
     Shop(Shop),
+}
+
+/// Returns the ids of the activities in a project file.
+pub fn ids_of<'a>(alloc: Global, file: &'a [u8]) -> Result<Ids<'a>, AllocError>
+    ensures { IfOk result (λ ids. ids ≡ spec.ids_in file.now) }
+{
+    let lines = activity_ids(alloc, file)?;
+    Ok(Ids { lines })
 }
 
 // Reads the project in a file, with the given capacities in place of those of the file.
@@ -72,9 +106,13 @@ pub fn read_document(alloc: Global, subject: Subject<'_>, file: &[u8]) -> Result
 }
 
 /// Returns the plan of the document in a file.
-pub fn plan_of<'a>(alloc: Global, document: &'a Document, file: &[u8]) -> Result<Plan<'a>, CliFault>
+pub fn plan_of<'a>(
+    alloc: Global,
+    document: &'a Document,
+    file: &'a [u8],
+) -> Result<Plan<'a>, CliFault>
     requires { spec.IsWhole document.now }
-    ensures plan { IfOk result (λ plan. plan ≡ spec.plan_in document.now) }
+    ensures plan { IfOk result (λ plan. plan ≡ spec.plan_in document.now (spec.ids_in file.now)) }
     ensures fit { IfOk result spec.HasFit }
     ensures refused { IfErr result (Refuses (spec.TellsNoPlan document.now)) }
 {
@@ -83,7 +121,7 @@ pub fn plan_of<'a>(alloc: Global, document: &'a Document, file: &[u8]) -> Result
             let instance = instance_with(alloc, project, capacities, file)?;
             // The proof needs the instance's invariant, which this call states.
             let _network = instance.network();
-            Ok(Plan::Project(instance))
+            Ok(Plan::Project(instance, ids_of(alloc, file)?))
         }
         Document::Shop(doc) => Ok(Plan::Shop(open_shop(alloc, doc)?)),
     }

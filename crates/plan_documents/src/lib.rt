@@ -20,7 +20,8 @@ mod table_faults;
 
 pub use capacities::{Capacity, replaced};
 pub use documents::{
-    Document, Plan, Subject, ids_of_rows, names_of_lines, names_of_rows, plan_of, read_document,
+    Document, Ids, Plan, Subject, ids_of, ids_of_rows, names_of_lines, names_of_rows, plan_of,
+    read_document,
 };
 pub use imports::{file_import_text, file_shop_text};
 pub use infeasible::{infeasible_refusal, shop_infeasible_refusal};

@@ -4,7 +4,8 @@ ghost use Rattle.std.specs.Prelude.{◌≡◌, ◌++◌, All, IfOk, IfErr, codes
 ghost use Rattle.plan_net.specs.Network.{count_of};
 ghost use Rattle.plan_profile.specs.Usage.{IsInTime};
 ghost use Rattle.plan_shop.specs.Shop.{count_steps};
-ghost use Rattle.plan_report.specs.StartsText.{SaysStarts, activity_sheet, step_sheet};
+ghost use Rattle.plan_report.specs.IdSheets.{id_sheet};
+ghost use Rattle.plan_report.specs.StartsText.{SaysStarts, step_sheet};
 ghost use Rattle.plan_errors.specs.Faults.{IsAbout};
 ghost use Rattle.plan_errors.specs.Output.{Refuses};
 ghost use Rattle.plan_errors.specs.Parts.{parts_text};
@@ -12,12 +13,12 @@ ghost use Rattle.plan_documents.specs.Documents.{count_of as plan_count, sheet_o
 ghost use Rattle.plan_documents.specs.Refusals.{place_of};
 ghost use Rattle.plan_documents.specs.Starts as spec;
 
-use crate::documents::Plan;
+use crate::documents::{Ids, Plan};
 use crate::refusals::{file_code, place_parts};
 use plan_errors::{About, CliFault, Part, refuse};
 use plan_net::Network;
 use plan_psplib::{FileCode, FileFault, ReadError};
-use plan_report::{read_shop_starts_text, read_starts_text};
+use plan_report::{read_id_starts_text, read_shop_starts_text};
 use plan_shop::Shop;
 use std::alloc::{AllocError, Global};
 
@@ -53,16 +54,23 @@ fn read_refusal(alloc: Global, error: ReadError) -> CliFault
     starts_refusal(alloc, &FileFault::of(alloc, error))
 }
 
-/// Reads the starts of a project's activities.
-pub fn read_starts(alloc: Global, network: &Network, text: &[u8]) -> Result<Vec<u64>, CliFault>
+/// Reads the starts of a project's activities, which may have ids.
+pub fn read_starts(
+    alloc: Global,
+    network: &Network,
+    ids: &Ids<'_>,
+    text: &[u8],
+) -> Result<Vec<u64>, CliFault>
     ensures said { IfOk result (λ starts.
-        SaysStarts (activity_sheet network.now) text.now starts.items) }
+        SaysStarts (id_sheet ids.now network.now) text.now starts.items) }
     ensures whole { IfOk result (λ starts. length starts.items ≡ count_of network.now) }
     ensures in_time { IfOk result (λ starts. All IsInTime starts.items) }
     ensures refused { IfErr result (Refuses
-        (spec.TellsNoStarts (activity_sheet network.now) text.now)) }
+        (spec.TellsNoStarts (id_sheet ids.now network.now) text.now)) }
 {
-    read_starts_text(alloc, network, text).map_err(|error| read_refusal(alloc, error))
+    read_id_starts_text(alloc, network, ids.lines(), text).map_err(|error| read_refusal(
+        alloc, error,
+    ))
 }
 
 // Reads the starts of a job shop's steps, in flat order.
@@ -85,7 +93,7 @@ pub fn starts_of(alloc: Global, plan: &Plan<'_>, text: &[u8]) -> Result<Vec<u64>
     ensures refused { IfErr result (Refuses (spec.TellsNoStarts (sheet_of plan.now) text.now)) }
 {
     match plan {
-        Plan::Project(instance) => read_starts(alloc, instance.network(), text),
+        Plan::Project(instance, ids) => read_starts(alloc, instance.network(), ids, text),
         Plan::Shop(shop) => read_shop_starts(alloc, shop, text),
     }
 }

@@ -6,5 +6,5 @@ use Rattle.plan_documents.specs.declared.documents.Plan.TheVariants as plan
 
 -- the layout of a plan; that of a job shop has a line for each job, or else for each machine
 abbrev pub layout_of : Plan → Bool → Layout
-layout_of (plan.Project i) by_job = activities i
+layout_of (plan.Project i ids) by_job = activities i
 layout_of (plan.Shop s) by_job = steps s by_job

@@ -25,11 +25,11 @@ AreShownSlacks p starts slacks =
 
 -- the floats and the slacks of a plan; a job shop has none
 abbrev pub HasFloats : Plan → List ℕ → Type 0
-HasFloats (plan.Project i) floats = AreFloats i.project.network floats
+HasFloats (plan.Project i ids) floats = AreFloats i.project.network floats
 HasFloats (plan.Shop s) floats = floats ≡ []
 
 abbrev pub HasSlacks : Plan → List ℕ → List ℕ → Type 0
-HasSlacks (plan.Project i) starts slacks = AreShownSlacks (problem_of i) starts slacks
+HasSlacks (plan.Project i ids) starts slacks = AreShownSlacks (problem_of i) starts slacks
 HasSlacks (plan.Shop s) starts slacks = slacks ≡ []
 
 -- a relation holds for the floats and the slacks of starts

@@ -15,7 +15,7 @@ pub(crate) fn layout_of<'p>(plan: &'p Plan<'p>, by_job: bool) -> Layout<'p>
     ensures count { layouts.count_of (layouts.layout_of result) ≡ count_of plan.now }
 {
     match plan {
-        Plan::Project(instance) => Layout::Activities(instance),
+        Plan::Project(instance, _) => Layout::Activities(instance),
         Plan::Shop(shop) => Layout::Steps { shop, by_job },
     }
 }

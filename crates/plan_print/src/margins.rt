@@ -60,7 +60,7 @@ pub(crate) fn floats_of(alloc: Global, plan: &Plan<'_>) -> Result<Vec<u64>, Allo
     ensures { IfOk result (λ floats. spec.HasFloats plan.now floats.items) }
 {
     match plan {
-        Plan::Project(instance) => total_floats(alloc, instance.network()),
+        Plan::Project(instance, _) => total_floats(alloc, instance.network()),
         Plan::Shop(_) => Ok(Vec::new(alloc)),
     }
 }
@@ -77,7 +77,7 @@ pub(crate) fn slacks_of(
     ensures refused { IfErr result (λ e. e ≡ CliFault.Memory) }
 {
     match plan {
-        Plan::Project(instance) => shown_slacks(alloc, instance, schedule),
+        Plan::Project(instance, _) => shown_slacks(alloc, instance, schedule),
         Plan::Shop(_) => Ok(Vec::new(alloc)),
     }
 }

@@ -244,12 +244,11 @@ pub fn print_on_named<I: Inputs, W: Sink, V: ProofWatcher + SolveWatcher + NoteW
 }
 
 /// Calls [`print_on_named`] with the system's files and standard input.
-pub fn print_on_files<R: Files + Input + AllocGlobal, W: Sink, V: ProofWatcher + SolveWatcher + NoteWatcher>(
-    rt: &R,
-    print: Print<'_>,
-    watcher: &mut V,
-    writer: &mut W,
-) -> Result<(), CliFault>
+pub fn print_on_files<
+    R: Files + Input + AllocGlobal,
+    W: Sink,
+    V: ProofWatcher + SolveWatcher + NoteWatcher,
+>(rt: &R, print: Print<'_>, watcher: &mut V, writer: &mut W) -> Result<(), CliFault>
     // The sheet is written for the bytes that were read.
     ensures does { spec.Prints (λ _. None) print.entry
         (W.taken writer.old) (W.taken writer.new) result }

@@ -1,4 +1,4 @@
-use Rattle.std.proofs.Common.{rules, IfOk}
+use Rattle.std.proofs.Common.{rules, IfOk, []}
 use Rattle.plan_gantt.specs.ScheduleText.{IsSchedule}
 use Rattle.plan_cli.specs.Scheduled.{IsShowable}
 use Rattle.plan_documents.specs.declared.documents.Plan.TheVariants as plan
@@ -15,7 +15,7 @@ returns-clause-made c =
 
 pub returns-clause-showable : goal.returns-clause-showable
 returns-clause-showable c =
-    mapped c.serial.result c.map_err.result _ (λ made. IfOk made (IsShowable (plan.Project c.args.instance.now)))
+    mapped c.serial.result c.map_err.result _ (λ made. IfOk made (IsShowable (plan.Project c.args.instance.now [])))
     c.map_err.ensures.cases
     (λ schedule is. shown_by c.args.instance.now schedule (search rules) (search rules) (search rules))
     (λ fault e is learnt. tt)

@@ -4,6 +4,7 @@ use Rattle.plan_sgs.specs.Instances.{problem_of}
 use Rattle.plan_report.specs.Slack.{RefusesSlack}
 use Rattle.plan_errors.specs.Output.{Refuses}
 use Rattle.plan_cli.specs.SlackRun.{TellsBadStarts, TellsBadSlack, TellsSlackFault}
+use Rattle.plan_documents.specs.Documents.{ids_in}
 use Rattle.plan_documents.proofs.ErrorLemmas.{refuses_as}
 use Rattle.plan_cli.proofs.SlackLemmas.{bad_starts, slack_refused}
 use Rattle.plan_cli.proofs.slacks.instance_slacks.Goals as goal
@@ -16,14 +17,15 @@ returns-clause-refused c =
     let refused : RefusesSlack (problem_of i) starts c.in-Err.fault =
     subst (λ (s : List ℕ). RefusesSlack (problem_of i) s c.in-Err.fault) c.deref.ensures.value c.in-Err.ensures.refused in
     let tells : Refuses (TellsSlackFault c.in-Err.fault) c.slack_refusal.result = search rules in
-    slack_refused listed i c.network.result.now starts c.in-Err.fault c.slack_refusal.result c.network.ensures.network
-    c.in_ok-starts.ensures.said refused tells
+    slack_refused c.in_ok-ids.ids (ids_in c.args.file.now) listed i c.network.result.now starts c.in-Err.fault c.slack_refusal.result
+    c.network.ensures.network c.in_ok-ids.ensures c.in_ok-starts.ensures.said refused tells
 
 pub returns-in_err-starts-clause-refused : goal.returns-in_err-starts-clause-refused
 returns-in_err-starts-clause-refused c =
+    let names = ids_in c.args.file.now in
     let i = c.args.instance.now in
     let listed = c.args.listed.now in
-    let error = err_from_is_err_and c.from_residual.result c.from_residual.ensures.1 in
-    rw (error.1, error.2) (refuses_as (TellsBadStarts listed i) (TellsBadSlack listed i) c.in_err-starts.field-0.0 (λ line tells. inl tells)
-    (bad_starts listed i c.network.result.now c.in_err-starts.field-0.0 c.network.ensures.instance.fit
-    c.network.ensures.network c.in_err-starts.ensures.refused))
+    let error = err_from_is_err_and c.from_residual-in_err-starts.result c.from_residual-in_err-starts.ensures.1 in
+    rw (error.1, error.2) (refuses_as (TellsBadStarts names listed i) (TellsBadSlack names listed i) c.in_err-starts.field-0.0 (λ line tells. inl tells)
+    (bad_starts c.in_ok-ids.ids names listed i c.network.result.now c.in_err-starts.field-0.0 c.network.ensures.instance.fit
+    c.network.ensures.network c.in_ok-ids.ensures c.in_err-starts.ensures.refused))

@@ -3,6 +3,7 @@ use Rattle.plan_table.specs.Names.{name_of}
 use Rattle.plan_table.specs.declared.names.NameLine.{NameLine}
 use Rattle.plan_errors.specs.Output.{Refuses}
 use Rattle.plan_documents.specs.Plans.{RefusesFile, RefusesWith}
+use Rattle.plan_documents.specs.Documents.{ids_in}
 use Rattle.plan_cli.specs.SlackRun.{TellsNoSlack}
 use Rattle.plan_documents.proofs.ErrorLemmas.{if_err_weaker}
 use Rattle.plan_cli.proofs.SlackLemmas.{file_refused}
@@ -16,6 +17,6 @@ returns-clause-refused c =
     let project = c.in_ok-project.project in
     let names = map name_of c.deref.result.now in
     let same = ap (λ (lines : List NameLine). map name_of lines) c.deref.ensures.value ∙ c.in_ok-names.ensures in
-    if_err_weaker c.project_slacks.result (Refuses (RefusesWith names given project (TellsNoSlack listed)))
-    (Refuses (RefusesFile given (TellsNoSlack listed) file))
-    (λ e refused. file_refused listed file names given project e c.in_ok-project.ensures.said same refused) c.project_slacks.ensures.refused
+    if_err_weaker c.project_slacks.result (Refuses (RefusesWith names given project (TellsNoSlack (ids_in file) listed)))
+    (Refuses (RefusesFile given (TellsNoSlack (ids_in file) listed) file))
+    (λ e refused. file_refused (ids_in file) listed file names given project e c.in_ok-project.ensures.said same refused) c.project_slacks.ensures.refused

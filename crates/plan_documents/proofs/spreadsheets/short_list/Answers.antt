@@ -5,4 +5,4 @@ use Rattle.plan_documents.proofs.spreadsheets.short_list.Goals as goal
 
 pub returns-in-Err-clause-refused : goal.returns-in-Err-clause-refused
 returns-in-Err-clause-refused c =
-    fault_told (map override_of c.args.given.now) c.args.file.now c.in-Err.field-0 c.spreadsheet_refusal.result c.in-Err.ensures.refused c.spreadsheet_refusal.ensures
+    fault_told (map override_of c.args.given.now) c.args.file.now c.in-Err.fault c.spreadsheet_refusal.result c.in-Err.ensures.refused c.spreadsheet_refusal.ensures
