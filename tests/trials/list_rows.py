@@ -394,6 +394,36 @@ def try_solve(case):
     compare(case.what, form, output, sheet)
 
 
+def try_read_back(case):
+    """A solution in any form, with its rows in any order, is read as the starts in it."""
+    output = case.output("solve", "--conflicts", "1000", "list.csv")
+    written(case.folder, "solved", shuffled(case, output))
+    case.form = "text"
+    same(f"{case.what}: read back", case.output("check", "list.csv", "solved"), b"active\n")
+    case.form = "json"
+    value = json.loads(case.output("compare", "list.csv", "solved", case.write("starts", case.starts)))
+    own = {row["activity"]: row["start_a"] for row in value["rows"]}
+    lines = case.output("solve", "--conflicts", "1000", "list.csv")
+    solved = {row["activity"]: row["start"] for row in json.loads(lines)["rows"]}
+    same(f"{case.what}: the starts", own, solved)
+
+
+def shuffled(case, output):
+    """A table in another order of its rows, if it has ids."""
+    if not case.drawn.ids:
+        return output
+    if case.form == "json":
+        value = json.loads(output)
+        case.draw.shuffle(value["rows"])
+        return dumped(value)
+    lines = output.splitlines(keepends=True)
+    first = 1 if case.form == "csv" else 2
+    last = len(lines) - (case.form == "text")
+    rows = lines[first:last]
+    case.draw.shuffle(rows)
+    return b"".join([*lines[:first], *rows, *lines[last:]])
+
+
 def solved_starts(case, value):
     """The starts in the JSON of a solution. Those of the start and the end follow, if the list has ids."""
     starts = {row["activity"]: row["start"] for row in value["rows"]}
@@ -402,7 +432,7 @@ def solved_starts(case, value):
     return starts
 
 
-COMMANDS = (try_chart, try_days, try_check, try_compare, try_slack, try_solve)
+COMMANDS = (try_chart, try_days, try_check, try_compare, try_slack, try_solve, try_read_back)
 
 
 def try_list_rows(cases=2000, seed=1):
