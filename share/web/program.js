@@ -43,7 +43,20 @@ const loaded = () => (module ??= moduleBytes().then((bytes) => load(bytes, DIGES
 const newWorker = () => new Worker(policy?.createScriptURL("") ?? address,
   { type: inside("worker-text") ? "classic" : "module" });
 
-const contentOf = (content) => (typeof content === "string" ? new TextEncoder().encode(content) : content);
+// A project file without the ids of its activities: the page shows their numbers.
+function numbered(bytes) {
+  try {
+    const text = new TextDecoder("utf-8", { fatal: true, ignoreBOM: true }).decode(bytes);
+    if (!/^PRECEDENCE RELATIONS:/m.test(text)) return bytes;
+    return new TextEncoder().encode(text.replace(/^id \d+ [^\n]*\n/gm, ""));
+  } catch {
+    return bytes;
+  }
+}
+
+const contentOf = (content) => numbered(
+  typeof content === "string" ? new TextEncoder().encode(content) : content,
+);
 
 // one call in a worker; `told` gets what the program writes to standard error
 async function called(worker, words, files, { isTerminal = false, told = () => {} } = {}) {

@@ -649,8 +649,15 @@ def one_line(value):
     return json.dumps(value, sort_keys=True, separators=(",", ":"), ensure_ascii=False) + "\n"
 
 
+def without_ids(text):
+    """A project file without the lines of its ids: the page has the numbers of activities."""
+    whole = text if isinstance(text, bytes) else text.encode()
+    return b"".join(line for line in whole.splitlines(keepends=True) if not line.startswith(b"id "))
+
+
 def as_printed(commands, given, instance=()):
     """The members of the JSON of several commands on a file, and those of their rows together."""
+    given = without_ids(given)
     options = ["--names", "--format", "json"]
     values = [json.loads("\n".join(printed(*words, *options, "-", *instance, given=given)))
               for words in commands]
