@@ -1,3 +1,4 @@
 pub mod RowLemmas
 pub mod AcceptanceLemmas
 pub mod ListLemmas
+pub mod AssignmentLemmas

@@ -1,9 +1,10 @@
 -- Rows that are the same.
-use Rattle.std.proofs.Common.{◌≡◌, ℕ, Bool, true, false, List, [], ◌∷◌, Ok, refl, sym, ap, ◌∙◌, subst}
+use Rattle.std.proofs.Common.{◌≡◌, ℕ, ◌-◌, arith, length, take, Bool, true, false, List, [], ◌∷◌, Ok, drop, refl, sym, ap, ◌∙◌, subst}
 use Rattle.std.specs.Prelude.{◌==◌, ◌&&◌}
 use Rattle.std.specs.Str.{bytes_eq}
 use Rattle.std.proofs.lemmas.Bool.{and_parts}
 use Rattle.std.proofs.lemmas.Bool.Decides.{Decides-eqb}
+use Rattle.std.proofs.lemmas.List.{length-drop, take_all}
 use Rattle.std.proofs.lemmas.Slice.Eq.{bytes_eq-Decides}
 use Rattle.plan_table.specs.Csv.{Row}
 use Rattle.plan_table.specs.Listing.{rows_read}
@@ -48,3 +49,7 @@ rows_same (x ∷ xs) (y ∷ ys) h =
 pub spelt : (text : List ℕ) (found before rows : List Row) → rows_read text ≡ Ok found → before ≡ filled found
     → same_rows before rows ≡ true → Spells text rows
 spelt text found before rows is filled same = (found, is, sym filled ∙ rows_same before rows same)
+
+-- a slice from a place to the end
+pub rest_of : {A : Type 0} (n : ℕ) (xs : List A) → take (length xs - n) (drop n xs) ≡ drop n xs
+rest_of n xs = take_all (length xs - n) (drop n xs) (omega (arith, length-drop n xs))

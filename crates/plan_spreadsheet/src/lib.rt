@@ -3,12 +3,14 @@
 #![tactic(auto)]
 
 mod acceptance;
+mod assignments;
 mod fault;
 mod grid;
 mod groups;
 mod lags;
 mod list;
 mod notes;
+mod parts;
 mod rewriting;
 mod rows;
 mod waiting;
