@@ -7,7 +7,7 @@ use Rattle.std.specs.Borrow.{Bor}
 use Rattle.serde_json.specs.Data.{Data}
 use Rattle.serde_json.specs.View.{view, items_view}
 use Rattle.serde_json.specs.declared.value.Value.{Value}
-use Rattle.plan_report.specs.JsonTable.{cell_text, number_at, row_text, head_text, rows_text}
+use Rattle.plan_report.specs.JsonTable.{cell_text, number_at, row_text, head_text, id_row_text, id_rows_text, rows_text}
 
 -- the line of a row
 pub row_text_of_names : (columns : List (Bor (List ℕ))) (row : Data) → row_text (map (λ name. name.now) columns) row
@@ -28,6 +28,11 @@ pub rows_text_of_values : (columns : List (List ℕ)) (rows : List Value) → ro
     ≡ flat_map (λ row. row_text columns (view row)) rows
 rows_text_of_values columns [] = refl
 rows_text_of_values columns (row ∷ rows) = ap (λ (text : List ℕ). row_text columns (view row) ++ text) (rows_text_of_values columns rows)
+
+-- the lines of rows behind their ids
+pub id_rows_text_of_values : (rows : List Value) → id_rows_text (items_view rows) ≡ flat_map (λ row. id_row_text (view row)) rows
+id_rows_text_of_values [] = refl
+id_rows_text_of_values (row ∷ rows) = ap (λ (text : List ℕ). id_row_text (view row) ++ text) (id_rows_text_of_values rows)
 
 -- a text with one more part, as the text with both parts behind it
 pub written_behind : {T E : Type 0} (r : Result T E) (new before old first next whole : List ℕ)

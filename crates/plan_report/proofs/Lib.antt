@@ -9,6 +9,8 @@ pub mod ChainLemmas
 pub mod NumberLemmas
 pub mod JsonLemmas
 pub mod SheetLemmas
+pub mod IdLemmas
+pub mod IdSheetLemmas
 pub mod TextLemmas
 pub mod EntryLemmas
 pub mod SentenceLemmas

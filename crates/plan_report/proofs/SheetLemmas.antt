@@ -104,7 +104,7 @@ goes_start line start (cell ∷ cells) rest p small =
 
 -- ---- rows
 
-start_shows : (entry : Entry) (row : Row) (s : ℕ) → start_in entry row ≡ Ok s → ShowsStart entry s row
+pub start_shows : (entry : Entry) (row : Row) (s : ℕ) → start_in entry row ≡ Ok s → ShowsStart entry s row
 unfolding start_in
 start_shows entry row s e =
     then_ok (expect_all row.line entry.keys row.cells) _ s e (λ rest keys e.
@@ -120,7 +120,7 @@ start_shows entry row s e =
     } in
     subst (λ (x : ℕ). ShowsStart entry x row) (same_ok start.0 s e) shown)))
 
-shows_start : (entry : Entry) (row : Row) (s : ℕ) → ShowsStart entry s row → start_in entry row ≡ Ok s
+pub shows_start : (entry : Entry) (row : Row) (s : ℕ) → ShowsStart entry s row → start_in entry row ≡ Ok s
 unfolding start_in
 shows_start entry row s shows =
     let end : ℕ = s + entry.duration in

@@ -3,8 +3,10 @@ pub mod Chain
 pub mod SlackText
 pub mod StartNumbers
 pub mod Sheet
+pub mod IdRows
 pub mod JsonTable
 pub mod StartsText
+pub mod IdSheets
 pub mod VerdictText
 pub mod Comparison
 pub mod ShopComparison

@@ -2,7 +2,7 @@
 -- "Reports").
 use Rattle.std.specs.Prelude.{◌≡◌, ℕ, ◌+◌, ◌≤◌, ◌==◌, ◌&&◌, Bool, true, false, List, [], ◌∷◌}
 use Rattle.std.specs.Prelude.{◌++◌, Option, Some, None, Result, Ok, map}
-use Rattle.std.specs.Prelude.{bytes_eq, nat_le}
+use Rattle.std.specs.Prelude.{bytes_eq, codes, nat_le}
 use Rattle.std.specs.Borrow.{Bor}
 use Rattle.plan_psplib.specs.declared.text.fault.Fault.{Fault}
 use Rattle.plan_psplib.specs.declared.text.fault.FileCode.TheVariants as code
@@ -10,6 +10,7 @@ use Rattle.plan_psplib.specs.Numbers.{number}
 use Rattle.plan_psplib.specs.Tokens.{◌>>=◌, fault, check}
 use Rattle.plan_gantt.specs.Limits.{latest_start}
 use Rattle.plan_report.specs.declared.sheet.Entry as declared_entry
+use Rattle.plan_report.specs.declared.sheet.IdEntry as declared_id_entry
 use Rattle.plan_report.specs.declared.sheet.Sheet as declared_sheet
 use Rattle.plan_report.specs.declared.sheet.Row as declared_row
 
@@ -23,19 +24,30 @@ pub record Entry : Type 0 where
   pub keys : List ℕ
   pub duration : ℕ
 
--- the names of the columns, and an entry for each row
+-- an activity by its id: its row without the id, up to the start
+pub record IdEntry : Type 0 where
+  pub id : List ℕ
+  pub entry : Entry
+
+-- the names of the columns, an entry for each row, and the entries between the first and the last
+-- by their ids, if all of these have ids
 pub record Sheet : Type 0 where
   pub columns : List (List ℕ)
   pub entries : List Entry
+  pub by_id : List IdEntry
 
 -- the same, as the program keeps them
 abbrev pub entry_of : declared_entry.Entry → Entry
 entry_of entry = record { keys = entry.keys.items; duration = entry.duration }
 
+abbrev pub id_entry_of : declared_id_entry.IdEntry → IdEntry
+id_entry_of entry = record { id = entry.id.now; entry = entry_of entry.entry }
+
 abbrev pub sheet_of : declared_sheet.Sheet → Sheet
 sheet_of sheet = record {
   columns = map (λ name. name.now) sheet.columns.now;
   entries = map entry_of sheet.entries.items;
+  by_id = map id_entry_of sheet.by_id.items;
 }
 
 abbrev pub cells_of : List (Bor (List ℕ)) → List (List ℕ)
@@ -129,6 +141,11 @@ sheet_at sheet [] = fault code.MissingHead 0
 sheet_at sheet (head ∷ rows) = do
   named ← check (has_columns sheet.columns head.cells) code.MissingHead head.line
   starts_after [] head.line sheet.entries rows
+
+-- cells begin with `makespan`
+abbrev pub begins_with_makespan : List (List ℕ) → Bool
+begins_with_makespan [] = false
+begins_with_makespan (cell ∷ cells) = bytes_eq cell (codes "makespan")
 
 -- no row is left
 abbrev pub nothing_left : List Row → Result (Unit {0}) Fault

@@ -3,6 +3,8 @@
 #![tactic(auto)]
 
 mod chain;
+mod id_rows;
+mod id_sheets;
 mod json_table;
 mod makespans;
 mod sheet;
@@ -14,5 +16,5 @@ mod verdict_text;
 pub use chain::tight_chain;
 pub use makespans::{makespan_of, shop_makespan_of};
 pub use slack::{SlackFault, schedule_slack};
-pub use starts::{read_shop_starts_text, read_starts_text};
+pub use starts::{read_id_starts_text, read_shop_starts_text, read_starts_text};
 pub use verdict_text::{push_sentence, push_shop_sentence};

@@ -16,11 +16,20 @@ pub struct Entry {
     pub duration: u64,
 }
 
-/// The names of the columns, and an entry for each row.
+/// An activity by its id: its row without the id, up to the start.
+#[derive(Drop)]
+pub struct IdEntry<'a> {
+    pub id: &'a [u8],
+    pub entry: Entry,
+}
+
+/// The names of the columns, an entry for each row, and the entries between the first and the last
+/// by their ids, if all of these have ids.
 #[derive(Drop)]
 pub struct Sheet<'a> {
     pub columns: &'a [&'a str],
     pub entries: Vec<Entry>,
+    pub by_id: Vec<IdEntry<'a>>,
 }
 
 /// A row: the number of its line, and its cells.
@@ -90,17 +99,27 @@ fn next_start<'a, 'b>(line: u64, cells: &'a [&'b [u8]]) -> Result<(u64, &'a [&'b
     Ok((start, rest))
 }
 
-// Returns the start in a row.
+/// Returns the start in the cells of a line.
 #[tactic(auto, unfolding(crate::specs::Sheet::start_in))]
+pub(crate) fn start_in_cells(entry: &Entry, line: u64, cells: &[&[u8]]) -> Result<u64, Fault>
+    requires { entry.now.duration ≤ 10000 }
+    ensures start { Reads (λ n. n) result (spec.start_in (spec.entry_of entry.now)
+        (record { line = line; cells = spec.cells_of cells.now })) }
+    ensures early { IfOk result (λ start. start ≤ LATEST_START) }
+{
+    let rest = expect_all(line, &entry.keys, cells)?;
+    let (start, rest) = next_start(line, rest)?;
+    expect_all(line, &[start + entry.duration], rest)?;
+    Ok(start)
+}
+
+// Returns the start in a row.
 fn start_in(entry: &Entry, row: &Row<'_>) -> Result<u64, Fault>
     requires { entry.now.duration ≤ 10000 }
     ensures { Reads (λ n. n) result
         (spec.start_in (spec.entry_of entry.now) (spec.row_of row.now)) }
 {
-    let rest = expect_all(row.line, &entry.keys, &row.cells)?;
-    let (start, rest) = next_start(row.line, rest)?;
-    expect_all(row.line, &[start + entry.duration], rest)?;
-    Ok(start)
+    start_in_cells(entry, row.line, &row.cells)
 }
 
 // Returns the starts in the next rows, and the rows behind them. `last` is the line before them.
@@ -130,9 +149,9 @@ fn starts_after<'a, 'b>(
     Ok((starts, rest))
 }
 
-// Tests whether the first cells are these names.
+/// Tests whether the first cells are these names.
 #[tactic(auto, unfolding(crate::specs::Sheet::has_columns))]
-fn has_columns(columns: &[&str], cells: &[&[u8]]) -> bool
+pub(crate) fn has_columns(columns: &[&str], cells: &[&[u8]]) -> bool
     ensures { result ≡
         spec.has_columns (map (λ name. name.now) columns.now) (spec.cells_of cells.now) }
 {
@@ -167,6 +186,16 @@ pub(crate) fn read_sheet<'a, 'b>(
         return Err(ReadError::Fault(Fault::new(FileCode::MissingHead, head.line)));
     }
     starts_after(alloc, &sheet.entries, head.line, rest)
+}
+
+/// Tests whether cells begin with `makespan`.
+pub(crate) fn begins_with_makespan(cells: &[&[u8]]) -> bool
+    ensures { result ≡ spec.begins_with_makespan (spec.cells_of cells.now) }
+{
+    match cells {
+        [cell, ..] => *cell == b"makespan".as_slice(),
+        [] => false,
+    }
 }
 
 /// Checks that no row is left.

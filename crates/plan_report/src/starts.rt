@@ -9,15 +9,20 @@ ghost use Rattle.plan_psplib.specs.declared.text.fault.ReadError.TheVariants.{Me
 ghost use Rattle.plan_psplib.specs.Tokens.{Fails, Gives, Reads};
 ghost use Rattle.plan_profile.specs.Usage.{IsInTime};
 ghost use Rattle.plan_shop.specs.Shop.{count_steps};
+ghost use Rattle.plan_table.specs.Names.{name_of};
+ghost use Rattle.plan_report.specs.IdSheets.{id_sheet as id_sheet_of};
 ghost use Rattle.plan_report.specs.Sheet as sheets;
 ghost use Rattle.plan_report.specs.StartsText as spec;
 
+use crate::id_rows::{has_ids, read_rows};
+use crate::id_sheets::id_sheet;
 use crate::json_table::table_of_json;
-use crate::sheet::{Entry, Row, Sheet, check_end, read_sheet};
+use crate::sheet::{Entry, Row, Sheet, begins_with_makespan, check_end};
 use crate::start_numbers::{all_tokens, read_numbers};
 use plan_net::Network;
 use plan_psplib::{Fault, FileCode, Lines, ReadError, Words, check_text};
 use plan_shop::Shop;
+use plan_table::NameLine;
 use std::alloc::{AllocError, Global};
 
 /// The form of a text of starts.
@@ -34,7 +39,7 @@ pub enum Form {
 }
 
 /// The names of the columns of a project's starts.
-const ACTIVITY_COLUMNS: &[&str] = &["act", "d", "start", "end"];
+pub(crate) const ACTIVITY_COLUMNS: &[&str] = &["act", "d", "start", "end"];
 
 /// The names of the columns of a job shop's starts.
 const STEP_COLUMNS: &[&str] = &["job", "step", "mach", "d", "start", "end"];
@@ -56,11 +61,14 @@ fn is_result(word: &[u8]) -> bool
     word == b"optimal".as_slice() || word == b"between".as_slice() || word == b"budget".as_slice()
 }
 
-// Tests whether a word begins a table.
-fn is_table_word(word: &[u8]) -> bool
-    ensures { result ≡ spec.is_table_word word.now }
+// Tests whether a word begins a table. `ids` says whether `id` does.
+fn is_table_word(ids: bool, word: &[u8]) -> bool
+    ensures { result ≡ spec.is_table_word ids word.now }
 {
-    is_result(word) || word == b"act".as_slice() || word == b"job".as_slice()
+    is_result(word)
+        || word == b"act".as_slice()
+        || word == b"job".as_slice()
+        || (ids && word == b"id".as_slice())
 }
 
 // Returns a text without a byte-order mark at its start.
@@ -74,14 +82,22 @@ fn without_mark(text: &[u8]) -> &[u8]
     }
 }
 
-// Tests whether a word begins a header line of CSV.
-fn begins_csv(word: &[u8]) -> bool
-    ensures { result ≡ spec.begins_csv word.now }
+// Tests whether a word begins a header line of CSV with ids.
+fn begins_id_csv(word: &[u8]) -> bool
+    ensures { result ≡ spec.begins_id_csv word.now }
+{
+    word.starts_with(b"id,") || word.starts_with(b"id;")
+}
+
+// Tests whether a word begins a header line of CSV. `ids` says whether `id` does.
+fn begins_csv(ids: bool, word: &[u8]) -> bool
+    ensures { result ≡ spec.begins_csv ids word.now }
 {
     word.starts_with(b"act,")
         || word.starts_with(b"act;")
         || word.starts_with(b"job,")
         || word.starts_with(b"job;")
+        || (ids && begins_id_csv(word))
 }
 
 // Tests whether a word begins a JSON document.
@@ -92,12 +108,12 @@ fn begins_json(word: &[u8]) -> bool
 }
 
 // Returns the form of a text with this first word.
-fn form_by(word: &[u8]) -> Form
-    ensures { result ≡ spec.form_by word.now }
+fn form_by(ids: bool, word: &[u8]) -> Form
+    ensures { result ≡ spec.form_by ids word.now }
 {
-    if is_table_word(word) {
+    if is_table_word(ids, word) {
         Form::Table
-    } else if begins_csv(word) {
+    } else if begins_csv(ids, word) {
         Form::Csv
     } else if begins_json(word) {
         Form::Json
@@ -107,10 +123,10 @@ fn form_by(word: &[u8]) -> Form
 }
 
 // Returns the form of a text.
-fn form_of(text: &[u8]) -> Form
-    ensures { result ≡ spec.form_of text.now }
+fn form_of(sheet: &Sheet<'_>, text: &[u8]) -> Form
+    ensures { result ≡ spec.form_of (sheets.sheet_of sheet.now) text.now }
 {
-    form_by(first_word(without_mark(text)))
+    form_by(has_ids(sheet), first_word(without_mark(text)))
 }
 
 // Returns the words of a line.
@@ -142,7 +158,7 @@ fn cells_by(alloc: Global, form: Form, line: &[u8]) -> Result<Vec<&[u8]>, AllocE
         Form::Numbers => words_of(alloc, line),
         Form::Table => words_of(alloc, line),
         Form::Csv => fields_of(alloc, line),
-        Form::Json => words_of(alloc, line),
+        Form::Json => fields_of(alloc, line),
     }
 }
 
@@ -193,16 +209,6 @@ fn begins_with_result(cells: &[&[u8]]) -> bool
     }
 }
 
-// Tests whether cells begin with `makespan`.
-fn begins_with_makespan(cells: &[&[u8]]) -> bool
-    ensures { result ≡ spec.begins_with_makespan (sheets.cells_of cells.now) }
-{
-    match cells {
-        [cell, ..] => *cell == b"makespan".as_slice(),
-        [] => false,
-    }
-}
-
 // Checks the end of a table: perhaps a last row with the makespan.
 #[tactic(auto, unfolding(crate::specs::StartsText::table_end))]
 fn check_table_end(rows: &[Row<'_>]) -> Result<(), Fault>
@@ -225,12 +231,13 @@ fn table_starts(
     sheet: &Sheet<'_>,
     text: &[u8],
 ) -> Result<Vec<u64>, ReadError>
-    requires { All (λ entry. entry.duration ≤ 10000) sheet.now.entries.items }
+    requires entries { All (λ entry. entry.duration ≤ 10000) sheet.now.entries.items }
+    requires ids { All (λ entry. entry.entry.duration ≤ 10000) sheet.now.by_id.items }
     ensures { Gives (λ v. v.items) result
         (spec.table_starts form (sheets.sheet_of sheet.now) text.now) }
 {
     let rows = rows_by(alloc, form, text)?;
-    let (starts, rest) = read_sheet(alloc, sheet, behind_result(&rows))?;
+    let (starts, rest) = read_rows(alloc, form, sheet, behind_result(&rows))?;
     check_table_end(rest)?;
     Ok(starts)
 }
@@ -238,21 +245,23 @@ fn table_starts(
 // Returns the starts in a JSON document, or the first check that fails.
 #[tactic(auto, unfolding(crate::specs::StartsText::json_starts))]
 fn json_starts(alloc: Global, sheet: &Sheet<'_>, text: &[u8]) -> Result<Vec<u64>, ReadError>
-    requires { All (λ entry. entry.duration ≤ 10000) sheet.now.entries.items }
+    requires entries { All (λ entry. entry.duration ≤ 10000) sheet.now.entries.items }
+    requires ids { All (λ entry. entry.entry.duration ≤ 10000) sheet.now.by_id.items }
     ensures { Gives (λ v. v.items) result (spec.json_starts (sheets.sheet_of sheet.now) text.now) }
 {
-    let table = table_of_json(alloc, sheet.columns, without_mark(text))?;
-    table_starts(alloc, Form::Csv, sheet, table.as_bytes())
+    let table = table_of_json(alloc, has_ids(sheet), sheet.columns, without_mark(text))?;
+    table_starts(alloc, Form::Json, sheet, table.as_bytes())
 }
 
 // Returns the starts in a text, or the first check that fails.
 #[tactic(auto, unfolding(crate::specs::StartsText::starts_in))]
 fn read_starts(alloc: Global, sheet: &Sheet<'_>, text: &[u8]) -> Result<Vec<u64>, ReadError>
-    requires { All (λ entry. entry.duration ≤ 10000) sheet.now.entries.items }
+    requires entries { All (λ entry. entry.duration ≤ 10000) sheet.now.entries.items }
+    requires ids { All (λ entry. entry.entry.duration ≤ 10000) sheet.now.by_id.items }
     ensures { Gives (λ v. v.items) result (spec.starts_in (sheets.sheet_of sheet.now) text.now) }
 {
     check_text(text)?;
-    match form_of(text) {
+    match form_of(sheet, text) {
         Form::Numbers => read_numbers(alloc, sheet.entries.len(), text),
         Form::Table => table_starts(alloc, Form::Table, sheet, text),
         Form::Csv => table_starts(alloc, Form::Csv, sheet, text),
@@ -260,8 +269,8 @@ fn read_starts(alloc: Global, sheet: &Sheet<'_>, text: &[u8]) -> Result<Vec<u64>
     }
 }
 
-// Returns the entries of a project's activities.
-fn activity_entries(alloc: Global, network: &Network) -> Result<Vec<Entry>, AllocError>
+/// Returns the entries of a project's activities.
+pub(crate) fn activity_entries(alloc: Global, network: &Network) -> Result<Vec<Entry>, AllocError>
     ensures entries { IfOk result (λ entries. map sheets.entry_of entries.items
         ≡ spec.activity_entries network.now) }
     ensures short { IfOk result (λ entries. All (λ entry. entry.duration ≤ 10000) entries.items) }
@@ -302,10 +311,13 @@ fn activity_sheet(alloc: Global, network: &Network) -> Result<Sheet<'static>, Al
     ensures sheet { IfOk result (λ sheet. sheets.sheet_of sheet ≡ spec.activity_sheet network.now) }
     ensures short { IfOk result (λ sheet.
         All (λ entry. entry.duration ≤ 10000) sheet.entries.items) }
+    ensures ids { IfOk result (λ sheet.
+        All (λ entry. entry.entry.duration ≤ 10000) sheet.by_id.items) }
 {
     Ok(Sheet {
         columns: ACTIVITY_COLUMNS,
         entries: activity_entries(alloc, network)?,
+        by_id: Vec::new(alloc),
     })
 }
 
@@ -314,10 +326,13 @@ fn step_sheet(alloc: Global, shop: &Shop) -> Result<Sheet<'static>, AllocError>
     ensures sheet { IfOk result (λ sheet. sheets.sheet_of sheet ≡ spec.step_sheet shop.now) }
     ensures short { IfOk result (λ sheet.
         All (λ entry. entry.duration ≤ 10000) sheet.entries.items) }
+    ensures ids { IfOk result (λ sheet.
+        All (λ entry. entry.entry.duration ≤ 10000) sheet.by_id.items) }
 {
     Ok(Sheet {
         columns: STEP_COLUMNS,
         entries: step_entries(alloc, shop)?,
+        by_id: Vec::new(alloc),
     })
 }
 
@@ -356,6 +371,42 @@ pub fn read_starts_text(
     ensures in_time { IfOk result (λ starts. All IsInTime starts.items) }
 {
     let sheet = activity_sheet(alloc, network)?;
+    read_starts(alloc, &sheet, text)
+}
+
+/// Reads the starts of a project's activities, in whole time units: index `k` is activity `k + 1`.
+/// The forms and the errors are those of [`read_starts_text`], and activities can have ids. The id
+/// of an activity is the first one of its number in `ids`.
+///
+/// If all activities but the first and the last have an id, and these two have none, a table, CSV
+/// or JSON may have the column `id` in place of the activity's number. It has a row for each
+/// activity with an id, in any order. A cell of CSV may have the id in quotes. JSON is such a table
+/// if its first row has a string `id`; the numbers of activities don't count then. The first
+/// activity starts at 0, and the last at the greatest end of all others.
+///
+/// Errors of such a table: `Count` (F9) if a row is missing or left over, `JobOrder` (F7) for a row
+/// whose id isn't that of exactly one activity or is that of an earlier row, or whose duration or
+/// end isn't that of the activity, and `Limit` (F10) at the last row if the greatest end is above
+/// 10,000,000. The ids are checked in the order of the rows, and then the rows in the order of the
+/// activities.
+pub fn read_id_starts_text(
+    alloc: Global,
+    network: &Network,
+    ids: &[NameLine<'_>],
+    text: &[u8],
+) -> Result<Vec<u64>, ReadError>
+    ensures said { IfOk result (λ starts.
+        spec.SaysStarts (id_sheet_of (map name_of ids.now) network.now) text.now starts.items) }
+    // The starts in a text are read, unless memory runs out.
+    ensures only { (starts : List ℕ) →
+        spec.SaysStarts (id_sheet_of (map name_of ids.now) network.now) text.now starts →
+        MatchResult result (λ read. read.items ≡ starts) (λ e. e ≡ Memory) }
+    ensures refused { IfErr result (λ e.
+        Fails e (spec.starts_in (id_sheet_of (map name_of ids.now) network.now) text.now)) }
+    ensures whole { IfOk result (λ starts. length starts.items ≡ count_of network.now) }
+    ensures in_time { IfOk result (λ starts. All IsInTime starts.items) }
+{
+    let sheet = id_sheet(alloc, network, ids)?;
     read_starts(alloc, &sheet, text)
 }
 

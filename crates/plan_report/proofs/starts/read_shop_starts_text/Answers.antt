@@ -5,6 +5,7 @@ use Rattle.plan_shop.specs.Shop.{count_steps}
 use Rattle.plan_psplib.specs.Tokens.{Fails}
 use Rattle.plan_report.specs.Sheet.{Sheet, sheet_of}
 use Rattle.plan_report.specs.StartsText.{SaysStarts, step_entry, starts_in}
+use Rattle.plan_report.proofs.IdLemmas.{IsWhole}
 use Rattle.plan_report.proofs.TextLemmas.{said_of, only_of, refused_of, whole_of, early_of}
 use Rattle.plan_report.proofs.starts.read_shop_starts_text.Goals as goal
 
@@ -31,7 +32,7 @@ returns-clause-whole c =
     let s = c.args.shop.now in
     IfOk-weaker c.read_starts.result _ _
     (λ starts whole. whole ∙ ap (λ (s : Sheet). length s.entries) c.in_ok-sheet.ensures.sheet ∙ length-map-range_with_len (step_entry s) 0 (count_steps s))
-    (whole_of c.read_starts.result (sheet_of c.in_ok-sheet.sheet) c.args.text.now c.read_starts.ensures)
+    (whole_of c.read_starts.result (sheet_of c.in_ok-sheet.sheet) c.args.text.now (subst IsWhole (sym c.in_ok-sheet.ensures.sheet) (λ e. absurd (cc))) c.read_starts.ensures)
 
 pub returns-clause-in_time : goal.returns-clause-in_time
 returns-clause-in_time c = early_of c.read_starts.result (sheet_of c.in_ok-sheet.sheet) c.args.text.now c.read_starts.ensures
