@@ -9,7 +9,7 @@ use Rattle.serde_json.specs.View.{items_of}
 use Rattle.plan_formats.specs.Cells.{Cell, value_of}
 use Rattle.plan_formats.specs.Columns.{Column}
 use Rattle.plan_formats.specs.TableLines.{Line, optimal, between, budget, duration, makespan}
-use Rattle.plan_formats.specs.TableLines.{chain, id_chain, summary}
+use Rattle.plan_formats.specs.TableLines.{chain, id_chain, moved, id_list, summary}
 use Rattle.plan_formats.specs.Tables.{Table}
 
 abbrev pub number_data : ℕ → Data
@@ -59,6 +59,11 @@ abbrev pub with_id_chain : List ℕ → List (List ℕ) → Members → Members
 with_id_chain js ids members =
     put (codes "chain_ids") (words_data ids) (put (codes "chain") (chain_data (Some js)) members)
 
+-- members with the numbers of activities that moved and that were compared
+abbrev pub with_moved : ℕ → ℕ → Members → Members
+with_moved n count members =
+    with_number (codes "compared") count (with_number (codes "moved") n members)
+
 -- members with the makespan and the verdict of a schedule
 abbrev pub with_summary : List ℕ → ℕ → List ℕ → Members → Members
 with_summary name n verdict members =
@@ -77,6 +82,8 @@ with_line members (duration n) =
 with_line members (makespan n) = with_number (codes "makespan") n members
 with_line members (chain js) = put (codes "chain") (chain_data js) members
 with_line members (id_chain js ids) = with_id_chain js ids members
+with_line members (moved n count) = with_moved n count members
+with_line members (id_list word ids) = put word (words_data ids) members
 with_line members (summary name n verdict) = with_summary name n verdict members
 
 -- members with the values of lines

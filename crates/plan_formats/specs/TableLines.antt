@@ -1,5 +1,5 @@
 -- The lines above and below the rows of a table (docs/definitions.md, "Formats").
-use Rattle.std.specs.Prelude.{ℕ, List, ◌++◌, Option, Some, None, Vec, codes, decimal, map}
+use Rattle.std.specs.Prelude.{ℕ, List, [], ◌∷◌, ◌++◌, Option, Some, None, Vec, codes, decimal, map}
 use Rattle.std.specs.Prelude.{string_bytes}
 use Rattle.std.specs.List.{flat_map}
 use Rattle.std.specs.declared.alloc.Global.{Global}
@@ -16,6 +16,10 @@ pub data Line : Type 0 where
   chain : Option (List ℕ) → Line
   -- the numbers of a chain, and the ids of those that have one
   id_chain : List ℕ → List (List ℕ) → Line
+  -- how many activities moved, and how many were compared
+  moved : ℕ → ℕ → Line
+  -- a word and ids
+  id_list : List ℕ → List (List ℕ) → Line
   -- a name, a makespan and a verdict
   summary : List ℕ → ℕ → List ℕ → Line
 
@@ -33,6 +37,8 @@ line_of (kept.Duration n) = duration n
 line_of (kept.Makespan n) = makespan n
 line_of (kept.Chain js) = chain (chain_of js)
 line_of (kept.IdChain js ids) = id_chain js.items (map (λ id. id.items) ids.items)
+line_of (kept.Moved n count) = moved n count
+line_of (kept.Ids word ids) = id_list word.now (map (λ id. id.items) ids.items)
 line_of (kept.Summary name n verdict) = summary name.now n (string_bytes verdict)
 
 -- numbers, each behind a blank
@@ -48,6 +54,11 @@ abbrev pub chain_text : Option (List ℕ) → List ℕ
 chain_text None = codes "no chain"
 chain_text (Some js) = codes "chain" ++ spaced_numbers js
 
+-- the word before the name of a list without ids
+abbrev pub none_before : List (List ℕ) → List ℕ
+none_before [] = codes "none "
+none_before (id ∷ ids) = []
+
 -- the text of a line, without its line feed
 abbrev pub line_words : Line → List ℕ
 line_words (optimal n) = codes "optimal " ++ decimal n
@@ -58,6 +69,8 @@ line_words (duration n) = codes "T " ++ decimal n
 line_words (makespan n) = codes "makespan " ++ decimal n
 line_words (chain js) = chain_text js
 line_words (id_chain js ids) = codes "chain" ++ spaced_words ids
+line_words (moved n count) = codes "moved " ++ decimal n ++ codes " of " ++ decimal count
+line_words (id_list word ids) = none_before ids ++ word ++ spaced_words ids
 line_words (summary name n verdict) =
     name ++ codes " makespan " ++ decimal n ++ codes ": " ++ verdict
 

@@ -189,6 +189,20 @@ fn put_id_chain(
     put(object, alloc, "chain_ids", words_value(alloc, ids)?)
 }
 
+// Sets the numbers of activities that moved and that were compared.
+fn put_moved(
+    alloc: Global,
+    object: &mut Map<String, Value>,
+    moved: u64,
+    count: u64,
+) -> Result<(), AllocError>
+    ensures { OnOk result (members_view object.new.entries
+        ≡ spec.with_moved moved count (members_view object.old.entries)) }
+{
+    put_number(alloc, object, "moved", moved)?;
+    put_number(alloc, object, "compared", count)
+}
+
 // Sets the makespan and the verdict of a schedule.
 fn put_summary(
     alloc: Global,
@@ -219,6 +233,8 @@ fn put_line(alloc: Global, object: &mut Map<String, Value>, line: &Line) -> Resu
         Line::Makespan(n) => put_number(alloc, object, "makespan", *n),
         Line::Chain(chain) => put(object, alloc, "chain", chain_value(alloc, chain)?),
         Line::IdChain(numbers, ids) => put_id_chain(alloc, object, numbers, ids),
+        Line::Moved(moved, count) => put_moved(alloc, object, *moved, *count),
+        Line::Ids(word, ids) => put(object, alloc, word, words_value(alloc, ids)?),
         Line::Summary {
             name,
             makespan,

@@ -17,6 +17,10 @@ pub enum Line {
     Chain(Option<Vec<u32>>),
     /// `chain A B E`: the same activities, and the ids of those that have one.
     IdChain(Vec<u32>, Vec<Vec<u8>>),
+    /// `moved 3 of 14`: how many activities start at another time, of those in both schedules.
+    Moved(u64, u64),
+    /// `added A B` or `none added`: a word and ids.
+    Ids(&'static str, Vec<Vec<u8>>),
     /// `A makespan 7: active`: the name, the makespan and the verdict of a schedule.
     Summary {
         name: &'static str,

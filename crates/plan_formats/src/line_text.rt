@@ -95,6 +95,37 @@ fn id_chain_text(alloc: Global, ids: &[Vec<u8>]) -> Result<Vec<u8>, AllocError>
     Ok(text)
 }
 
+// Returns a text and a number of which it is a part.
+fn of_count(alloc: Global, front: &str, count: u64) -> Result<String, AllocError>
+    ensures { IfOk result (λ text.
+        string_bytes text ≡ front.now ++ codes " of " ++ decimal count) }
+{
+    format!(in alloc; "{front} of {count}")
+}
+
+// Returns the numbers of activities that moved and that were compared.
+fn moved_words(alloc: Global, moved: u64, count: u64) -> Result<String, AllocError>
+    ensures { IfOk result (λ text. string_bytes text
+        ≡ codes "moved " ++ decimal moved ++ codes " of " ++ decimal count) }
+{
+    let front = worded(alloc, "moved", moved)?;
+    of_count(alloc, &front, count)
+}
+
+// Returns the text of a word and ids.
+fn ids_text(alloc: Global, word: &str, ids: &[Vec<u8>]) -> Result<Vec<u8>, AllocError>
+    ensures { IfOk result (λ text. text.items ≡ spec.none_before (map (λ id. id.items) ids.now)
+        ++ word.now ++ spec.spaced_words (map (λ id. id.items) ids.now)) }
+{
+    let mut text = Vec::new(alloc);
+    if ids.is_empty() {
+        text.extend_from_slice(b"none ")?;
+    }
+    text.extend_from_slice(word.as_bytes())?;
+    push_words(&mut text, ids)?;
+    Ok(text)
+}
+
 // Returns the text of a line, without its line feed.
 fn line_words(alloc: Global, line: &Line) -> Result<Vec<u8>, AllocError>
     ensures { IfOk result (λ text. text.items ≡ spec.line_words (spec.line_of line.now)) }
@@ -107,6 +138,8 @@ fn line_words(alloc: Global, line: &Line) -> Result<Vec<u8>, AllocError>
         Line::Makespan(n) => Ok(worded(alloc, "makespan", *n)?.into_bytes()),
         Line::Chain(chain) => Ok(chain_text(alloc, chain)?.into_bytes()),
         Line::IdChain(_, ids) => id_chain_text(alloc, ids),
+        Line::Moved(moved, count) => Ok(moved_words(alloc, *moved, *count)?.into_bytes()),
+        Line::Ids(word, ids) => ids_text(alloc, word, ids),
         Line::Summary {
             name,
             makespan,

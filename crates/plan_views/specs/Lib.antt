@@ -15,6 +15,7 @@ pub mod LineLists
 pub mod DayTables
 pub mod SlackTables
 pub mod ComparisonTables
+pub mod IdComparisons
 pub mod Bars
 pub mod Charts
 pub mod ChartData

@@ -37,8 +37,8 @@ fn columns(alloc: Global, plan: PlanRef<'_>) -> Result<Vec<Column>, AllocError>
     Ok(columns)
 }
 
-// Returns the cell of the shift from start `a` to start `b`.
-fn shift<'a>(a: u64, b: u64) -> Cell<'a>
+/// Returns the cell of the shift from start `a` to start `b`.
+pub(crate) fn shift<'a>(a: u64, b: u64) -> Cell<'a>
     requires a { a ≤ latest_start }
     requires b { b ≤ latest_start }
     ensures { cell_of result ≡ spec.shift_of a b }
