@@ -447,10 +447,12 @@ impl Code {
             Code::BadNumber => {
                 "Line N lacks a required number (one to nine digits, no sign); or a key of the header has no colon or no value."
             }
-            Code::JobOrder => "A job number in line N is out of order, or no job has this number.",
+            Code::JobOrder => {
+                "A job number in line N is out of order, or no job has this number. In a table of start times: the number or the id is unknown or repeated, or the duration or the end is wrong."
+            }
             Code::Modes => "The number of modes, or the mode, in line N isn't 1.",
             Code::Count => {
-                "A token is missing or extra. If it is missing, N is the line of the last token (of the title or the instance line if there is none), else of the first extra token."
+                "A token is missing or extra. If it is missing, N is the line of the last token (of the title or the instance line if there is none), else of the first extra token. The same for a row of a table of start times."
             }
             Code::Limit => {
                 "A number in line N is out of range. Projects: 2 to 502 jobs, 1 to 16 resources. Shops: 1 to 50 jobs, 1 to 20 machines. Durations and amounts: up to 10,000; all durations together up to 1,000,000. Starts: up to 10,000,000."
