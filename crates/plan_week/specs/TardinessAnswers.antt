@@ -5,20 +5,14 @@ use Rattle.plan_solve.specs.declared.plans.PlanAnswer.TheVariants.{Optimal, Betw
 use Rattle.plan_week.specs.declared.week.Week.{Week}
 use Rattle.plan_week.specs.declared.tardiness.TardyAnswer.{TardyAnswer}
 use Rattle.plan_week.specs.declared.tardiness.TardyAnswer.TheVariants.{Tardy, NotOnTime, NotKnown}
-use Rattle.plan_week.specs.declared.tardiness.Tightened.{Tightened}
-use Rattle.plan_week.specs.Weeks.{IsWeekPlan, makespan_of}
-use Rattle.plan_week.specs.WeekAnswers.{IsPlanOf, NoneEndsBy}
+use Rattle.plan_week.specs.Weeks.{IsWeekPlan}
+use Rattle.plan_week.specs.WeekAnswers.{NoneEndsBy}
 use Rattle.plan_week.specs.Tardiness.{greatest_tardiness}
 
 -- no plan of a week has a lesser greatest tardiness
 abbrev pub IsTardinessBound : Week → ℕ → Type 0
 IsTardinessBound week least =
     (starts : List ℕ) → IsWeekPlan week starts → least ≤ greatest_tardiness week starts
-
--- no plan of a week in which no activity is later than so much ends before an instant
-abbrev pub IsBoundWithin : Week → ℕ → ℕ → Type 0
-IsBoundWithin week late lower =
-    (starts : List ℕ) → IsWeekPlan week starts → greatest_tardiness week starts ≤ late → lower ≤ makespan_of week starts
 
 -- a plan of a week with its greatest tardiness, and a lower bound of that of all plans
 pub record IsTardyOf (week : Week) (starts : List ℕ) (late least : ℕ) : Type 0 where
@@ -31,13 +25,6 @@ abbrev pub IsTardyAnswerOf : Week → ℕ → TardyAnswer → Type 0
 IsTardyAnswerOf week limit (Tardy starts late least) = IsTardyOf week starts.items late least
 IsTardyAnswerOf week limit NotOnTime = NoneEndsBy week limit
 IsTardyAnswerOf week limit (NotKnown least) = IsTardinessBound week least
-
--- a plan of a week with its makespan, in which no activity is later than so much, and a lower bound
--- of the makespans of all such plans
-pub record IsTightenedOf (week : Week) (late : ℕ) (tightened : Tightened) : Type 0 where
-  pub plan : IsPlanOf week tightened.starts.items tightened.makespan
-  pub in_time : greatest_tardiness week tightened.starts.items ≤ late
-  pub bound : IsBoundWithin week late tightened.lower
 
 -- the same answer of a search over costs, less the latest due date, with numbers below 2^32
 abbrev pub IsSameTardiness : ℕ → PlanAnswer → TardyAnswer → Type 0

@@ -4,7 +4,7 @@ ghost use Rattle.std.specs.Prelude.{◌≡◌, ◌++◌, IfOk};
 ghost use Rattle.plan_week.specs.Tardiness as spec;
 
 use crate::input::numbers_of;
-use crate::state::{rest, state_of};
+use crate::state::{at, rest, rest_of, state_of};
 use crate::week::Week;
 use plan_kernel::{Input, StartWindow};
 use std::alloc::{AllocError, Global};
@@ -39,6 +39,16 @@ pub fn latest_due(week: &Week) -> u32
         latest = latest.max(date_or(0, wish_of(week, place)));
     }
     latest
+}
+
+/// Returns the tardiness of an activity: what its end is above its due date, or 0. An activity without
+/// a due date is due at the latest due date.
+pub fn tardiness_of(week: &Week, starts: &[u32], activity: usize) -> u64
+    ensures { result ≡ spec.tardiness_of week.now starts.now activity }
+{
+    let due = date_or(latest_due(week), wish_of(week, activity));
+    let end = at(starts, activity) as u64 + rest_of(week, activity) as u64;
+    end.saturating_sub(due as u64)
 }
 
 // Returns what the due date of each activity is before the latest one.

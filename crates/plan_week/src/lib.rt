@@ -13,7 +13,7 @@ mod tardiness;
 mod week;
 
 pub use answer::{SolvedWeek, WeekAnswer};
-pub use dues::{latest_due, limited_input, tardiness_input};
+pub use dues::{latest_due, limited_input, tardiness_input, tardiness_of};
 pub use input::input_of;
 pub use laws::{limits_are_enough, overloaded_weeks_have_no_plan, plain_weeks_stay_the_same};
 pub use limit::limit_of;

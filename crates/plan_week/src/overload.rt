@@ -1,12 +1,12 @@
 //! Overloads: what can't be moved and what is absent are more than there is.
 
-ghost use Rattle.std.specs.Prelude.{◌≡◌, ◌≤◌, ◌<◌, ◌+◌, ◌^◌, ℕ, IfSome, IfNone, IsTrue, IsFalse, length, slice_index};
+ghost use Rattle.std.specs.Prelude.{◌≡◌, ◌≤◌, ◌<◌, ◌+◌, ◌^◌, ℕ, IfSome, IfNone, IsTrue, IsFalse, length};
 ghost use Rattle.plan_sgs.specs.Problem as problems;
 ghost use Rattle.plan_kernel.specs.Plans as kernels;
 ghost use Rattle.plan_week.specs.Weeks as weeks;
 ghost use Rattle.plan_week.specs.Overloads as spec;
 
-use crate::state::{rest, state_of};
+use crate::state::{at, rest_of, state_of};
 use crate::week::{State, Week};
 use plan_kernel::Absence;
 
@@ -27,20 +27,6 @@ fn settled_start(today: u32, state: State) -> Option<u32>
         State::Begun { .. } => Some(today),
         State::Done { .. } => None,
     }
-}
-
-// Returns the number at a place, 0 if there is none.
-fn at(list: &[u32], place: usize) -> u32
-    ensures { result ≡ slice_index list.now place }
-{
-    if place < list.len() { list[place] } else { 0 }
-}
-
-// Returns how long an activity lasts from today on.
-fn rest_of(week: &Week, activity: usize) -> u32
-    ensures { result ≡ weeks.rest_of week.now activity }
-{
-    rest(at(&week.durations, activity), state_of(week, activity))
 }
 
 // Returns what an activity needs of a resource.

@@ -1,6 +1,6 @@
 //! States of activities.
 
-ghost use Rattle.std.specs.Prelude.{◌≡◌, ◌<◌, IsTrue, ◌↔◌};
+ghost use Rattle.std.specs.Prelude.{◌≡◌, slice_index};
 ghost use Rattle.plan_week.specs.Weeks as spec;
 ghost use Rattle.plan_week.specs.Inputs.{IsWindowOf};
 
@@ -30,6 +30,20 @@ pub fn rest(duration: u32, state: State) -> u32
         State::Begun { remaining, .. } => remaining,
         State::Done { .. } => 0,
     }
+}
+
+/// Returns the number at a place, 0 if there is none.
+pub fn at(list: &[u32], place: usize) -> u32
+    ensures { result ≡ slice_index list.now place }
+{
+    if place < list.len() { list[place] } else { 0 }
+}
+
+/// Returns how long an activity lasts from today on.
+pub fn rest_of(week: &Week, activity: usize) -> u32
+    ensures { result ≡ spec.rest_of week.now activity }
+{
+    rest(at(&week.durations, activity), state_of(week, activity))
 }
 
 /// Whether an activity is still to be started.

@@ -1,4 +1,4 @@
-//! The search for the least tardy plan of a week, and for the shortest of these.
+//! The search for the least tardy plan of a week.
 
 ghost use Rattle.std.specs.Prelude.{◌≡◌, ◌≤◌, ◌-◌, min, IfOk, IfErr};
 ghost use Rattle.plan_solve.specs.Progress.{HearsNothing};
@@ -34,16 +34,6 @@ pub enum TardyAnswer {
 pub struct SolvedTardiness {
     pub answer: TardyAnswer,
     pub limit: u32,
-    pub conflicts: u64,
-}
-
-/// A plan with its makespan, a lower bound of the makespans of all plans that are no later, and the
-/// number of conflicts that it took.
-#[derive(Debug, Drop)]
-pub struct Tightened {
-    pub starts: Vec<u32>,
-    pub makespan: u64,
-    pub lower: u64,
     pub conflicts: u64,
 }
 

@@ -5,12 +5,6 @@ use Rattle.plan_week.specs.Tardiness.{wish_of, date_or}
 use Rattle.plan_week.proofs.WeekLemmas.{project_count}
 use Rattle.plan_week.proofs.dues.latest_due.Goals as goal
 
-pub loop-place-preserved : goal.loop-place-preserved
-loop-place-preserved c =
-    let here : c.date_or.result ≡ date_or 0 (wish_of c.args.week.now c.loop-place.place) =
-    c.date_or.ensures ∙ ap (λ (w : Option ℕ). date_or 0 w) c.wish_of.ensures in
-    omega (arith, here, c.loop-place.invariant, c.max-latest.ensures)
-
 pub returns : goal.returns
 returns c =
     let n : c.loop-place.place ≡ count (project_of c.args.week.now) =

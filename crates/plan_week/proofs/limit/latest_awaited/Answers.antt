@@ -6,11 +6,6 @@ use Rattle.plan_week.specs.WeekAnswers.{awaited_by}
 use Rattle.plan_week.proofs.WeekLemmas.{project_count}
 use Rattle.plan_week.proofs.limit.latest_awaited.Goals as goal
 
-pub loop-place-preserved : goal.loop-place-preserved
-loop-place-preserved c =
-    let here = c.awaited_by.ensures ∙ ap (λ (s : State). awaited_by s) c.state_of.ensures in
-    omega (arith, here, c.loop-place.invariant, c.max-latest.ensures)
-
 pub returns : goal.returns
 returns c =
     let n : c.loop-place.place ≡ count (project_of c.args.week.now) =

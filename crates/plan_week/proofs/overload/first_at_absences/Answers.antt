@@ -13,9 +13,9 @@ loop-absence-preserved c =
     let here : (get_or c.deref-absence-items.result.now place no_absence).from ≡ (get_or week.absences.items place no_absence).from =
     ap (λ (xs : List Absence). (get_or xs place no_absence).from) c.deref-absence-items.ensures.value in
     found_any week (λ t. (j : ℕ) × (j < place) × at j t) (at place) (λ t. (j : ℕ) × (j < place + 1) × at j t) c.loop-absence.first c.overload_at.result
-    c.earlier.result c.loop-absence.invariant
+    c.earlier-first.result c.loop-absence.invariant
     (found_same week (λ t. t ≡ (get_or c.deref-absence-items.result.now place no_absence).from) (at place) c.overload_at.result c.overload_at.ensures (λ t is. sym is ∙ sym here))
-    c.earlier.ensures (λ t those. below_or_at place at t those)
+    c.earlier-first.ensures (λ t those. below_or_at place at t those)
 
 pub returns : goal.returns
 returns c =

@@ -12,7 +12,7 @@ loop-place-preserved c =
     let place : ℕ = c.loop-place.place in
     let at : ℕ → ℕ → Type 0 = λ i t. settled_start week.today (state_of week i) ≡ Some t in
     found_any week (λ t. (i : ℕ) × (i < place) × at i t) (at place) (λ t. (i : ℕ) × (i < place + 1) × at i t) c.loop-place.first c.overload_of.result
-    c.earlier.result c.loop-place.invariant c.overload_of.ensures c.earlier.ensures (λ t those. below_or_at place at t those)
+    c.earlier-first.result c.loop-place.invariant c.overload_of.ensures c.earlier-first.ensures (λ t those. below_or_at place at t those)
 
 pub returns : goal.returns
 returns c =

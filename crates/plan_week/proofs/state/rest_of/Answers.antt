@@ -1,6 +1,6 @@
 use Rattle.std.proofs.Common.{◌∙◌, ℕ, List, get_or, ap}
 use Rattle.plan_week.proofs.WeekLemmas.{rest_is}
-use Rattle.plan_week.proofs.overload.rest_of.Goals as goal
+use Rattle.plan_week.proofs.state.rest_of.Goals as goal
 
 pub returns : goal.returns
 returns c =
