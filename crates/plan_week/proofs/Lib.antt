@@ -1,0 +1,9 @@
+mod ListLemmas
+mod WeekLemmas
+mod PlainLemmas
+mod AnswerLemmas
+mod OverloadLemmas
+mod TardinessLemmas
+mod LimitedLemmas
+mod TardyAnswerLemmas
+mod LimitLemmas
