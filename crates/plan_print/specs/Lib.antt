@@ -1,5 +1,6 @@
 pub mod Digests
 pub mod Layouts
+pub mod Links
 pub mod Margins
 pub mod Sheets
 pub mod Prints

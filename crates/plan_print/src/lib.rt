@@ -6,10 +6,13 @@ mod charts;
 mod digests;
 mod events;
 mod layouts;
+mod links;
 mod margins;
+mod names;
 mod prints;
 mod reports;
 mod sheets;
 
+pub use plan_sheet::{DayStyle, Events};
 pub use prints::{NamedOrigin, Print, print_on_files, print_on_named};
 pub use sheets::Sheet;
