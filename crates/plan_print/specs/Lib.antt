@@ -1,4 +1,5 @@
 pub mod Digests
+pub mod Hours
 pub mod Layouts
 pub mod Links
 pub mod Margins

@@ -5,6 +5,7 @@
 mod charts;
 mod digests;
 mod events;
+mod hours;
 mod layouts;
 mod links;
 mod margins;
@@ -13,6 +14,7 @@ mod prints;
 mod reports;
 mod sheets;
 
+pub use hours::hours_of;
 pub use plan_sheet::{DayStyle, Events};
 pub use prints::{NamedOrigin, Print, print_on_files, print_on_named};
 pub use sheets::Sheet;
