@@ -15,6 +15,7 @@ PLAN_PROGRAM names.
 
 import collections
 import os
+import re
 import sys
 import tempfile
 from random import Random
@@ -142,13 +143,23 @@ def starts_table(folder, is_shop, made):
     return written(folder, "starts", plan(folder, *words)[1] or b"0\n")
 
 
+def without_idle_steps(page):
+    """A report of a job shop without the rows of steps that take no time."""
+    def is_idle(row):
+        return re.findall(rb"<td[^>]*>([^<]*)</td>", row)[2:3] == [b"0"]
+
+    return b"".join(line for line in page.splitlines(keepends=True) if not (line.startswith(b"<tr><th scope=\"row\"") and is_idle(line)))
+
+
 def compare_command(what, folder, command, instances, options, made_folder, notes):
     """That a command answers for a list as for the file that is made of it, with the notes on the list
-    behind an output."""
+    behind an output. The report of a list of orders has no steps that take no time."""
     named, plainly = options
     own, other = instances
     found = plan(folder, *words_on(command, "list.csv", own, named))
     status, output, errors = plan(made_folder, *words_on(command, "list.csv", other, plainly))
+    if command[0][0] == "report" and other:
+        output = without_idle_steps(output)
     same(f"{what}: {command}", found, (status, output, errors + notes if output else errors))
 
 

@@ -56,6 +56,7 @@ pub enum Code {
     NoCalendar,
     BadHoliday,
     ManyHolidays,
+    BadHours,
     DoesNotFollow,
     BadLogLine,
     UnknownCode,
@@ -140,6 +141,7 @@ impl Code {
             "G4" => Some(Code::NoCalendar),
             "G5" => Some(Code::BadHoliday),
             "G6" => Some(Code::ManyHolidays),
+            "G7" => Some(Code::BadHours),
             "V1" => Some(Code::DoesNotFollow),
             "V2" => Some(Code::BadLogLine),
             "C1" => Some(Code::UnknownCode),
@@ -224,6 +226,7 @@ impl Code {
             Code::NoCalendar => "G4",
             Code::BadHoliday => "G5",
             Code::ManyHolidays => "G6",
+            Code::BadHours => "G7",
             Code::DoesNotFollow => "V1",
             Code::BadLogLine => "V2",
             Code::UnknownCode => "C1",
@@ -307,6 +310,7 @@ impl Code {
             Code::NoCalendar => "the plan has no calendar",
             Code::BadHoliday => "a line of the holidays is invalid",
             Code::ManyHolidays => "too many holidays",
+            Code::BadHours => "bad hours of a working day",
             Code::DoesNotFollow => "a line of the log doesn't follow",
             Code::BadLogLine => "a line isn't one of a log",
             Code::UnknownCode => "no such code",
@@ -397,6 +401,7 @@ impl Code {
             Code::NoCalendar => "G4 no calendar",
             Code::BadHoliday => "G5 line N date",
             Code::ManyHolidays => "G6 holidays",
+            Code::BadHours => "G7 hours",
             Code::DoesNotFollow => "V1 line N",
             Code::BadLogLine => "V2 line N",
             Code::UnknownCode => "C1 unknown code",
@@ -544,6 +549,9 @@ impl Code {
             Code::ManyHolidays => {
                 "The file of holidays names more than 10,000 days, or has more than 1,048,576 bytes. A day counts as often as it is named."
             }
+            Code::BadHours => {
+                "The number of time units of a working day isn't from 1 to 24, or its opening time isn't from 00:00 to 23:59 in the form 07:00, or its last hour would end after midnight."
+            }
             Code::DoesNotFollow => {
                 "Line N of the log doesn't follow from the problem and the lines above it, so the log shows nothing."
             }
@@ -681,6 +689,7 @@ impl Code {
             Code::NoCalendar => "Set its first date and its weekday marks.",
             Code::BadHoliday => "Correct the line. A comment starts with #.",
             Code::ManyHolidays => "Delete the days before and after the schedule.",
+            Code::BadHours => "Give fewer time units, or an earlier opening time.",
             Code::DoesNotFollow => {
                 "Give the file of which the log was written, or write the log again with plan solve --log."
             }

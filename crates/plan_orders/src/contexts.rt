@@ -97,7 +97,7 @@ fn print_context<'a>(print: Print<'a>) -> Context<'a> {
     }
     context.holidays = print.holidays;
     match print.sheet {
-        Sheet::Events(dates)
+        Sheet::Events { dates, .. }
         | Sheet::Report {
             dates: Some(dates),
             ..

@@ -3,7 +3,7 @@
 use clap::ArgMatches;
 use plan_cli::{Capacity, Dates, NamedText, Origin, Pair, Role, Rows, Subject, Task, Template};
 use plan_formats::Format;
-use plan_print::{NamedOrigin, Print, Sheet};
+use plan_print::{DayStyle, Events, NamedOrigin, Print, Sheet};
 use plan_solve::MOST_CONFLICTS;
 use plan_table::Override;
 use std::alloc::{AllocError, Global};
@@ -679,7 +679,10 @@ fn events_order<'a>(
 ) -> Option<Print<'a>> {
     let words = schedule_words(arguments, "MARKS")?;
     Some(Print {
-        sheet: Sheet::Events(dates_behind_rule(arguments)?),
+        sheet: Sheet::Events {
+            dates: dates_behind_rule(arguments)?,
+            events: Events::plain(),
+        },
         subject: subject_of(words.instance, capacities),
         origin: words.origin,
         holidays: arguments.get_str("holidays"),
@@ -742,6 +745,7 @@ fn report_order<'a>(
         sheet: Sheet::Report {
             title: title.unwrap_or(title_of(instance, file)),
             dates: report_dates(arguments),
+            style: DayStyle::plain(),
             by_job: arguments.get_str("by") == Some("job"),
         },
         subject: subject_of(instance, capacities),

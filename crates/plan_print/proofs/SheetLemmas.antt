@@ -1,7 +1,11 @@
 -- The sheets of schedules, and their refusals.
-use Rattle.std.proofs.Common.{◌≡◌, inl, inr, ℕ, List, Result, Err, subst}
+use Rattle.std.proofs.Common.{◌≡◌, inl, inr, ℕ, Bool, false, List, Option, Result, Err, ap, subst, ◌∙◌}
 use Rattle.std.specs.Prelude.{IsErrOf}
+use Rattle.plan_calendar.specs.Hours.{WorkHours}
 use Rattle.plan_calendar.specs.WorkingDay.{Workdays}
+use Rattle.plan_table.specs.Names.{Name}
+use Rattle.plan_sheet.specs.Names.{SheetNames}
+use Rattle.plan_sheet.specs.Reports.{IsReportBeyond}
 use Rattle.plan_errors.specs.declared.fault.CliFault.{CliFault}
 use Rattle.plan_errors.specs.Output.{Refuses}
 use Rattle.plan_cli.specs.Calendars.{IsDated, TellsNoCalendar}
@@ -11,10 +15,12 @@ use Rattle.plan_cli.specs.DaysRun.{TellsBeyond, TellsDaysFault, TellsNoDays}
 use Rattle.plan_cli.specs.Scheduled.{IsMadeFrom, TellsNotMade}
 use Rattle.plan_cli.specs.declared.calendars.Dates.{Dates}
 use Rattle.plan_documents.specs.declared.documents.Plan.{Plan}
+use Rattle.plan_documents.specs.declared.documents.Plan.TheVariants as plan
 use Rattle.plan_documents.specs.declared.documents.Subject.{Subject}
 use Rattle.plan_cli.specs.declared.schedules.Scheduled.{Scheduled}
 use Rattle.plan_cli.specs.declared.origins.Origin.{Origin}
 use Rattle.plan_documents.proofs.ErrorLemmas.{refuses_as}
+use Rattle.plan_print.specs.Layouts.{layout_of}
 use Rattle.plan_print.specs.declared.sheets.Sheet.{Sheet}
 use Rattle.plan_print.specs.Sheets.{IsSheetOf, HidesSheet, IsSheetFrom, TellsNoSheetFrom}
 
@@ -41,9 +47,9 @@ pub schedule_refused : (from : Origin) (s : Sheet) (p : Plan) (e : CliFault) →
 schedule_refused from s p e t = refuses_as (TellsNotMade from p) (TellsNoSheetFrom from s p) e (λ line tells. inl tells) t
 
 -- the sheet of a plan's schedule
-pub sheet_shown : (from : Origin) (s : Sheet) (of : Subject) (file : List ℕ) (p : Plan) (m : Scheduled) (text : List ℕ)
-    → IsMadeFrom from p m → IsSheetOf s of file p m.schedule.starts.items m.lower text → IsSheetFrom from s of file p text
-sheet_shown from s of file p m text made shown = record {
+pub sheet_shown : (listed : Bool) (from : Origin) (s : Sheet) (of : Subject) (file : List ℕ) (p : Plan) (m : Scheduled) (text : List ℕ)
+    → IsMadeFrom from p m → IsSheetOf listed s of file p m.schedule.starts.items m.lower text → IsSheetFrom listed from s of file p text
+sheet_shown listed from s of file p m text made shown = record {
   starts = m.schedule.starts.items;
   schedule = made.starts;
   lower = m.lower;
@@ -61,3 +67,21 @@ sheet_hidden from s p m e made t =
       schedule = made.starts;
       hidden = tells;
     })) t
+
+-- steps that aren't shown don't change the days of a report
+pub beyond_same : (hours : Option WorkHours) (p : Plan) (by_job listed : Bool) (starts : List ℕ) (c : Workdays)
+    → IsReportBeyond hours (layout_of p by_job listed) starts c → IsReportBeyond hours (layout_of p by_job false) starts c
+beyond_same hours (plan.Project i ids) by_job listed starts c late = late
+beyond_same hours (plan.Shop s) by_job listed starts c late = late
+
+-- these names of a sheet
+abbrev pub names_with : List Name → List Name → List Name → List Name → List Name → SheetNames
+names_with lines legend ids resources predecessors =
+    record { lines = lines; legend = legend; ids = ids; resources = resources; predecessors = predecessors }
+
+-- names with the same parts
+pub names_same : (a b c d e k l m n o : List Name) → a ≡ k → b ≡ l → c ≡ m → d ≡ n → e ≡ o
+    → names_with a b c d e ≡ names_with k l m n o
+names_same a b c d e k l m n o first second third fourth fifth =
+    ap (λ x. names_with x b c d e) first ∙ ap (λ x. names_with k x c d e) second ∙ ap (λ x. names_with k l x d e) third
+    ∙ ap (λ x. names_with k l m x e) fourth ∙ ap (λ x. names_with k l m n x) fifth

@@ -1,5 +1,7 @@
 pub mod Digests
+pub mod Hours
 pub mod Layouts
+pub mod Links
 pub mod Margins
 pub mod Sheets
 pub mod Prints

@@ -1,6 +1,6 @@
 -- The output of a command that prints a sheet, for the bytes that it reads (docs/definitions.md,
 -- "Runs").
-use Rattle.std.specs.Prelude.{◌≡◌, ◌⊎◌, ℕ, List, Option, Some, None, Result, codes}
+use Rattle.std.specs.Prelude.{◌≡◌, ◌⊎◌, ℕ, Bool, is_some, List, Option, Some, None, Result, codes}
 use denote.Ref.{Bor}
 use Rattle.plan_errors.specs.Faults.{IsUnread}
 use Rattle.plan_errors.specs.Output.{Writes}
@@ -21,9 +21,9 @@ use Rattle.plan_print.specs.declared.prints.NamedOrigin.{NamedOrigin}
 use Rattle.plan_print.specs.declared.prints.NamedOrigin.TheVariants as named
 use Rattle.plan_print.specs.declared.prints.Print.{Print}
 
--- a text is a sheet of the project or the job shop in a file
-abbrev pub IsSheet : Sheet → Subject → Origin → List ℕ → List ℕ → Type 0
-IsSheet s of from file = IsOfSubject of (IsSheetFrom from s of file) file
+-- a text is a sheet of the project or the job shop in a file, which may be that of a list
+abbrev pub IsSheet : Bool → Sheet → Subject → Origin → List ℕ → List ℕ → Type 0
+IsSheet listed s of from file = IsOfSubject of (IsSheetFrom listed from s of file) file
 
 -- a line gives the first check that a file fails, or else refuses its sheet
 abbrev pub RefusesSheet : Sheet → Subject → Origin → List ℕ → List ℕ → Type 0
@@ -45,9 +45,9 @@ IsOriginFor (Some given) of from = from ≡ given
 IsOriginFor None of from = IsDefaultOrigin of from
 
 -- a text is the sheet for what a command reads
-abbrev pub IsSheetBy : Sheet → Option Origin → Subject → List ℕ → List ℕ → Type 0
-IsSheetBy s given of file text = (from : Origin) × IsOriginFor given of from
-    × IsSheet s of from file text
+abbrev pub IsSheetBy : Bool → Sheet → Option Origin → Subject → List ℕ → List ℕ → Type 0
+IsSheetBy listed s given of file text = (from : Origin) × IsOriginFor given of from
+    × IsSheet listed s of from file text
 
 -- a line refuses the sheet for what a command reads
 abbrev pub RefusesSheetBy : Sheet → Option Origin → Subject → List ℕ → List ℕ → Type 0
@@ -56,7 +56,7 @@ RefusesSheetBy s given of file line = (from : Origin) × IsOriginFor given of fr
 
 -- a text is a sheet of the project or the job shop in a file, which may be a list
 abbrev pub IsSheetRead : Sheet → Subject → Option Origin → List ℕ → List ℕ → Type 0
-IsSheetRead s of given file text = ReadsAs of file (λ kind a read. IsSheetBy s given a read text)
+IsSheetRead s of given file text = ReadsAs of file (λ kind a read. IsSheetBy (is_some kind) s given a read text)
 
 -- a line gives the first check that a file fails, which may be a list, or else refuses its sheet
 abbrev pub RefusesSheetRead : Sheet → Subject → Option Origin → List ℕ → List ℕ → Type 0
@@ -69,9 +69,9 @@ some_with (Some dates) text = Some (dates_with dates text)
 
 -- the sheet with the holidays in a text, if it has dates
 abbrev pub sheet_with : Sheet → Bor (List ℕ) → Sheet
-sheet_with (sheet.Events dates) text = sheet.Events (dates_with dates text)
+sheet_with (sheet.Events dates e) text = sheet.Events (dates_with dates text) e
 sheet_with (sheet.Chart title) text = sheet.Chart title
-sheet_with (sheet.Report title dates by_job) text = sheet.Report title (some_with dates text) by_job
+sheet_with (sheet.Report title dates style by_job) text = sheet.Report title (some_with dates text) style by_job
 
 -- Unless the input fails or memory runs out, the sheet is written for the bytes that were read, or
 -- the line that refuses it is the error.

@@ -5,11 +5,16 @@
 mod charts;
 mod digests;
 mod events;
+mod hours;
 mod layouts;
+mod links;
 mod margins;
+mod names;
 mod prints;
 mod reports;
 mod sheets;
 
+pub use hours::hours_of;
+pub use plan_sheet::{DayStyle, Events};
 pub use prints::{NamedOrigin, Print, print_on_files, print_on_named};
 pub use sheets::Sheet;

@@ -70,15 +70,20 @@ fn sheet_with<'a>(sheet: Sheet<'a>, holidays: &'a [u8]) -> Sheet<'a>
     ensures { result ≡ spec.sheet_with sheet.entry holidays.entry }
 {
     match sheet {
-        Sheet::Events(dates) => Sheet::Events(dates_with(dates, holidays)),
+        Sheet::Events { dates, events } => Sheet::Events {
+            dates: dates_with(dates, holidays),
+            events,
+        },
         Sheet::Chart(title) => Sheet::Chart(title),
         Sheet::Report {
             title,
             dates,
+            style,
             by_job,
         } => Sheet::Report {
             title,
             dates: some_with(dates, holidays),
+            style,
             by_job,
         },
     }

@@ -17,17 +17,22 @@ use plan_cli::{
     CliFault, Dates, Origin, Plan, ProofWatcher, Scheduled, SolveWatcher, Subject, Unlogged,
     plan_of, read_document, readable, schedule_from, with_names,
 };
-use plan_sheet::Heading;
+use plan_sheet::{DayStyle, Events, Heading};
 use std::alloc::Global;
 
-/// A sheet of a schedule.
+/// A sheet of a schedule. That of a project with ids shows the activities with ids, by their ids.
+/// That of a list of orders shows the steps that take time.
 #[derive(Clone, Copy, Debug, Drop)]
 pub enum Sheet<'a> {
-    /// A calendar file (RFC 5545) with an event for each activity or step that takes time. A time
-    /// unit is a working day. The identifiers of events have the SHA-256 of the file, for a job
-    /// shop that of the file, a zero byte and the name of the instance. Errors: those of
-    /// `Task::Days`, with `G3` also if the day after the last one is after 9999-12-31.
-    Events(Dates<'a>),
+    /// A calendar file (RFC 5545) with an event for each wanted activity or step that takes time.
+    /// Without a word of `events` the identifiers have the SHA-256 of the file, for a job shop that
+    /// of the file, a zero byte and the name of the instance. Errors: those of `Task::Days`, with
+    /// `G3` also if the day after the last one is after 9999-12-31.
+    Events {
+        dates: Dates<'a>,
+        /// `Events::plain()`: all events, by numbers, on whole days.
+        events: Events<'a>,
+    },
     /// The Gantt chart as an SVG file with this title, in time units: a line for each activity, or
     /// for each machine. Errors: those of `Task::Chart`.
     Chart(&'a str),
@@ -37,38 +42,46 @@ pub enum Sheet<'a> {
         title: &'a str,
         /// Errors: those of `Task::Days` with dates, else those of `Task::Chart`.
         dates: Option<Dates<'a>>,
+        /// How days are shown. `DayStyle::plain()`: a date for each time unit.
+        style: DayStyle,
         /// Whether the chart of a job shop has a line for each job, else for each machine.
         by_job: bool,
     },
 }
 
-// Returns a sheet of a plan's schedule, for the file of the plan.
+// Returns a sheet of a plan's schedule, for the file of the plan, which may be that of a list.
 fn schedule_sheet(
     alloc: Global,
     sheet: Sheet<'_>,
+    listed: bool,
     subject: Subject<'_>,
     file: &[u8],
     plan: &Plan<'_>,
     made: &Scheduled,
 ) -> Result<String, CliFault>
     requires { CanBeShown (count_of plan.now) made.now.schedule }
-    ensures made { IfText result (spec.IsSheetOf sheet.entry subject.entry file.now
+    ensures made { IfText result (spec.IsSheetOf listed sheet.entry subject.entry file.now
         plan.now made.now.schedule.starts.items made.now.lower) }
     ensures refused { IfErr result (Refuses
         (spec.HidesSheet sheet.entry plan.now made.now.schedule.starts.items)) }
 {
     let schedule = &made.schedule;
     match sheet {
-        Sheet::Events(dates) => events_text(alloc, dates, subject, file, plan, schedule),
-        Sheet::Chart(title) => chart_text(alloc, title, subject, file, plan, schedule),
+        Sheet::Events { dates, events } => {
+            events_text(alloc, dates, &events, listed, subject, file, plan, schedule)
+        }
+        Sheet::Chart(title) => chart_text(alloc, title, listed, subject, file, plan, schedule),
         Sheet::Report {
             title,
             dates,
+            style,
             by_job,
         } => {
             let lower = made.lower;
             let heading = Heading { title, lower };
-            report_text(alloc, heading, dates, by_job, subject, file, plan, schedule)
+            report_text(
+                alloc, heading, dates, &style, by_job, listed, subject, file, plan, schedule,
+            )
         }
     }
 }
@@ -97,6 +110,7 @@ fn named_schedule<V: ProofWatcher + SolveWatcher>(
 fn plan_sheet<V: ProofWatcher + SolveWatcher>(
     alloc: Global,
     sheet: Sheet<'_>,
+    listed: bool,
     subject: Subject<'_>,
     origin: Origin<'_>,
     file: &[u8],
@@ -104,32 +118,33 @@ fn plan_sheet<V: ProofWatcher + SolveWatcher>(
     watcher: &mut V,
 ) -> Result<String, CliFault>
     ensures made { IfText result
-        (spec.IsSheetFrom origin.entry sheet.entry subject.entry file.now plan.now) }
+        (spec.IsSheetFrom listed origin.entry sheet.entry subject.entry file.now plan.now) }
     ensures refused { IfErr result (Refuses
         (spec.TellsNoSheetFrom origin.entry sheet.entry plan.now)) }
 {
     let made = named_schedule(alloc, subject, origin, file, plan, watcher)?;
-    schedule_sheet(alloc, sheet, subject, file, plan, &made)
+    schedule_sheet(alloc, sheet, listed, subject, file, plan, &made)
 }
 
-// Returns a sheet of the project or the job shop in a file, which is no list. The watcher is called
-// during a search, and can stop it.
+// Returns a sheet of the project or the job shop in a file, which may be made of a list. The watcher
+// is called during a search, and can stop it.
 fn sheet_text<V: ProofWatcher + SolveWatcher>(
     alloc: Global,
     sheet: Sheet<'_>,
+    listed: bool,
     subject: Subject<'_>,
     origin: Origin<'_>,
     file: &[u8],
     watcher: &mut V,
 ) -> Result<String, CliFault>
     ensures made { IfText result
-        (IsSheet sheet.entry subject.entry origin.entry file.now) }
+        (IsSheet listed sheet.entry subject.entry origin.entry file.now) }
     ensures refused { IfErr result (Refuses
         (RefusesSheet sheet.entry subject.entry origin.entry file.now)) }
 {
     let document = read_document(alloc, subject, file)?;
     let plan = plan_of(alloc, &document, file)?;
-    plan_sheet(alloc, sheet, subject, origin, file, &plan, watcher)
+    plan_sheet(alloc, sheet, listed, subject, origin, file, &plan, watcher)
 }
 
 // Returns the default rule for a project or a job shop.
@@ -163,18 +178,19 @@ fn origin_for<'a>(given: Option<Origin<'a>>, subject: Subject<'_>) -> Origin<'a>
 fn sheet_by<V: ProofWatcher + SolveWatcher>(
     alloc: Global,
     sheet: Sheet<'_>,
+    listed: bool,
     subject: Subject<'_>,
     given: Option<Origin<'_>>,
     file: &[u8],
     watcher: &mut V,
 ) -> Result<String, CliFault>
     ensures made { IfText result
-        (prints.IsSheetBy sheet.entry given.entry subject.entry file.now) }
+        (prints.IsSheetBy listed sheet.entry given.entry subject.entry file.now) }
     ensures refused { IfErr result (Refuses
         (prints.RefusesSheetBy sheet.entry given.entry subject.entry file.now)) }
 {
     let origin = origin_for(given, subject);
-    sheet_text(alloc, sheet, subject, origin, file, watcher)
+    sheet_text(alloc, sheet, listed, subject, origin, file, watcher)
 }
 
 /// Returns a sheet of the project or the job shop in a file, or in the file that `plan import` makes
@@ -194,5 +210,14 @@ pub(crate) fn read_sheet<V: ProofWatcher + SolveWatcher>(
         (prints.RefusesSheetRead sheet.entry subject.entry given.entry file.now)) }
 {
     let read = readable(alloc, subject, file)?;
-    sheet_by(alloc, sheet, read.subject, given, read.text(file), watcher)
+    let listed = read.kind.is_some();
+    sheet_by(
+        alloc,
+        sheet,
+        listed,
+        read.subject,
+        given,
+        read.text(file),
+        watcher,
+    )
 }

@@ -6,9 +6,8 @@ use Rattle.std.proofs.lemmas.List.{flat_map_more}
 use Rattle.std.proofs.lemmas.List.Elements.{All-nil, All-cons, All-head, All-tail}
 use Rattle.std.proofs.lemmas.List.Sums.{sum_by-cons}
 use Rattle.jiff_core.specs.declared.civil.date.Date.{Date}
-use Rattle.plan_sheet.specs.Axis.{axis_from}
+use Rattle.plan_sheet.specs.Axis.{begin_place}
 use Rattle.plan_sheet.specs.Changes.{IsQuiet, change_after, earlier, least_after}
-use Rattle.plan_sheet.specs.Place.{place}
 use Rattle.plan_sheet.specs.Usage.{level, step, step_at}
 use Rattle.plan_sheet.specs.Uses.{amount_at, used_at, used_before}
 use Rattle.plan_sheet.specs.declared.uses.Use.{Use}
@@ -92,17 +91,17 @@ before_same uses t quiet =
 same_test : (a b : ℕ) → a ≡ b → (a == b) ≡ true
 same_test a b same = grind (arith, nat_tests)
 
-quiet_next : (span : ℕ) (days : List Date) (capacity : ℕ) (uses : List Use) (t : ℕ) → IsQuiet uses (t + 1) → step_at span days capacity uses (t + 1) ≡ []
-quiet_next span days capacity uses t quiet =
-    ap (λ (b : Bool). if b then [] else step (place span (axis_from days (t + 1))) (level capacity (used_at uses (t + 1))))
+quiet_next : (span : ℕ) (days : List Date) (per_day : ℕ) (capacity : ℕ) (uses : List Use) (t : ℕ) → IsQuiet uses (t + 1) → step_at span days per_day capacity uses (t + 1) ≡ []
+quiet_next span days per_day capacity uses t quiet =
+    ap (λ (b : Bool). if b then [] else step (begin_place span days per_day (t + 1)) (level capacity (used_at uses (t + 1))))
     (same_test (used_at uses (t + 1)) (used_before uses (t + 1)) (before_same uses t quiet))
 
 -- no step at a quiet instant
-pub quiet_step : (span : ℕ) (days : List Date) (capacity : ℕ) (uses : List Use) (t u : ℕ) → t < u → IsQuiet uses u → step_at span days capacity uses u ≡ []
-quiet_step span days capacity uses t u late quiet =
+pub quiet_step : (span : ℕ) (days : List Date) (per_day : ℕ) (capacity : ℕ) (uses : List Use) (t u : ℕ) → t < u → IsQuiet uses u → step_at span days per_day capacity uses u ≡ []
+quiet_step span days per_day capacity uses t u late quiet =
     let is : u - 1 + 1 ≡ u = omega (arith, late) in
-    subst (λ n. step_at span days capacity uses n ≡ []) is
-    (quiet_next span days capacity uses (u - 1) (subst (λ n. IsQuiet uses n) (sym is) quiet))
+    subst (λ n. step_at span days per_day capacity uses n ≡ []) is
+    (quiet_next span days per_day capacity uses (u - 1) (subst (λ n. IsQuiet uses n) (sym is) quiet))
 
 -- numbers that add nothing
 skip : (f : ℕ → List ℕ) (before : List ℕ) (n k m : ℕ) → k + n ≡ m → ((u : ℕ) → k ≤ u → u < m → f u ≡ []) →

@@ -1,12 +1,13 @@
 -- The folding of content lines, and the lengths of folded lines.
 use Rattle.std.proofs.Common.{◌≡◌, ℕ, ◌+◌, ◌≤◌, Bool, true, false, ◌||◌, ◌==◌, nat_lt, List, [], ◌∷◌, ◌++◌, length, flat_map, chars, codes, encode_utf8, IsUtf8, refl, sym, ap, ◌∙◌, subst, arith, append_assoc, append-nil}
 use Rattle.std.specs.Char.{len_utf8}
+use Rattle.std.specs.Fmt.{decimal}
 use Rattle.std.proofs.lemmas.Bool.{leb-true}
 use Rattle.std.proofs.lemmas.Bool.Decides.{nat_tests}
 use Rattle.std.proofs.lemmas.Str.{chars_past_char, chars-nil, length-encode, len_utf8_bounds}
 use Rattle.std.proofs.lemmas.List.{nil_from_length}
-use Rattle.plan_sheet.specs.Ics.{has_room, used_with, folded_char, folded, line_end, content_line, property, Event, event_head, event_days, event_tail, event_text, calendar_head, calendar_end, text_value, are_short}
-use Rattle.plan_sheet.specs.Feed.{Feed, stamp_of, bar_event, bar_text, ics_text}
+use Rattle.plan_sheet.specs.Ics.{has_room, used_with, folded_char, folded, line_end, content_line, property, Event, event_head, event_sequence, event_clocks, event_days, event_times, event_tail, event_text, calendar_head, calendar_end, text_value, are_short}
+use Rattle.plan_sheet.specs.Feed.{Feed, stamp_of, bar_event, wants, wanted_text, bar_text, ics_text}
 use Rattle.plan_sheet.specs.declared.bars.Bar.{Bar}
 use Rattle.plan_sheet.proofs.EscapeLemmas.{if_cases}
 
@@ -103,20 +104,44 @@ keeps_tail name =
     keeps_both (property (codes "SUMMARY:") (text_value name)) (property (codes "END:") (codes "VEVENT"))
     (keeps (codes "SUMMARY:") (text_value name)) (keeps (codes "END:") (codes "VEVENT"))
 
-keeps_event : (stamp : List ℕ) (event : Event) → KeepsShort (event_text stamp event)
-unfolding event_text
-keeps_event stamp event =
-    keeps_both (event_head stamp event.uid ++ event_days event.first_day event.end_day) (event_tail event.name)
-    (keeps_both (event_head stamp event.uid) (event_days event.first_day event.end_day) (keeps_head stamp event.uid)
-    (keeps_days event.first_day event.end_day)) (keeps_tail event.name)
-
 keeps_nothing : KeepsShort []
 keeps_nothing = record { keeps = λ rest short. short }
 
+keeps_sequence : (sequence : ℕ) → KeepsShort (event_sequence sequence)
+unfolding event_sequence
+keeps_sequence sequence =
+    if_cases KeepsShort (nat_lt sequence 1) [] (property (codes "SEQUENCE:") (decimal sequence))
+    (λ _. keeps_nothing) (λ _. keeps (codes "SEQUENCE:") (decimal sequence))
+
+keeps_clocks : (begin end : List ℕ) → KeepsShort (event_clocks begin end)
+keeps_clocks begin end =
+    keeps_both (property (codes "DTSTART:") begin) (property (codes "DTEND:") end)
+    (keeps (codes "DTSTART:") begin) (keeps (codes "DTEND:") end)
+
+keeps_times : (timed : Bool) (begin end : List ℕ) → KeepsShort (event_times timed begin end)
+keeps_times true begin end = keeps_clocks begin end
+keeps_times false begin end = keeps_days begin end
+
+keeps_event : (stamp : List ℕ) (event : Event) → KeepsShort (event_text stamp event)
+unfolding event_text
+keeps_event stamp event =
+    let head = event_head stamp event.uid in
+    let sequence = event_sequence event.sequence in
+    let days = event_times event.timed event.begin event.end in
+    keeps_both ((head ++ sequence) ++ days) (event_tail event.name)
+    (keeps_both (head ++ sequence) days
+    (keeps_both head sequence (keeps_head stamp event.uid) (keeps_sequence event.sequence))
+    (keeps_times event.timed event.begin event.end)) (keeps_tail event.name)
+
+keeps_wanted : (feed : Feed) (bar : Bar) → KeepsShort (wanted_text feed bar)
+keeps_wanted feed bar =
+    if_cases KeepsShort (wants feed bar) (event_text (stamp_of feed.days) (bar_event feed bar)) []
+    (λ _. keeps_event (stamp_of feed.days) (bar_event feed bar)) (λ _. keeps_nothing)
+
 keeps_bar : (feed : Feed) (bar : Bar) → KeepsShort (bar_text feed bar)
 keeps_bar feed bar =
-    if_cases KeepsShort (nat_lt bar.from bar.to) (event_text (stamp_of feed.days) (bar_event feed bar)) []
-    (λ _. keeps_event (stamp_of feed.days) (bar_event feed bar)) (λ _. keeps_nothing)
+    if_cases KeepsShort (nat_lt bar.from bar.to) (wanted_text feed bar) []
+    (λ _. keeps_wanted feed bar) (λ _. keeps_nothing)
 
 keeps_bars : (feed : Feed) (bars : List Bar) → KeepsShort (flat_map (bar_text feed) bars)
 keeps_bars feed [] = keeps_nothing

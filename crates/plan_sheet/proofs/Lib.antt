@@ -9,3 +9,4 @@ pub mod UseLemmas
 pub mod ChangeLemmas
 pub mod CutLemmas
 pub mod ReportMarkupLemmas
+pub mod PartLemmas

@@ -55,6 +55,26 @@ end_of days t (Some day) = since_first days day + 1
 unfoldable pub axis_to : List Date → ℕ → ℕ
 axis_to days t = if nat_lt t 1 then 0 else end_of days t (slice_get days (t - 1))
 
+-- the time units of a day of the axis, 1 to 24
+abbrev pub units_of : ℕ → ℕ
+units_of per_day = min (max per_day 1) 24
+
+-- where the time unit from instant t on begins, and where that up to instant t ends; a day of the
+-- axis has as many units as a working day
+unfoldable pub unit_from : List Date → ℕ → ℕ → ℕ
+unit_from days per_day t =
+    axis_from days (t / units_of per_day) * units_of per_day + t % units_of per_day
+
+unfoldable pub unit_to : List Date → ℕ → ℕ → ℕ
+unit_to days per_day t = if nat_lt t 1 then 0 else unit_from days per_day (t - 1) + 1
+
+-- the same on a chart whose axis has so many days
+unfoldable pub begin_place : ℕ → List Date → ℕ → ℕ → ℕ
+begin_place span days per_day t = place (span * units_of per_day) (unit_from days per_day t)
+
+unfoldable pub end_place : ℕ → List Date → ℕ → ℕ → ℕ
+end_place span days per_day t = place (span * units_of per_day) (unit_to days per_day t)
+
 -- the number of the week of a day, if there is one; weeks begin on Monday
 abbrev pub week_of : Option Date → ℕ
 week_of None = 0

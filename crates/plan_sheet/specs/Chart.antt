@@ -1,29 +1,33 @@
 -- Gantt charts as SVG (docs/definitions.md, "Sheets"): one definition for each element.
 use Rattle.std.specs.Prelude.{ℕ, ◌+◌, ◌-◌, ◌*◌, ◌==◌, if◌then◌else◌, nat_lt, List, [], ◌++◌, map, codes}
-use Rattle.std.specs.Prelude.{Option, Some, None, min, slice_get, unwrap_or}
+use Rattle.std.specs.Prelude.{Option, Some, None, length, min, slice_get, unwrap_or}
 use Rattle.std.specs.Option.{option_map}
 use Rattle.std.specs.List.{flat_map, range_with_len}
 use Rattle.std.specs.Fmt.{decimal}
 use Rattle.jiff_core.specs.declared.civil.date.Date.{Date}
 use Rattle.plan_table.specs.Names.{Name, name_of}
-use Rattle.plan_sheet.specs.Axis.{axis_from, axis_to}
+use Rattle.plan_sheet.specs.Axis.{begin_place, end_place}
 use Rattle.plan_sheet.specs.Cuts.{cut}
 use Rattle.plan_sheet.specs.Escape.{escaped}
 use Rattle.plan_sheet.specs.Marks.{marks}
-use Rattle.plan_sheet.specs.Names.{label}
+use Rattle.plan_sheet.specs.Names.{id_label}
 use Rattle.plan_sheet.specs.Pieces.{counted}
-use Rattle.plan_sheet.specs.Place.{place, extent}
+use Rattle.plan_sheet.specs.Place.{extent}
 use Rattle.plan_sheet.specs.Titles.{title_of}
 use Rattle.plan_sheet.specs.declared.bars.Bar.{Bar}
 use Rattle.plan_sheet.specs.declared.chart.Chart as declared
 use Rattle.plan_sheet.specs.declared.styles.TheConstants.{BAR_LEFT, BAR_TIP, BAR_WIDTH, CHART_STYLE}
 use Rattle.plan_sheet.specs.declared.styles.TheConstants.{COLOURS, IMAGE, NARROW_BAR, TIGHT_CLASS, WIDE_BAR}
 
--- a chart: the length of its axis, the days of its instants, the names of its lines and of its
--- bars, the bars, and the slacks of activities, if they are shown
+-- a chart: the length of its axis, its working days, the time units of a working day, the numbers of
+-- its lines, the ids of its bars, the names of its lines and of its bars, the bars, and the slacks of
+-- activities, if they are shown
 pub record Chart : Type 0 where
   pub span : ℕ
   pub days : List Date
+  pub per_day : ℕ
+  pub lines : List ℕ
+  pub ids : List Name
   pub rows : List Name
   pub names : List Name
   pub bars : List Bar
@@ -35,18 +39,24 @@ chart_of c =
     record {
       span = c.span;
       days = c.days.now;
+      per_day = c.per_day;
+      lines = c.lines.now;
+      ids = map name_of c.ids.now;
       rows = map name_of c.rows.now;
       names = map name_of c.names.now;
       bars = c.bars.now;
       slacks = c.slacks.now;
     }
 
--- the same chart with other names
-abbrev pub renamed : Chart → List Name → List Name → Chart
-renamed chart rows names =
+-- the same chart with other ids and names
+abbrev pub renamed : Chart → List Name → List Name → List Name → Chart
+renamed chart ids rows names =
     record {
       span = chart.span;
       days = chart.days;
+      per_day = chart.per_day;
+      lines = chart.lines;
+      ids = ids;
       rows = rows;
       names = names;
       bars = chart.bars;
@@ -55,14 +65,14 @@ renamed chart rows names =
 
 -- where a bar begins and ends on the axis
 unfoldable pub left_of : Chart → Bar → ℕ
-left_of chart bar = place chart.span (axis_from chart.days bar.from)
+left_of chart bar = begin_place chart.span chart.days chart.per_day bar.from
 
 unfoldable pub right_of : Chart → Bar → ℕ
-right_of chart bar = place chart.span (axis_to chart.days bar.to)
+right_of chart bar = end_place chart.span chart.days chart.per_day bar.to
 
 -- the description of a bar: its title, its start and its end
-unfoldable pub tip_of : List Name → Bar → List ℕ
-tip_of names bar = title_of names bar ++ codes ", " ++ decimal bar.from ++ codes " to " ++ decimal bar.to
+unfoldable pub tip_of : List Name → List Name → Bar → List ℕ
+tip_of ids names bar = title_of ids names bar ++ codes ", " ++ decimal bar.from ++ codes " to " ++ decimal bar.to
 
 -- a milestone: a diamond around a place, with its description
 unfoldable pub diamond : ℕ → List ℕ → List ℕ
@@ -87,8 +97,8 @@ tail from to =
 abbrev pub tail_of : Chart → Bar → List ℕ
 tail_of chart bar =
     if nat_lt (unwrap_or (slack_of chart bar) 0) 1 then []
-    else tail (right_of chart bar) (place chart.span
-    (axis_to chart.days (min (bar.to + unwrap_or (slack_of chart bar) 0) 4294967295)))
+    else tail (right_of chart bar) (end_place chart.span chart.days chart.per_day
+    (min (bar.to + unwrap_or (slack_of chart bar) 0) 4294967295))
 
 -- the class of a rectangle: a narrow one has no stroke
 abbrev pub bar_class : ℕ → List ℕ
@@ -121,13 +131,13 @@ number_of chart bar =
 -- the diamond of an activity that takes no time; nothing for a step
 abbrev pub milestone_of : Chart → Bar → List ℕ
 milestone_of chart bar =
-    if nat_lt bar.step 1 then diamond (right_of chart bar) (escaped (tip_of chart.names bar)) else []
+    if nat_lt bar.step 1 then diamond (right_of chart bar) (escaped (tip_of chart.ids chart.names bar)) else []
 
 -- the rectangle of a bar that takes time, with its tail and its number
 unfoldable pub block_of : Chart → Bar → List ℕ
 block_of chart bar =
     rectangle (tight_class (slack_of chart bar)) (left_of chart bar)
-    (extent (left_of chart bar) (right_of chart bar)) (escaped (tip_of chart.names bar))
+    (extent (left_of chart bar) (right_of chart bar)) (escaped (tip_of chart.ids chart.names bar))
     ++ tail_of chart bar ++ number_of chart bar
 
 -- a bar: a diamond where it ends if it takes no time, else a rectangle
@@ -156,12 +166,21 @@ label_room = 33
 -- line n, as the k-th one from above
 unfoldable pub line_of : Chart → ℕ → ℕ → List ℕ
 line_of chart k n =
-    line_head (20 * k + 22) (escaped (cut label_room (label chart.rows n))) ++ bars_of chart n
+    line_head (20 * k + 22) (escaped (cut label_room (id_label chart.ids chart.rows n))) ++ bars_of chart n
     ++ codes "</g>\n"
 
--- the lines with `count` numbers from `first` on
+-- the number of the line at an index; 0 if there is none
+abbrev pub number_at : Chart → ℕ → ℕ
+number_at chart index = unwrap_or (slice_get chart.lines index) 0
+
+-- `count` lines from the one at index `first` on
 abbrev pub lines_of : Chart → ℕ → ℕ → List ℕ
-lines_of chart first count = flat_map (λ k. line_of chart k (first + k)) (range_with_len 0 count)
+lines_of chart first count =
+    flat_map (λ k. line_of chart k (number_at chart (first + k))) (range_with_len 0 count)
+
+-- the number of lines, at most 800,000
+abbrev pub line_count : Chart → ℕ
+line_count chart = min (length chart.lines) 800000
 
 -- the tag of an image of this height
 unfoldable pub image_tag : ℕ → List ℕ
@@ -182,5 +201,5 @@ abbrev pub styled_opening : List ℕ
 styled_opening = codes "<style>\n" ++ COLOURS.now ++ CHART_STYLE.now ++ codes "</style>\n"
 
 -- a chart alone
-abbrev pub svg_chart : List ℕ → Chart → ℕ → ℕ → List ℕ
-svg_chart title chart first count = image_of styled_opening title chart first count
+abbrev pub svg_chart : List ℕ → Chart → List ℕ
+svg_chart title chart = image_of styled_opening title chart 0 (line_count chart)

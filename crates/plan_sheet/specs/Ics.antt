@@ -3,6 +3,7 @@ use Rattle.std.specs.Prelude.{ℕ, ◌+◌, ◌==◌, Bool, true, ◌&&◌, ◌|
 use Rattle.std.specs.List.{flat_map}
 use Rattle.std.specs.Char.{encode_utf8, len_utf8}
 use Rattle.std.specs.Str.{chars}
+use Rattle.std.specs.Fmt.{decimal}
 use Rattle.plan_sheet.specs.Escape.{shown}
 use Rattle.plan_sheet.specs.declared.ics.Event as declared
 
@@ -49,26 +50,40 @@ content_line line = folded_text line ++ line_end
 unfoldable pub property : List ℕ → List ℕ → List ℕ
 property name value = content_line (name ++ value)
 
--- an event of whole days
+-- an event, of whole days if it isn't timed; its sequence is the number of its revision
 pub record Event : Type 0 where
+  pub timed : Bool
   pub uid : List ℕ
+  pub sequence : ℕ
   pub name : List ℕ
-  pub first_day : List ℕ
-  pub end_day : List ℕ
+  pub begin : List ℕ
+  pub end : List ℕ
 
 -- the same, as the program keeps it
 abbrev pub event_of : declared.Event → Event
 event_of e =
-    record { uid = e.uid.now; name = e.name.now; first_day = e.first_day.now; end_day = e.end_day.now }
+    record { timed = e.timed; uid = e.uid.now; sequence = e.sequence; name = e.name.now; begin = e.begin.now; end = e.end.now }
 
 -- the first properties of an event
 abbrev pub event_head : List ℕ → List ℕ → List ℕ
 event_head stamp uid =
     property (codes "BEGIN:") (codes "VEVENT") ++ property (codes "UID:") uid ++ property (codes "DTSTAMP:") stamp
 
+-- the revision of an event; nothing for revision 0, which RFC 5545 takes if there is no number
+unfoldable pub event_sequence : ℕ → List ℕ
+event_sequence sequence = if nat_lt sequence 1 then [] else property (codes "SEQUENCE:") (decimal sequence)
+
 -- the days of an event: its first one, and the one after its last one
 abbrev pub event_days : List ℕ → List ℕ → List ℕ
 event_days first end = property (codes "DTSTART;VALUE=DATE:") first ++ property (codes "DTEND;VALUE=DATE:") end
+
+-- the times of day of an event: when it begins and ends, wherever that is
+abbrev pub event_clocks : List ℕ → List ℕ → List ℕ
+event_clocks begin end = property (codes "DTSTART:") begin ++ property (codes "DTEND:") end
+
+-- the days or the times of an event
+abbrev pub event_times : Bool → List ℕ → List ℕ → List ℕ
+event_times timed begin end = if timed then event_clocks begin end else event_days begin end
 
 -- the last properties of an event
 abbrev pub event_tail : List ℕ → List ℕ
@@ -77,7 +92,8 @@ event_tail name = property (codes "SUMMARY:") (text_value name) ++ property (cod
 -- an event
 unfoldable pub event_text : List ℕ → Event → List ℕ
 event_text stamp event =
-    event_head stamp event.uid ++ event_days event.first_day event.end_day ++ event_tail event.name
+    event_head stamp event.uid ++ event_sequence event.sequence
+    ++ event_times event.timed event.begin event.end ++ event_tail event.name
 
 -- the first properties of a calendar file
 unfoldable pub calendar_head : List ℕ

@@ -4,8 +4,9 @@ pub mod Pieces
 pub mod Place
 pub mod Bars
 pub mod Layouts
-pub mod Axis
 pub mod Days
+pub mod Moments
+pub mod Axis
 pub mod DayLabels
 pub mod Marks
 pub mod Titles
@@ -16,8 +17,10 @@ pub mod Changes
 pub mod Usage
 pub mod Table
 pub mod Page
+pub mod Parts
 pub mod Ics
 pub mod Feed
+pub mod PlanEvents
 pub mod Plans
 pub mod Reports
 pub use Rattle.plan_net.specs.Network

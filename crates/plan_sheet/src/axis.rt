@@ -3,7 +3,7 @@
 ghost use Rattle.std.specs.Prelude.{◌≡◌, ◌*◌, ◌<◌, ◌≤◌};
 ghost use Rattle.plan_sheet.specs.Axis as spec;
 
-use crate::place::place;
+use crate::place::{fine_place, place};
 use jiff::civil::Date;
 
 // The first distance of which the span has at most 12; a thousand million if there is none.
@@ -106,6 +106,56 @@ pub(crate) fn axis_to(days: &[Date], t: u32) -> u32
         Some(&day) => since_first(days, day) + 1,
         None => t,
     }
+}
+
+/// Returns the time units of a day of the axis, 1 to 24.
+pub(crate) fn units_of(per_day: u32) -> u32
+    ensures units { result ≡ spec.units_of per_day }
+    ensures some { 1 ≤ result }
+    ensures most { result ≤ 24 }
+{
+    per_day.max(1).min(24)
+}
+
+// Returns where the time unit from instant `t` on begins. A day of the axis has as many units as a
+// working day.
+#[tactic(auto, unfolding(crate::specs::Axis::unit_from), using(crate::proofs::AxisLemmas::fine_product))]
+fn unit_from(days: &[Date], per_day: u32, t: u32) -> u64
+    ensures place { result ≡ spec.unit_from days.now per_day t }
+    ensures most { result ≤ 200000000000 }
+{
+    let units = units_of(per_day);
+    let day = axis_from(days, t / units);
+    u64::from(day) * u64::from(units) + u64::from(t % units)
+}
+
+// Returns where the time unit up to instant `t` ends.
+#[tactic(auto, unfolding(crate::specs::Axis::unit_to))]
+fn unit_to(days: &[Date], per_day: u32, t: u32) -> u64
+    ensures place { result ≡ spec.unit_to days.now per_day t }
+    ensures most { result ≤ 200000000001 }
+{
+    if t < 1 {
+        0
+    } else {
+        unit_from(days, per_day, t - 1) + 1
+    }
+}
+
+/// Returns where the time unit from instant `t` on begins on a chart whose axis has so many days.
+#[tactic(auto, unfolding(crate::specs::Axis::begin_place))]
+pub(crate) fn begin_place(span: u32, days: &[Date], per_day: u32, t: u32) -> u64
+    ensures { result ≡ spec.begin_place span days.now per_day t }
+{
+    fine_place(span, units_of(per_day), unit_from(days, per_day, t))
+}
+
+/// Returns where the time unit up to instant `t` ends on a chart whose axis has so many days.
+#[tactic(auto, unfolding(crate::specs::Axis::end_place))]
+pub(crate) fn end_place(span: u32, days: &[Date], per_day: u32, t: u32) -> u64
+    ensures { result ≡ spec.end_place span days.now per_day t }
+{
+    fine_place(span, units_of(per_day), unit_to(days, per_day, t))
 }
 
 // Returns the number of the week of instant `t`, 0 if it has no day.

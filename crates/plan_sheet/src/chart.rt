@@ -5,16 +5,15 @@ ghost use Rattle.plan_table.specs.Names.{name_of};
 ghost use Rattle.plan_sheet.specs.Chart as spec;
 ghost use Rattle.plan_sheet.specs.Cuts as cuts;
 ghost use Rattle.plan_sheet.specs.Escape as escape;
-ghost use Rattle.plan_sheet.specs.Names as named;
 
-use crate::axis::{axis_from, axis_to};
+use crate::axis::{begin_place, end_place};
 use crate::bars::Bar;
 use crate::cuts::cut;
 use crate::escape::escaped;
 use crate::marks::push_marks;
-use crate::names::label;
+use crate::names::id_label;
 use crate::pieces::push_counted;
-use crate::place::{extent, place};
+use crate::place::extent;
 use crate::styles::{
     BAR_LEFT, BAR_TIP, BAR_WIDTH, CHART_STYLE, COLOURS, IMAGE, NARROW_BAR, TIGHT_CLASS, WIDE_BAR,
 };
@@ -32,8 +31,14 @@ const LABEL_ROOM: u32 = 33;
 pub struct Chart<'a> {
     /// The length of the axis, in days of the calendar, or in time units without one.
     pub span: u32,
-    /// The days of its instants; empty without a calendar.
+    /// Its working days; empty without a calendar.
     pub days: &'a [Date],
+    /// The time units of a working day.
+    pub per_day: u32,
+    /// The numbers of its lines.
+    pub lines: &'a [u32],
+    /// The ids of its lines and bars; empty if they have their numbers.
+    pub ids: &'a [NameLine<'a>],
     /// The names of its lines.
     pub rows: &'a [NameLine<'a>],
     /// The names of its bars.
@@ -48,7 +53,7 @@ pub struct Chart<'a> {
 fn left_of(chart: &Chart<'_>, bar: Bar) -> u64
     ensures { result ≡ spec.left_of (spec.chart_of chart.now) bar }
 {
-    place(chart.span, axis_from(chart.days, bar.from))
+    begin_place(chart.span, chart.days, chart.per_day, bar.from)
 }
 
 // Returns the place where a bar ends.
@@ -56,26 +61,32 @@ fn left_of(chart: &Chart<'_>, bar: Bar) -> u64
 fn right_of(chart: &Chart<'_>, bar: Bar) -> u64
     ensures { result ≡ spec.right_of (spec.chart_of chart.now) bar }
 {
-    place(chart.span, axis_to(chart.days, bar.to))
+    end_place(chart.span, chart.days, chart.per_day, bar.to)
 }
 
 // Returns the description of a bar: its title, its start and its end.
 #[tactic(auto, unfolding(crate::specs::Chart::tip_of))]
-fn tip_of(alloc: Global, names: &[NameLine<'_>], bar: Bar) -> Result<String, AllocError>
-    ensures { IfOk result (λ text. string_bytes text ≡ spec.tip_of (map name_of names.now) bar) }
+fn tip_of(
+    alloc: Global,
+    ids: &[NameLine<'_>],
+    names: &[NameLine<'_>],
+    bar: Bar,
+) -> Result<String, AllocError>
+    ensures { IfOk result (λ text. string_bytes text
+        ≡ spec.tip_of (map name_of ids.now) (map name_of names.now) bar) }
 {
-    let mut text = title_of(alloc, names, bar)?;
+    let mut text = title_of(alloc, ids, names, bar)?;
     let (from, to) = (bar.from, bar.to);
     write!(text, ", {from} to {to}")?;
     Ok(text)
 }
 
 // Returns the description of a bar, escaped.
-fn shown_tip(alloc: Global, names: &[NameLine<'_>], bar: Bar) -> Result<String, AllocError>
-    ensures { IfOk result (λ text.
-        string_bytes text ≡ escape.escaped (spec.tip_of (map name_of names.now) bar)) }
+fn shown_tip(alloc: Global, chart: &Chart<'_>, bar: Bar) -> Result<String, AllocError>
+    ensures { IfOk result (λ text. string_bytes text ≡ escape.escaped
+        (spec.tip_of (spec.chart_of chart.now).ids (spec.chart_of chart.now).names bar)) }
 {
-    let tip = tip_of(alloc, names, bar)?;
+    let tip = tip_of(alloc, chart.ids, chart.names, bar)?;
     escaped(alloc, &tip)
 }
 
@@ -130,8 +141,9 @@ fn push_tail_of(text: &mut String, chart: &Chart<'_>, bar: Bar) -> Result<(), Al
     if slack < 1 {
         return Ok(());
     }
-    let end = axis_to(chart.days, bar.to.saturating_add(slack));
-    push_tail(text, right_of(chart, bar), place(chart.span, end))
+    let end = bar.to.saturating_add(slack);
+    let to = end_place(chart.span, chart.days, chart.per_day, end);
+    push_tail(text, right_of(chart, bar), to)
 }
 
 // Returns the class of a rectangle: a narrow one has no stroke.
@@ -224,7 +236,7 @@ fn push_milestone(
     ensures { OnOk result (string_bytes text.new
         ≡ string_bytes text.old ++ spec.milestone_of (spec.chart_of chart.now) bar) }
 {
-    let tip = shown_tip(alloc, chart.names, bar)?;
+    let tip = shown_tip(alloc, chart, bar)?;
     if bar.step < 1 {
         push_diamond(text, right_of(chart, bar), &tip)
     } else {
@@ -243,7 +255,7 @@ fn push_block(
     ensures { OnOk result (string_bytes text.new
         ≡ string_bytes text.old ++ spec.block_of (spec.chart_of chart.now) bar) }
 {
-    let tip = shown_tip(alloc, chart.names, bar)?;
+    let tip = shown_tip(alloc, chart, bar)?;
     let x = left_of(chart, bar);
     let tight = tight_class(slack_of(chart, bar));
     push_rectangle(text, tight, x, extent(x, right_of(chart, bar)), &tip)?;
@@ -308,32 +320,13 @@ fn push_line_head(text: &mut String, y: u32, label: &str) -> Result<(), AllocErr
     text.push_str("</text></svg>\n")
 }
 
-/// Returns the label of line `n`, cut to the room beside the axis, and escaped.
-pub(crate) fn cut_label(
-    alloc: Global,
-    rows: &[NameLine<'_>],
-    n: u32,
-    room: u32,
-) -> Result<String, AllocError>
-    ensures { IfOk result (λ text. string_bytes text
-        ≡ escape.escaped (cuts.cut room (named.label (map name_of rows.now) n))) }
+/// Returns a label, cut to the room beside the axis, and escaped.
+pub(crate) fn cut_label(alloc: Global, label: &str, room: u32) -> Result<String, AllocError>
+    ensures { IfOk result (λ text.
+        string_bytes text ≡ escape.escaped (cuts.cut room label.now)) }
 {
-    let text = label(alloc, rows, n)?;
-    let shown = cut(alloc, &text, room)?;
+    let shown = cut(alloc, label, room)?;
     escaped(alloc, &shown)
-}
-
-/// Returns the label of line `n`, escaped.
-pub(crate) fn shown_label(
-    alloc: Global,
-    rows: &[NameLine<'_>],
-    n: u32,
-) -> Result<String, AllocError>
-    ensures { IfOk result (λ text. string_bytes text
-        ≡ escape.escaped (named.label (map name_of rows.now) n)) }
-{
-    let text = label(alloc, rows, n)?;
-    escaped(alloc, &text)
 }
 
 // Appends line `n`, as the k-th one from above.
@@ -349,13 +342,32 @@ fn push_line(
     ensures { OnOk result (string_bytes text.new
         ≡ string_bytes text.old ++ spec.line_of (spec.chart_of chart.now) k n) }
 {
-    let label = cut_label(alloc, chart.rows, n, LABEL_ROOM)?;
+    let full = id_label(alloc, chart.ids, chart.rows, n)?;
+    let label = cut_label(alloc, &full, LABEL_ROOM)?;
     push_line_head(text, 20 * k + 22, &label)?;
     push_bars(alloc, text, chart, n)?;
     text.push_str("</g>\n")
 }
 
-// Appends the lines with `count` numbers from `first` on.
+// Returns the number of the line at an index, 0 if there is none.
+fn number_at(chart: &Chart<'_>, index: u32) -> u32
+    ensures { result ≡ spec.number_at (spec.chart_of chart.now) index }
+{
+    match chart.lines.get(index as usize) {
+        Some(&n) => n,
+        None => 0,
+    }
+}
+
+/// Returns the number of lines, at most 800,000.
+pub(crate) fn line_count(chart: &Chart<'_>) -> u32
+    ensures count { result ≡ spec.line_count (spec.chart_of chart.now) }
+    ensures limit { result ≤ 800000 }
+{
+    chart.lines.len().min(800_000) as u32
+}
+
+// Appends `count` lines from the one at index `first` on.
 fn push_lines(
     alloc: Global,
     text: &mut String,
@@ -369,7 +381,7 @@ fn push_lines(
         ≡ string_bytes text.old ++ spec.lines_of (spec.chart_of chart.now) first count) }
 {
     for k in 0..count {
-        push_line(alloc, text, chart, k, first + k)?;
+        push_line(alloc, text, chart, k, number_at(chart, first + k))?;
     }
     Ok(())
 }
@@ -402,7 +414,8 @@ pub(crate) fn push_image_head(
     text.push_str("</title>\n")
 }
 
-/// Appends a chart of these lines, with its opening and its title.
+/// Appends a chart of `count` lines from the one at index `first` on, with its opening and its
+/// title.
 #[tactic(auto, unfolding(crate::specs::Chart::image_of))]
 pub(crate) fn push_chart(
     alloc: Global,
@@ -437,23 +450,15 @@ fn styled_opening(alloc: Global) -> Result<String, AllocError>
     Ok(text)
 }
 
-/// Returns a chart alone, an SVG file (SVG 2): the lines with `count` numbers from `first` on below
-/// one axis, in colours for light and dark backgrounds. Lengths are in units of the viewBox: a line
-/// has 20, the axis 1,000.
-pub(crate) fn svg_chart(
-    alloc: Global,
-    title: &str,
-    chart: &Chart<'_>,
-    first: u32,
-    count: u32,
-) -> Result<String, AllocError>
-    requires first { first ≤ 1000000 }
-    requires count { count ≤ 1000000 }
+/// Returns a chart alone, an SVG file (SVG 2): its lines below one axis, in colours for light and
+/// dark backgrounds. Lengths are in units of the viewBox: a line has 20, the axis 1,000.
+pub(crate) fn svg_chart(alloc: Global, title: &str, chart: &Chart<'_>) -> Result<String, AllocError>
     ensures text { IfOk result (λ text.
-        string_bytes text ≡ spec.svg_chart title.now (spec.chart_of chart.now) first count) }
+        string_bytes text ≡ spec.svg_chart title.now (spec.chart_of chart.now)) }
 {
     let opening = styled_opening(alloc)?;
     let mut text = String::new(alloc);
-    push_chart(alloc, &mut text, &opening, title, chart, first, count)?;
+    let count = line_count(chart);
+    push_chart(alloc, &mut text, &opening, title, chart, 0, count)?;
     Ok(text)
 }

@@ -65,8 +65,8 @@ fn push_digit(text: &mut String, c: char) -> Result<(), AllocError>
     if c == '-' { Ok(()) } else { text.push(c) }
 }
 
-// Returns a date without its hyphens.
-fn compact(alloc: Global, date: &str) -> Result<String, AllocError>
+/// Returns a date without its hyphens.
+pub(crate) fn compact(alloc: Global, date: &str) -> Result<String, AllocError>
     ensures { IfOk result (λ text. string_bytes text ≡ spec.compact date.now) }
 {
     let mut text = String::new(alloc);

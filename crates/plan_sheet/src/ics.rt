@@ -6,15 +6,20 @@ ghost use Rattle.plan_sheet.specs.Ics as spec;
 use crate::escape::shown;
 use std::alloc::{AllocError, Global};
 
-/// An event of whole days. Dates are eight digits, as `20240301`.
+/// An event. Dates are eight digits, as `20240301`, moments with a time `20240301T090000`.
 #[derive(Drop)]
 pub struct Event<'a> {
+    /// Whether it has times of day; else it has whole days.
+    pub timed: bool,
     /// The identifier of the event, unique in the world.
     pub uid: &'a str,
+    /// The number of its revision, from 0.
+    pub sequence: u32,
     pub name: &'a str,
-    pub first_day: &'a str,
-    /// The day after the last one.
-    pub end_day: &'a str,
+    /// The first day, or the moment at which it begins.
+    pub begin: &'a str,
+    /// The day after the last one, or the moment at which it ends.
+    pub end: &'a str,
 }
 
 // Appends a character of a text value (section 3.3.11).
@@ -31,9 +36,9 @@ fn push_text_char(text: &mut String, c: char) -> Result<(), AllocError>
     }
 }
 
-// Returns a text value: backslash, semicolon, comma and newline escaped by a backslash (RFC 5545,
-// section 3.3.11), other control characters as U+FFFD.
-fn text_value(alloc: Global, text: &str) -> Result<String, AllocError>
+/// Returns a text value: backslash, semicolon, comma and newline escaped by a backslash (RFC 5545,
+/// section 3.3.11), other control characters as U+FFFD.
+pub(crate) fn text_value(alloc: Global, text: &str) -> Result<String, AllocError>
     ensures text { IfOk result (λ value. string_bytes value ≡ spec.text_value text.now) }
 {
     let mut value = String::new(alloc);
@@ -117,6 +122,19 @@ fn push_event_head(
     push_property(alloc, text, "DTSTAMP:", stamp)
 }
 
+// The revision of an event; nothing for revision 0.
+#[tactic(auto, unfolding(crate::specs::Ics::event_sequence))]
+fn push_event_sequence(alloc: Global, text: &mut String, sequence: u32) -> Result<(), AllocError>
+    ensures { OnOk result
+        (string_bytes text.new ≡ string_bytes text.old ++ spec.event_sequence sequence) }
+{
+    if sequence < 1 {
+        return Ok(());
+    }
+    let number = format!(in alloc; "{sequence}")?;
+    push_property(alloc, text, "SEQUENCE:", &number)
+}
+
 // The days of an event.
 fn push_event_days(
     alloc: Global,
@@ -130,6 +148,38 @@ fn push_event_days(
 {
     push_property(alloc, text, "DTSTART;VALUE=DATE:", first_day)?;
     push_property(alloc, text, "DTEND;VALUE=DATE:", end_day)
+}
+
+// The times of day of an event.
+fn push_event_clocks(
+    alloc: Global,
+    text: &mut String,
+    begin: &str,
+    end: &str,
+) -> Result<(), AllocError>
+    ensures { OnOk result
+        (string_bytes text.new ≡ string_bytes text.old ++ spec.event_clocks begin.now end.now) }
+{
+    push_property(alloc, text, "DTSTART:", begin)?;
+    push_property(alloc, text, "DTEND:", end)
+}
+
+// The days or the times of an event.
+fn push_event_times(
+    alloc: Global,
+    text: &mut String,
+    timed: bool,
+    begin: &str,
+    end: &str,
+) -> Result<(), AllocError>
+    ensures { OnOk result (string_bytes text.new
+        ≡ string_bytes text.old ++ spec.event_times timed begin.now end.now) }
+{
+    if timed {
+        push_event_clocks(alloc, text, begin, end)
+    } else {
+        push_event_days(alloc, text, begin, end)
+    }
 }
 
 // The last properties of an event.
@@ -154,7 +204,8 @@ pub(crate) fn push_event(
         ≡ string_bytes text.old ++ spec.event_text stamp.now (spec.event_of event.now)) }
 {
     push_event_head(alloc, text, stamp, event.uid)?;
-    push_event_days(alloc, text, event.first_day, event.end_day)?;
+    push_event_sequence(alloc, text, event.sequence)?;
+    push_event_times(alloc, text, event.timed, event.begin, event.end)?;
     push_event_tail(alloc, text, event.name)
 }
 

@@ -1,7 +1,7 @@
 //! What a sheet shows, and in which lines.
 
-ghost use Rattle.std.specs.Prelude.{◌≡◌, ◌+◌, ◌≤◌, ◌<◌, length, map, slice_index};
-ghost use Rattle.std.specs.Prelude.{EachIndex, IfOk};
+ghost use Rattle.std.specs.Prelude.{◌≡◌, ◌+◌, ◌++◌, ◌≤◌, ◌<◌, length, map, slice_index};
+ghost use Rattle.std.specs.Prelude.{EachIndex, IfOk, OnOk};
 ghost use Rattle.plan_net.specs.Network as networks;
 ghost use Rattle.plan_gantt.specs.Limits.{latest_start};
 ghost use Rattle.plan_table.specs.Names.{name_of};
@@ -9,6 +9,7 @@ ghost use Rattle.plan_sheet.specs.Layouts.{count_of, layout_of};
 ghost use Rattle.plan_sheet.specs.Layouts as spec;
 
 use crate::bars::{Bar, activity_bar, step_bar, step_count};
+use crate::names::{SheetNames, is_shown};
 use plan_sgs::Instance;
 use plan_shop::Shop;
 use plan_table::NameLine;
@@ -21,16 +22,12 @@ pub enum Layout<'p> {
     /// The activities of a project, each in the line of its number, from 1 on.
     Activities(&'p Instance<'p>),
     /// The steps of a job shop: a line for each job, from 1 on, or for each machine, from 0 on.
-    Steps { shop: &'p Shop, by_job: bool },
-}
-
-/// The names for a sheet, by their numbers.
-#[derive(Drop)]
-pub struct SheetNames<'a> {
-    /// Those of activities, or of machines.
-    pub lines: &'a [NameLine<'a>],
-    /// Those of resources, or of orders.
-    pub legend: &'a [NameLine<'a>],
+    Steps {
+        shop: &'p Shop,
+        by_job: bool,
+        /// Whether steps that take no time are left out.
+        brief: bool,
+    },
 }
 
 // Returns the number of activities or steps.
@@ -64,7 +61,7 @@ fn bar_at(layout: Layout<'_>, starts: &[u64], k: u32) -> Bar
         Layout::Activities(instance) => {
             activity_bar(instance.network(), starts, activity_at(instance, k))
         }
-        Layout::Steps { shop, by_job } => step_bar(shop, starts, by_job, k),
+        Layout::Steps { shop, by_job, .. } => step_bar(shop, starts, by_job, k),
     }
 }
 
@@ -86,15 +83,69 @@ pub(crate) fn bars_of(
     Ok(bars)
 }
 
-/// Returns the number of the first line, and the number of lines.
-pub(crate) fn lines_of(layout: Layout<'_>) -> (u32, u32)
-    ensures lines { result ≡ spec.lines_of (layout_of layout.entry) }
+/// Returns the ids of the bars: those of activities; steps have none.
+pub(crate) fn bar_ids<'a>(layout: Layout<'_>, names: &SheetNames<'a>) -> &'a [NameLine<'a>]
+    ensures { map name_of result.now
+        ≡ spec.bar_ids (layout_of layout.entry) (map name_of names.now.ids.now) }
+{
+    match layout {
+        Layout::Activities(_) => names.ids,
+        Layout::Steps { .. } => &[],
+    }
+}
+
+// Returns whether a bar is shown.
+fn shows(layout: Layout<'_>, ids: &[NameLine<'_>], bar: Bar) -> bool
+    ensures { result ≡ spec.shows (layout_of layout.entry) (map name_of ids.now) bar }
+{
+    match layout {
+        Layout::Activities(_) => is_shown(ids, bar.number),
+        Layout::Steps { brief, .. } => { if brief { bar.from < bar.to } else { true } }
+    }
+}
+
+// Appends a bar, if it is shown.
+fn push_shown(
+    shown: &mut Vec<Bar>,
+    layout: Layout<'_>,
+    ids: &[NameLine<'_>],
+    bar: Bar,
+) -> Result<(), AllocError>
+    ensures { OnOk result (shown.new.items ≡ shown.old.items
+        ++ spec.shown_bar (layout_of layout.entry) (map name_of ids.now) bar) }
+{
+    if shows(layout, ids, bar) {
+        shown.push(bar)?;
+    }
+    Ok(())
+}
+
+/// Returns the bars that are shown. If there are ids, the bar of an activity without an id isn't.
+pub(crate) fn shown_bars(
+    alloc: Global,
+    layout: Layout<'_>,
+    ids: &[NameLine<'_>],
+    bars: &[Bar],
+) -> Result<Vec<Bar>, AllocError>
+    ensures { IfOk result (λ shown. shown.items
+        ≡ spec.shown_bars (layout_of layout.entry) (map name_of ids.now) bars.now) }
+{
+    let mut shown = Vec::new(alloc);
+    for &bar in bars {
+        push_shown(&mut shown, layout, ids, bar)?;
+    }
+    Ok(shown)
+}
+
+// Returns the number of the first line, and the number of lines.
+fn all_lines(layout: Layout<'_>) -> (u32, u32)
+    ensures lines { result ≡ spec.all_lines (layout_of layout.entry) }
     ensures first { result.0 ≤ 1 }
     ensures count { result.1 ≤ 800000 }
 {
     match layout {
         Layout::Activities(instance) => (1, instance.network().len() as u32),
-        Layout::Steps { shop, by_job } => {
+        Layout::Steps { shop, by_job, .. } => {
             if by_job {
                 (1, shop.jobs())
             } else {
@@ -102,6 +153,43 @@ pub(crate) fn lines_of(layout: Layout<'_>) -> (u32, u32)
             }
         }
     }
+}
+
+// Appends the number of line `k` from a first one on, if it is shown.
+fn push_line(
+    lines: &mut Vec<u32>,
+    ids: &[NameLine<'_>],
+    first: u32,
+    k: u32,
+) -> Result<(), AllocError>
+    requires first { first ≤ 1 }
+    requires line { k < 800000 }
+    ensures { OnOk result (lines.new.items
+        ≡ lines.old.items ++ spec.shown_line (map name_of ids.now) first k) }
+{
+    let n = first + k;
+    if is_shown(ids, n) {
+        lines.push(n)?;
+    }
+    Ok(())
+}
+
+/// Returns the numbers of the lines that are shown. If there are ids, a line without an id isn't.
+pub(crate) fn lines_of(
+    alloc: Global,
+    layout: Layout<'_>,
+    names: &SheetNames<'_>,
+) -> Result<Vec<u32>, AllocError>
+    ensures { IfOk result (λ lines. lines.items
+        ≡ spec.lines_of (layout_of layout.entry) (map name_of names.now.ids.now)) }
+{
+    let ids = bar_ids(layout, names);
+    let (first, count) = all_lines(layout);
+    let mut lines = Vec::new(alloc);
+    for k in 0..count {
+        push_line(&mut lines, ids, first, k)?;
+    }
+    Ok(lines)
 }
 
 /// Returns the names of the lines.

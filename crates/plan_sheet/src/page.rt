@@ -5,7 +5,8 @@ ghost use Rattle.plan_sheet.specs.Chart.{chart_of};
 ghost use Rattle.plan_sheet.specs.Table.{table_of};
 ghost use Rattle.plan_sheet.specs.Page as spec;
 
-use crate::chart::{Chart, push_chart};
+use crate::axis::units_of;
+use crate::chart::{Chart, line_count, push_chart};
 use crate::days::day_text;
 use crate::escape::escaped;
 use crate::styles::{
@@ -32,16 +33,17 @@ fn push_dates(
     alloc: Global,
     text: &mut String,
     days: &[Date],
+    per_day: u32,
     makespan: u32,
 ) -> Result<(), AllocError>
     ensures { OnOk result
-        (string_bytes text.new ≡ string_bytes text.old ++ spec.dates_part days.now makespan) }
+        (string_bytes text.new ≡ string_bytes text.old ++ spec.dates_part days.now per_day makespan) }
 {
     if days.len() < 1 {
         return Ok(());
     }
     let first = day_text(alloc, days, 0)?;
-    let last = day_text(alloc, days, makespan.saturating_sub(1))?;
+    let last = day_text(alloc, days, makespan.saturating_sub(1) / units_of(per_day))?;
     text.push_str(", ")?;
     text.push_str(&first)?;
     text.push_str(" to ")?;
@@ -71,13 +73,14 @@ fn note_of(
     alloc: Global,
     lower: Option<u64>,
     days: &[Date],
+    per_day: u32,
     makespan: u32,
 ) -> Result<String, AllocError>
     ensures { IfOk result (λ text.
-        string_bytes text ≡ spec.note_of lower days.now makespan) }
+        string_bytes text ≡ spec.note_of lower days.now per_day makespan) }
 {
     let mut text = format!(in alloc; "Makespan {makespan}")?;
-    push_dates(alloc, &mut text, days, makespan)?;
+    push_dates(alloc, &mut text, days, per_day, makespan)?;
     push_bound(&mut text, lower, makespan)?;
     Ok(text)
 }
@@ -118,24 +121,22 @@ fn push_front(text: &mut String, title: &str, note: &str) -> Result<(), AllocErr
     push_headings(text, title, note)
 }
 
-// Appends image `k` of a chart: its lines from line `40 * k` on, at most 40.
+// Appends image `k` of a chart of `count` lines: its lines from index `40 * k` on, at most 40.
 #[tactic(auto, unfolding(crate::specs::Page::figure))]
 fn push_figure(
     alloc: Global,
     text: &mut String,
     chart: &Chart<'_>,
-    first: u32,
     count: u32,
     k: u32,
 ) -> Result<(), AllocError>
-    requires first { first ≤ 1 }
     requires image { k ≤ 20000 }
     ensures { OnOk result (string_bytes text.new
-        ≡ string_bytes text.old ++ spec.figure (chart_of chart.now) first count k) }
+        ≡ string_bytes text.old ++ spec.figure (chart_of chart.now) count k) }
 {
     let lines = count.saturating_sub(40 * k).min(40);
     text.push_str("<figure>\n")?;
-    push_chart(alloc, text, "", "Gantt chart", chart, first + 40 * k, lines)?;
+    push_chart(alloc, text, "", "Gantt chart", chart, 40 * k, lines)?;
     text.push_str("</figure>\n")
 }
 
@@ -144,16 +145,14 @@ fn push_figures(
     alloc: Global,
     text: &mut String,
     chart: &Chart<'_>,
-    first: u32,
     count: u32,
 ) -> Result<(), AllocError>
-    requires first { first ≤ 1 }
     requires count { count ≤ 800000 }
     ensures { OnOk result (string_bytes text.new
-        ≡ string_bytes text.old ++ spec.figures (chart_of chart.now) first count) }
+        ≡ string_bytes text.old ++ spec.figures (chart_of chart.now) count) }
 {
     for k in 0..count.div_ceil(40) {
-        push_figure(alloc, text, chart, first, count, k)?;
+        push_figure(alloc, text, chart, count, k)?;
     }
     Ok(())
 }
@@ -178,22 +177,19 @@ pub(crate) fn page(
     heading: Heading<'_>,
     makespan: u32,
     table: &Table<'_>,
-    first: u32,
-    count: u32,
     section: &str,
 ) -> Result<String, AllocError>
-    requires first { first ≤ 1 }
-    requires count { count ≤ 800000 }
     ensures text { IfOk result (λ text. string_bytes text
         ≡ spec.page heading.entry.title.now heading.entry.lower makespan (table_of table.now)
-        first count section.now) }
+        section.now) }
 {
+    let chart = table.chart;
     let title = escaped(alloc, heading.title)?;
-    let note = note_of(alloc, heading.lower, table.chart.days, makespan)?;
+    let note = note_of(alloc, heading.lower, chart.days, chart.per_day, makespan)?;
     let mut text = String::new(alloc);
     push_front(&mut text, &title, &note)?;
-    push_if(&mut text, table.slacks.len(), LEGEND)?;
-    push_figures(alloc, &mut text, table.chart, first, count)?;
+    push_if(&mut text, chart.slacks.len(), LEGEND)?;
+    push_figures(alloc, &mut text, chart, line_count(chart))?;
     text.push_str(section)?;
     push_back(alloc, &mut text, table)?;
     Ok(text)

@@ -94,6 +94,14 @@ tr{break-inside:avoid}}
 pub(crate) const FIRST_HEADS: &str = "<thead>
 <tr><th scope=\"col\">No.</th><th scope=\"col\" class=\"name\">Name</th>";
 
+/// The same with ids in the place of numbers.
+pub(crate) const ID_HEADS: &str = "<thead>
+<tr><th scope=\"col\">Id</th><th scope=\"col\" class=\"name\">Name</th>";
+
+/// The heads of the resources and the predecessors.
+pub(crate) const LINK_HEADS: &str =
+    "<th scope=\"col\" class=\"name\">Resources</th><th scope=\"col\" class=\"name\">Predecessors</th>";
+
 /// The head of the machines.
 pub(crate) const MACHINE_HEAD: &str = "<th scope=\"col\" class=\"name\">Machine</th>";
 

@@ -6,14 +6,16 @@ ghost use Rattle.plan_sheet.specs.Escape as escape;
 ghost use Rattle.plan_sheet.specs.Names as named;
 ghost use Rattle.plan_sheet.specs.Table as spec;
 
+use crate::axis::units_of;
 use crate::bars::Bar;
-use crate::chart::{Chart, shown_label};
-use crate::days::day_text;
+use crate::chart::Chart;
 use crate::escape::escaped;
-use crate::names::name_text;
+use crate::moments::{begin_text, end_text};
+use crate::names::{id_text, name_text, shown_label};
+use crate::reports::DayStyle;
 use crate::styles::{
-    DAY_HEADS, FIRST_HEADS, FLOAT_HEAD, HEADS_TO, MACHINE_HEAD, NAME_CELL, ROW_NAME, ROW_NUMBER,
-    SLACK_HEAD, TABLE_FROM, TABLE_TO, TIME_HEADS,
+    DAY_HEADS, FIRST_HEADS, FLOAT_HEAD, HEADS_TO, ID_HEADS, LINK_HEADS, MACHINE_HEAD, NAME_CELL,
+    ROW_NAME, ROW_NUMBER, SLACK_HEAD, TABLE_FROM, TABLE_TO, TIME_HEADS,
 };
 use jiff::civil::Date;
 use plan_table::NameLine;
@@ -26,14 +28,21 @@ pub struct Table<'a> {
     pub chart: &'a Chart<'a>,
     /// Whether it has columns for the first and the last day.
     pub dated: bool,
+    /// How these days are shown.
+    pub style: &'a DayStyle,
+    /// Whether it is that of a list, with ids, resources and predecessors. On a calendar its floats
+    /// and slacks are in days.
+    pub listed: bool,
     /// Whether it has a column for the machines of steps.
     pub shop: bool,
     /// The names of machines.
     pub machines: &'a [NameLine<'a>],
     /// The floats of activities, from activity 1 on; empty without a column for them.
     pub floats: &'a [u64],
-    /// The slacks of activities, from activity 1 on; empty without a column for them.
-    pub slacks: &'a [u64],
+    /// The resources of activities.
+    pub resources: &'a [NameLine<'a>],
+    /// The predecessors of activities.
+    pub predecessors: &'a [NameLine<'a>],
 }
 
 /// Appends a text, if a list that it stands for has an element.
@@ -63,7 +72,15 @@ fn push_last_heads(text: &mut String, table: &Table<'_>) -> Result<(), AllocErro
 {
     push_for(text, table.dated, DAY_HEADS)?;
     push_if(text, table.floats.len(), FLOAT_HEAD)?;
-    push_if(text, table.slacks.len(), SLACK_HEAD)
+    push_if(text, table.chart.slacks.len(), SLACK_HEAD)?;
+    push_for(text, table.listed, LINK_HEADS)
+}
+
+// Returns the heads of the first columns.
+fn first_heads(listed: bool) -> &'static str
+    ensures { result.now ≡ spec.first_heads listed }
+{
+    if listed { ID_HEADS } else { FIRST_HEADS }
 }
 
 // Appends the first row.
@@ -72,7 +89,7 @@ fn push_heads(text: &mut String, table: &Table<'_>) -> Result<(), AllocError>
     ensures { OnOk result (string_bytes text.new
         ≡ string_bytes text.old ++ spec.heads (spec.table_of table.now)) }
 {
-    text.push_str(FIRST_HEADS)?;
+    text.push_str(first_heads(table.listed))?;
     push_for(text, table.shop, MACHINE_HEAD)?;
     text.push_str(TIME_HEADS)?;
     push_last_heads(text, table)?;
@@ -89,15 +106,24 @@ fn push_step_dot(text: &mut String, step: u32) -> Result<(), AllocError>
     write!(text, ".{step}")
 }
 
-// Returns the number of an activity, or those of a job and a step.
+// Returns the id or the number of an activity, or the numbers of a job and a step.
 #[tactic(auto, unfolding(crate::specs::Table::number_text))]
-fn number_text(alloc: Global, bar: Bar) -> Result<String, AllocError>
-    ensures { IfOk result (λ text. string_bytes text ≡ spec.number_text bar) }
+fn number_text(alloc: Global, ids: &[NameLine<'_>], bar: Bar) -> Result<String, AllocError>
+    ensures { IfOk result (λ text.
+        string_bytes text ≡ spec.number_text (map name_of ids.now) bar) }
 {
-    let number = bar.number;
-    let mut text = format!(in alloc; "{number}")?;
+    let mut text = id_text(alloc, ids, bar.number)?;
     push_step_dot(&mut text, bar.step)?;
     Ok(text)
+}
+
+// Returns the same, escaped.
+fn shown_number(alloc: Global, ids: &[NameLine<'_>], bar: Bar) -> Result<String, AllocError>
+    ensures { IfOk result (λ text. string_bytes text
+        ≡ escape.escaped (spec.number_text (map name_of ids.now) bar)) }
+{
+    let number = number_text(alloc, ids, bar)?;
+    escaped(alloc, &number)
 }
 
 // Returns the name of a number, escaped.
@@ -109,7 +135,7 @@ fn shown_name(alloc: Global, names: &[NameLine<'_>], n: u32) -> Result<String, A
     escaped(alloc, &name)
 }
 
-// Appends a number and a name, which is escaped.
+// Appends a number and a name, which are escaped.
 #[tactic(auto, unfolding(crate::specs::Table::first_cells))]
 fn push_first_cells(text: &mut String, number: &str, name: &str) -> Result<(), AllocError>
     ensures { OnOk result
@@ -187,15 +213,16 @@ fn push_two_days(text: &mut String, first: &str, last: &str) -> Result<(), Alloc
 fn push_both_days(
     alloc: Global,
     text: &mut String,
+    style: &DayStyle,
     days: &[Date],
     bar: Bar,
 ) -> Result<(), AllocError>
-    ensures { OnOk result
-        (string_bytes text.new ≡ string_bytes text.old ++ spec.both_days days.now bar) }
+    ensures { OnOk result (string_bytes text.new ≡ string_bytes text.old
+        ++ spec.both_days style.now.weekdays style.now.hours days.now bar) }
 {
     if bar.from < bar.to {
-        let first = day_text(alloc, days, bar.from)?;
-        let last = day_text(alloc, days, bar.to - 1)?;
+        let first = begin_text(alloc, style.weekdays, style.hours, days, bar.from)?;
+        let last = end_text(alloc, style.weekdays, style.hours, days, bar.to - 1)?;
         push_two_days(text, &first, &last)
     } else {
         text.push_str("<td>-</td><td>-</td>")
@@ -213,19 +240,74 @@ fn push_day_cells(
         ≡ string_bytes text.old ++ spec.day_cells (spec.table_of table.now) bar) }
 {
     if table.dated {
-        push_both_days(alloc, text, table.chart.days, bar)
+        push_both_days(alloc, text, table.style, table.chart.days, bar)
     } else {
         Ok(())
     }
 }
 
-// Appends a cell with the number of an activity in a list, if the list has one.
-fn push_cell_at(text: &mut String, numbers: &[u64], number: u32) -> Result<(), AllocError>
+// Appends the start of a cell with a number of days.
+#[tactic(auto, unfolding(crate::specs::Table::day_part))]
+fn push_day_part(text: &mut String, n: u64) -> Result<(), AllocError>
+    ensures { OnOk result (string_bytes text.new ≡ string_bytes text.old ++ spec.day_part n) }
+{
+    write!(text, "<td>{n} d")
+}
+
+// Appends a number of hours.
+#[tactic(auto, unfolding(crate::specs::Table::hour_part))]
+fn push_hour_part(text: &mut String, n: u64) -> Result<(), AllocError>
+    ensures { OnOk result (string_bytes text.new ≡ string_bytes text.old ++ spec.hour_part n) }
+{
+    write!(text, " {n} h")
+}
+
+// Returns whether floats and slacks are in days: for a list on a calendar.
+fn in_days(table: &Table<'_>) -> bool
+    ensures { result ≡ spec.in_days (spec.table_of table.now) }
+{
+    if table.dated { table.listed } else { false }
+}
+
+// Appends a cell with a number of time units in days, with hours in days and hours.
+fn push_days_cell(text: &mut String, timed: bool, per_day: u32, n: u64) -> Result<(), AllocError>
     ensures { OnOk result
-        (string_bytes text.new ≡ string_bytes text.old ++ spec.cell_at numbers.now number) }
+        (string_bytes text.new ≡ string_bytes text.old ++ spec.days_cell timed per_day n) }
+{
+    let units = u64::from(units_of(per_day));
+    if timed {
+        push_day_part(text, n / units)?;
+        push_hour_part(text, n % units)?;
+        return text.push_str("</td>");
+    }
+    push_day_part(text, n)?;
+    text.push_str("</td>")
+}
+
+// Appends a cell with a number of time units, or with a number of days.
+fn push_margin_cell(text: &mut String, table: &Table<'_>, n: u64) -> Result<(), AllocError>
+    ensures { OnOk result (string_bytes text.new
+        ≡ string_bytes text.old ++ spec.margin_cell (spec.table_of table.now) n) }
+{
+    if in_days(table) {
+        push_days_cell(text, table.style.hours.is_some(), table.chart.per_day, n)
+    } else {
+        push_number_cell(text, n)
+    }
+}
+
+// Appends a cell with the number of an activity in a list of numbers, if the list has one.
+fn push_cell_at(
+    text: &mut String,
+    table: &Table<'_>,
+    numbers: &[u64],
+    number: u32,
+) -> Result<(), AllocError>
+    ensures { OnOk result (string_bytes text.new
+        ≡ string_bytes text.old ++ spec.cell_at (spec.table_of table.now) numbers.now number) }
 {
     match numbers.get(number.saturating_sub(1) as usize) {
-        Some(&n) => push_number_cell(text, n),
+        Some(&n) => push_margin_cell(text, table, n),
         None => Ok(()),
     }
 }
@@ -242,8 +324,28 @@ fn push_last_cells(
         ≡ string_bytes text.old ++ spec.last_cells (spec.table_of table.now) bar) }
 {
     push_day_cells(alloc, text, table, bar)?;
-    push_cell_at(text, table.floats, bar.number)?;
-    push_cell_at(text, table.slacks, bar.number)
+    push_cell_at(text, table, table.floats, bar.number)?;
+    push_cell_at(text, table, table.chart.slacks, bar.number)
+}
+
+// Appends the resources and the predecessors of an activity, if the table has columns for them.
+#[tactic(auto, unfolding(crate::specs::Table::link_cells))]
+fn push_link_cells(
+    alloc: Global,
+    text: &mut String,
+    table: &Table<'_>,
+    bar: Bar,
+) -> Result<(), AllocError>
+    ensures { OnOk result (string_bytes text.new
+        ≡ string_bytes text.old ++ spec.link_cells (spec.table_of table.now) bar) }
+{
+    if !table.listed {
+        return Ok(());
+    }
+    let resources = shown_name(alloc, table.resources, bar.number)?;
+    let predecessors = shown_name(alloc, table.predecessors, bar.number)?;
+    push_name_cell(text, &resources)?;
+    push_name_cell(text, &predecessors)
 }
 
 // Appends the front of a row: number, name and machine.
@@ -257,7 +359,7 @@ fn push_row_front(
     ensures { OnOk result (string_bytes text.new
         ≡ string_bytes text.old ++ spec.row_front (spec.table_of table.now) bar) }
 {
-    let number = number_text(alloc, bar)?;
+    let number = shown_number(alloc, table.chart.ids, bar)?;
     let name = shown_name(alloc, table.chart.names, bar.number)?;
     push_first_cells(text, &number, &name)?;
     push_machine_cell(alloc, text, table, bar)
@@ -272,6 +374,7 @@ fn push_row(alloc: Global, text: &mut String, table: &Table<'_>, bar: Bar) -> Re
     push_row_front(alloc, text, table, bar)?;
     push_time_cells(text, bar)?;
     push_last_cells(alloc, text, table, bar)?;
+    push_link_cells(alloc, text, table, bar)?;
     text.push_str("</tr>\n")
 }
 

@@ -8,12 +8,13 @@ ghost use Rattle.plan_table.specs.Names.{name_of};
 ghost use Rattle.plan_sheet.specs.Chart.{chart_of};
 ghost use Rattle.plan_sheet.specs.Usage as spec;
 
-use crate::axis::axis_from;
+use crate::axis::begin_place;
 use crate::changes::next_change;
-use crate::chart::{Chart, cut_label, push_image_head, shown_label};
+use crate::chart::{Chart, cut_label, push_image_head};
+use crate::escape::escaped;
 use crate::marks::push_marks;
+use crate::names::label;
 use crate::pieces::push_counted;
-use crate::place::place;
 use crate::styles::{CAPACITY_LINE, USE_FROM, USE_NAME, USE_TO};
 use crate::uses::{Use, used_at, used_before, uses_of};
 use jiff::civil::Date;
@@ -46,19 +47,21 @@ fn push_step_at(
     text: &mut String,
     span: u32,
     days: &[Date],
+    per_day: u32,
     capacity: u64,
     uses: &[Use],
     t: u32,
 ) -> Result<(), AllocError>
     ensures { OnOk result (string_bytes text.new
-        ≡ string_bytes text.old ++ spec.step_at span days.now capacity uses.now t) }
+        ≡ string_bytes text.old ++ spec.step_at span days.now per_day capacity uses.now t) }
 {
     let used = used_at(uses, t);
     let before = used_before(uses, t);
     if used == before {
         Ok(())
     } else {
-        push_step(text, place(span, axis_from(days, t)), level(capacity, used))
+        let x = begin_place(span, days, per_day, t);
+        push_step(text, x, level(capacity, used))
     }
 }
 
@@ -67,16 +70,17 @@ fn push_steps(
     text: &mut String,
     span: u32,
     days: &[Date],
+    per_day: u32,
     capacity: u64,
     uses: &[Use],
     makespan: u32,
 ) -> Result<(), AllocError>
     ensures { OnOk result (string_bytes text.new
-        ≡ string_bytes text.old ++ spec.steps_of span days.now capacity uses.now makespan) }
+        ≡ string_bytes text.old ++ spec.steps_of span days.now per_day capacity uses.now makespan) }
 {
     let mut t = 0;
     while t < makespan {
-        push_step_at(text, span, days, capacity, uses, t)?;
+        push_step_at(text, span, days, per_day, capacity, uses, t)?;
         t = next_change(uses, t, makespan);
     }
     Ok(())
@@ -88,15 +92,16 @@ fn push_use_area(
     text: &mut String,
     span: u32,
     days: &[Date],
+    per_day: u32,
     capacity: u64,
     uses: &[Use],
     makespan: u32,
 ) -> Result<(), AllocError>
     ensures { OnOk result (string_bytes text.new
-        ≡ string_bytes text.old ++ spec.use_area span days.now capacity uses.now makespan) }
+        ≡ string_bytes text.old ++ spec.use_area span days.now per_day capacity uses.now makespan) }
 {
     text.push_str(USE_FROM)?;
-    push_steps(text, span, days, capacity, uses, makespan)?;
+    push_steps(text, span, days, per_day, capacity, uses, makespan)?;
     text.push_str(USE_TO)
 }
 
@@ -125,10 +130,19 @@ fn push_use_image(
     makespan: u32,
 ) -> Result<(), AllocError>
     ensures { OnOk result (string_bytes text.new ≡ string_bytes text.old ++ spec.use_image
-        chart.now.span chart.now.days.now name.now short.now capacity uses.now makespan) }
+        chart.now.span chart.now.days.now chart.now.per_day name.now short.now capacity uses.now
+        makespan) }
 {
     push_image_head(text, 112, "", name)?;
-    push_use_area(text, chart.span, chart.days, capacity, uses, makespan)?;
+    push_use_area(
+        text,
+        chart.span,
+        chart.days,
+        chart.per_day,
+        capacity,
+        uses,
+        makespan,
+    )?;
     push_marks(alloc, text, chart.span, chart.days, 89)?;
     push_use_labels(text, capacity, short)?;
     text.push_str("</svg>\n")
@@ -154,8 +168,9 @@ fn push_use_figure(
         ++ spec.use_figure (chart_of chart.now) (map name_of resources.now) instance.now starts.now
         makespan k) }
 {
-    let name = shown_label(alloc, resources, k + 1)?;
-    let short = cut_label(alloc, resources, k + 1, USE_ROOM)?;
+    let full = label(alloc, resources, k + 1)?;
+    let name = escaped(alloc, &full)?;
+    let short = cut_label(alloc, &full, USE_ROOM)?;
     let uses = uses_of(alloc, instance, starts, k + 1)?;
     let capacity = instance.caps()[k as usize];
     text.push_str("<figure>\n")?;

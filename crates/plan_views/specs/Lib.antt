@@ -13,6 +13,7 @@ pub use Rattle.plan_formats.specs.Tables
 pub use Rattle.plan_formats.specs.TableText
 pub mod LineLists
 pub mod DayTables
+pub mod Moments
 pub mod SlackTables
 pub mod ComparisonTables
 pub mod IdComparisons

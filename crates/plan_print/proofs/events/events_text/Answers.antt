@@ -11,7 +11,7 @@ pub returns-clause-made : goal.returns-clause-made
 returns-clause-made c =
     let a = c.args in
     let calendar = c.in_ok-calendar.calendar in
-    let Shows = AreEvents a.subject a.file.now a.plan.now a.schedule.now.starts.items in
+    let Shows = AreEvents a.listed a.subject a.file.now a.events.now a.plan.now a.schedule.now.starts.items in
     IfOk-weaker c.events_on.result (λ text. Shows calendar (string_bytes text)) (λ text. ShowsDays a.dates Shows (string_bytes text))
     (λ text shown. (calendar, c.in_ok-calendar.ensures.made, shown)) c.events_on.ensures.made
 
@@ -19,6 +19,6 @@ pub returns-clause-refused : goal.returns-clause-refused
 returns-clause-refused c =
     let a = c.args in
     let calendar = c.in_ok-calendar.calendar in
-    let Beyond = IsIcsBeyond a.plan.now a.schedule.now.starts.items in
+    let Beyond = IsIcsBeyond a.events.now a.plan.now a.schedule.now.starts.items in
     if_err_weaker c.events_on.result (Refuses (TellsBeyond (Beyond calendar))) (Refuses (TellsNoDays a.dates Beyond))
     (λ e refused. beyond a.dates calendar Beyond e c.in_ok-calendar.ensures.made refused) c.events_on.ensures.refused

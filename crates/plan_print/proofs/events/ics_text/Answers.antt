@@ -8,7 +8,7 @@ use Rattle.plan_print.proofs.events.ics_text.Goals as goal
 
 pub returns-clause-refused : goal.returns-clause-refused
 returns-clause-refused c =
-    let Beyond = IsIcsBeyond c.args.plan.now c.args.schedule.now.starts.items c.args.calendar.now in
+    let Beyond = IsIcsBeyond c.args.events.now c.args.plan.now c.args.schedule.now.starts.items c.args.calendar.now in
     mapped c.plan_ics.result c.map_err.result _ (λ told. IfErr told (Refuses (TellsBeyond Beyond)))
     c.map_err.ensures.cases (λ text is. tt)
     (λ fault e is learnt.

@@ -1,4 +1,4 @@
-use Rattle.std.specs.Prelude.{String, string_bytes}
+use Rattle.std.specs.Prelude.{String, is_some, string_bytes}
 use Rattle.std.specs.Global.{Global}
 use Rattle.std.proofs.lemmas.Result.{err_from_is_err_and}
 use Rattle.plan_errors.specs.Output.{Refuses}
@@ -12,7 +12,7 @@ pub returns-clause-made : goal.returns-clause-made
 returns-clause-made g c =
     let a = c.args in
     let read = c.in_ok-read.read in
-    read_as (λ kind s bytes (text : String Global). IsSheetBy a.sheet a.given s bytes (string_bytes text)) a.subject a.file.now
+    read_as (λ kind s bytes (text : String Global). IsSheetBy (is_some kind) a.sheet a.given s bytes (string_bytes text)) a.subject a.file.now
     read.kind read.subject (text_of read.made a.file.now) c.text.result.now c.sheet_by.result c.in_ok-read.ensures.read c.text.ensures c.sheet_by.ensures.made
 
 pub returns-clause-refused : goal.returns-clause-refused

@@ -9,8 +9,8 @@ pub returns-clause-made : goal.returns-clause-made
 returns-clause-made g c =
     let a = c.args in
     let from = c.origin_for-origin.result in
-    IfOk-weaker c.sheet_text.result (λ text. IsSheet a.sheet a.subject from a.file.now (string_bytes text))
-    (λ text. IsSheetBy a.sheet a.given a.subject a.file.now (string_bytes text))
+    IfOk-weaker c.sheet_text.result (λ text. IsSheet a.listed a.sheet a.subject from a.file.now (string_bytes text))
+    (λ text. IsSheetBy a.listed a.sheet a.given a.subject a.file.now (string_bytes text))
     (λ text made. (from, c.origin_for-origin.ensures, made)) c.sheet_text.ensures.made
 
 pub returns-clause-refused : goal.returns-clause-refused

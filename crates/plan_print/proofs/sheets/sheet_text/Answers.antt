@@ -23,9 +23,9 @@ pub returns-clause-made : goal.returns-clause-made
 returns-clause-made g c =
     let a = c.args in
     let p = c.in_ok-plan.plan in
-    IfOk-weaker c.plan_sheet.result (λ text. IsSheetFrom a.origin a.sheet a.subject a.file.now p (string_bytes text))
-    (λ text. IsSheet a.sheet a.subject a.origin a.file.now (string_bytes text))
-    (λ text made. of_subject a.subject a.file.now c.in_ok-document.document p (IsSheetFrom a.origin a.sheet a.subject a.file.now) (string_bytes text)
+    IfOk-weaker c.plan_sheet.result (λ text. IsSheetFrom a.listed a.origin a.sheet a.subject a.file.now p (string_bytes text))
+    (λ text. IsSheet a.listed a.sheet a.subject a.origin a.file.now (string_bytes text))
+    (λ text made. of_subject a.subject a.file.now c.in_ok-document.document p (IsSheetFrom a.listed a.origin a.sheet a.subject a.file.now) (string_bytes text)
     c.in_ok-document.ensures.read c.in_ok-plan.ensures.plan c.in_ok-plan.ensures.fit made) c.plan_sheet.ensures.made
 
 pub returns-clause-refused : goal.returns-clause-refused

@@ -5,4 +5,4 @@ use Rattle.plan_sheet.proofs.page.push_figures.Goals as goal
 
 pub loop-k-preserved : goal.loop-k-preserved
 loop-k-preserved c =
-    next_number (figure (chart_of c.args.chart.now) c.args.first c.args.count) c.loop-k.k _ _ _ c.loop-k.invariant c.in_ok-push_figure.ensures
+    next_number (figure (chart_of c.args.chart.now) c.args.count) c.loop-k.k _ _ _ c.loop-k.invariant c.in_ok-push_figure.ensures

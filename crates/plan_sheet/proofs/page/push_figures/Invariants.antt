@@ -8,4 +8,4 @@ use Rattle.plan_sheet.proofs.page.push_figures.Given as goal
 -- the images so far are written
 abbrev pub invariant-loop-k : goal.invariant-loop-k
 invariant-loop-k l =
-    string_bytes l.text ≡ string_bytes l.fn.text ++ flat_map (figure (chart_of l.chart) l.first l.count) (range_with_len 0 l.k)
+    string_bytes l.text ≡ string_bytes l.fn.text ++ flat_map (figure (chart_of l.chart) l.count) (range_with_len 0 l.k)

@@ -1,8 +1,8 @@
-use Rattle.std.proofs.Common.{true, map, ap, refl, ◌∙◌}
-use Rattle.plan_table.specs.Names.{name_of}
+use Rattle.std.proofs.Common.{ap, refl, ◌∙◌}
 use Rattle.plan_sheet.specs.Escape.{markup_of}
 use Rattle.plan_sheet.specs.Layouts.{layout_of}
-use Rattle.plan_sheet.specs.Reports.{layout_page}
+use Rattle.plan_sheet.specs.Names.{names_of}
+use Rattle.plan_sheet.specs.Reports.{dated_by, layout_page, margins_of}
 use Rattle.plan_sheet.proofs.ReportMarkupLemmas.{same_layout}
 use Rattle.plan_sheet.proofs.reports.dated_report.Goals as goal
 
@@ -13,8 +13,8 @@ returns-clause-text c =
       days = c.in_ok-days.days.items;
       are = c.in_ok-days.ensures.days;
       shown = c.in_ok-text.ensures.text
-          ∙ ap (λ ds. layout_page a.heading.title.now a.heading.lower (map name_of a.names.now.lines.now) (map name_of a.names.now.legend.now)
-          (layout_of a.layout) a.starts.now true ds a.margins.now.floats.now a.margins.now.slacks.now) c.deref.ensures.value;
+          ∙ ap (λ ds. layout_page a.heading.title.now a.heading.lower (names_of a.names.now) (layout_of a.layout) a.starts.now
+          (dated_by a.style.now ds) (margins_of a.margins.now)) c.deref.ensures.value;
     }
 
 pub returns-clause-safe : goal.returns-clause-safe
@@ -23,8 +23,8 @@ returns-clause-safe c =
       _,
       record { days = c.in_ok-days.days.items; are = c.in_ok-days.ensures.days; shown = refl },
       ap markup_of (c.in_ok-text.ensures.text
-          ∙ ap (λ ds. layout_page a.heading.title.now a.heading.lower (map name_of a.names.now.lines.now) (map name_of a.names.now.legend.now)
-          (layout_of a.layout) a.starts.now true ds a.margins.now.floats.now a.margins.now.slacks.now) c.deref.ensures.value)
-          ∙ same_layout a.heading.title.now a.heading.lower (map name_of a.names.now.lines.now) (map name_of a.names.now.legend.now) (layout_of a.layout)
-          a.starts.now true c.in_ok-days.days.items a.margins.now.floats.now a.margins.now.slacks.now,
+          ∙ ap (λ ds. layout_page a.heading.title.now a.heading.lower (names_of a.names.now) (layout_of a.layout) a.starts.now
+          (dated_by a.style.now ds) (margins_of a.margins.now)) c.deref.ensures.value)
+          ∙ same_layout a.heading.title.now a.heading.lower (names_of a.names.now) (layout_of a.layout) a.starts.now
+          (dated_by a.style.now c.in_ok-days.days.items) (margins_of a.margins.now),
     )

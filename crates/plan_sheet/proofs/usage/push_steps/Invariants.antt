@@ -8,7 +8,7 @@ use Rattle.plan_sheet.proofs.usage.push_steps.Given as goal
 abbrev pub invariant-loop-t : goal.invariant-loop-t
 invariant-loop-t l = record {
   within : l.t ≤ l.makespan;
-  written : string_bytes l.text ≡ string_bytes l.fn.text ++ flat_map (step_at l.span l.days l.capacity l.uses) (range_with_len 0 l.t);
+  written : string_bytes l.text ≡ string_bytes l.fn.text ++ flat_map (step_at l.span l.days l.per_day l.capacity l.uses) (range_with_len 0 l.t);
 }
 
 abbrev pub decreases-loop-t : goal.decreases-loop-t
