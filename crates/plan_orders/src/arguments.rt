@@ -510,7 +510,7 @@ const SCHEDULE_COMMANDS: [Entry; 5] = [
             schedules,\n\
             and verified at least 7 if it shows that no makespan is less than 7.",
         arguments: &[
-            FILE,
+            FILE_OR_LIST,
             Argument {
                 name: "LOG",
                 form: Form::Name,

@@ -1,6 +1,6 @@
 //! `plan verify`: the check of the log of a search.
 
-use plan_cli::{Inputs, SystemInputs, file_refusal, need_refusal, read_named};
+use plan_cli::{Inputs, Subject, SystemInputs, file_refusal, need_refusal, read_named, readable};
 use plan_errors::{About, CliFault, Code, Key, Part, refuse};
 use plan_io::{Source, StdSink, write_whole};
 use plan_sgs::SgsFault;
@@ -34,19 +34,38 @@ fn log_fault(alloc: Global, fault: LogFault) -> CliFault {
     }
 }
 
-// Returns the line with the verdict of a log on the problem in a file.
+// Returns the project in a file, or the instance with a name.
+fn subject_named(instance: Option<&str>) -> Subject<'_> {
+    match instance {
+        Some(instance) => Subject::Shop(instance),
+        None => Subject::Project(&[]),
+    }
+}
+
+// Returns the line with the verdict of a log on the problem in a file that is no list.
+fn shown<R: Source>(
+    alloc: Global,
+    subject: Subject<'_>,
+    file: &[u8],
+    log: &mut R,
+) -> Result<String, VerifyFault> {
+    match subject {
+        Subject::Shop(instance) => verify_shop_text(alloc, file, instance, log),
+        Subject::Project(_) => verify_text(alloc, file, log),
+    }
+}
+
+// Returns the line with the verdict of a log on the problem in a file, which may be a list.
 fn verified<R: Source>(
     alloc: Global,
     file: &[u8],
     instance: Option<&str>,
     log: &mut R,
 ) -> Result<String, CliFault> {
-    let shown = match instance {
-        Some(instance) => verify_shop_text(alloc, file, instance, log),
-        None => verify_text(alloc, file, log),
-    };
-    shown.map_err(|fault| match fault {
-        VerifyFault::File(fault) => file_refusal(alloc, &fault, file),
+    let read = readable(alloc, subject_named(instance), file)?;
+    let text = read.text(file);
+    shown(alloc, read.subject, text, log).map_err(|fault| match fault {
+        VerifyFault::File(fault) => file_refusal(alloc, &fault, text),
         VerifyFault::Project(fault) => project_fault(alloc, fault),
         VerifyFault::Log(fault) => log_fault(alloc, fault),
     })
