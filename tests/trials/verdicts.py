@@ -74,6 +74,23 @@ def judge_whole(room, text, instance, *limits):
     return line
 
 
+def judge_list(room, name):
+    """`plan verify` judges a log on a list as on the file that `plan import` makes of the list. The log
+    of a shorter list shows something else."""
+    path, log = put(room, "list", file_of(name)), os.path.join(room, "log")
+    status, _, err = plan("solve", "--log", log, path)
+    same("a search of a list with a log", (status, err), (0, b""))
+    status, made, err = plan("import", path)
+    same("the file of a list", (status, err), (0, b""))
+    instance = ["-"] if name.endswith("shop.csv") else []
+    told = plan("verify", put(room, "made", made), log, *instance)
+    same("a log on the file of a list", (told[0], told[2]), (0, b""))
+    same("a log on a list", plan("verify", path, log), told)
+    longer = put(room, "longer", file_of(name).replace(b",4", b",40", 1))
+    if plan("verify", longer, log) == told:
+        raise Wrong(f"plan verify shows {told[1]} of another list than that of the log")
+
+
 def try_verdicts(room):
     """The logs of searches that end, and of searches that are stopped early."""
     for seed in range(PROJECTS):
@@ -84,6 +101,8 @@ def try_verdicts(room):
         judge_whole(room, text, instance)
     judge_whole(room, file_of("examples/shops.txt").decode(), ["ft06"])
     judge_whole(room, file_of("examples/house.sm").decode(), [])
+    judge_list(room, "examples/house.csv")
+    judge_list(room, "examples/shop.csv")
 
 
 # ---- damaged logs
