@@ -6,9 +6,9 @@ what `plan import` reads with the plan that was drawn.
     tests/trials/exports.py CASES SEED    so many, drawn from this seed
 
 The forms vary in encoding, separator, quotes, words and order of headers, notes, cells of durations,
-and predecessors by id, row or name. LATER has the forms that the program doesn't read yet. The reader
-of the project file below shares nothing with the program. The program is the one that ./plan runs, or
-the one that PLAN_PROGRAM names.
+predecessors by id, row or name, lags such as `12FS+2d`, and resources in columns or as names such as
+`crew[2],digger`. The reader of the project file below shares nothing with the program. The program is
+the one that ./plan runs, or the one that PLAN_PROGRAM names.
 """
 
 import collections
@@ -26,9 +26,6 @@ from answers import Wrong, plan, same, written
 Activity = collections.namedtuple("Activity", "id name duration waits needs group")
 Plan = collections.namedtuple("Plan", "activities capacities")
 
-# Forms that the program doesn't read yet: `12FS+2d`, and `crew[2],digger` under Resource Names.
-LATER = {"links", "resource names"}
-
 HEADERS = {
     "id": "ID|id|Nr.|No|Number|Task ID|nr|Activity ID",
     "name": "Name|Task Name|task|Activity|Bezeichnung|Vorgangsname|Tarea|nom|Nombre",
@@ -44,6 +41,7 @@ NOTES = {
 }
 DAYS = ("{}", "{} days", "{}d", "{},0", "{}.0", "{} Tage", "{} jours", "{} d", "{}.0d")
 NAMES = ("Walls", "Dämmung", "Roof, north", 'Door "2"', "Électricité", "Über 2", "Straße", "Plan")
+RESOURCE_NAMES = ("Resource Names", "Resources", "Ressourcennamen", "Noms ressources", "Nombres de los recursos")
 RESOURCES = ("crew", "digger", "Kran", "maçon")
 
 
@@ -61,7 +59,7 @@ def drawn_plan(random, has_names):
     activities = []
     for k in range(count):
         before = [j for j in range(count) if order.index(j) < order.index(k) and random.random() < 0.35]
-        waits = {j: 0 if "links" in LATER else random.choice((0, 0, 0, 1, 2, 10)) for j in before}
+        waits = {j: random.choice((0, 0, 0, 1, 2, 10)) for j in before}
         needs = {name: random.randint(0, capacities[name]) for name in resources}
         activities.append(Activity(ids[k], names[k], random.choice((0, 1, 2, 3, 12)), waits, needs, 0))
     return Plan(activities, capacities)
@@ -88,7 +86,8 @@ class Form:
         self.separator = random.choice(",,;;\t")
         self.has_ids = random.random() < 0.7
         self.by_names = random.random() < 0.2
-        self.as_names = "resource names" not in LATER and random.random() < 0.3 and bool(drawn.capacities)
+        self.as_names = random.random() < 0.3 and bool(drawn.capacities)
+        self.names_header = random.choice(RESOURCE_NAMES)
         self.days = random.choice(DAYS)
         self.notes = random.sample(list(NOTES), random.choice((0, 0, 1, 2)))
         self.headers = {kind: random.choice(words.split("|")) for kind, words in HEADERS.items()}
@@ -107,7 +106,7 @@ class Form:
         if isinstance(kind, tuple):
             return kind[1]
         if kind == "resources":
-            return "Resource Names"
+            return self.names_header
         word = self.headers[kind]
         return self.case(word) if self.case(word).isascii() else word
 
@@ -124,7 +123,7 @@ class Form:
             word = self.word_of(drawn, j)
             if wait:
                 word += self.random.choice((f"FS+{wait}d", f"+{wait}d", f"FS+{wait} days", f"+{wait}"))
-            elif "links" not in LATER and self.random.random() < 0.1:
+            elif self.random.random() < 0.1:
                 word += "FS"
             words.append(word)
         return self.random.choice((", ", ",", ";", "; ")).join(words)
@@ -254,6 +253,7 @@ def plan_of(text, drawn, has_ids):
 def try_export(random, folder):
     drawn = drawn_plan(random, True)
     form = Form(random, drawn)
+    drawn = drawn if form.has_ids else without_waits(drawn)
     data = form.bytes(drawn)
     written(folder, "list.csv", data)
     given = [f"--capacity={name}={most}" for name, most in drawn.capacities.items()] if form.given else []
@@ -267,6 +267,12 @@ def try_export(random, folder):
         raise Wrong(f"{what}\n  refused: {errors!r}")
     found = plan_of(output.decode(), drawn, form.has_ids)
     same(what, normal(found), normal(drawn))
+
+
+def without_waits(drawn):
+    """The plan without lags, which need a column of ids."""
+    activities = [a._replace(waits=dict.fromkeys(a.waits, 0)) for a in drawn.activities]
+    return Plan(activities, drawn.capacities)
 
 
 def without_unused(drawn, used):

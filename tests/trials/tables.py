@@ -72,6 +72,8 @@ NOTE_WORDS = (
 ).split(", ")
 # words for a column of successors
 SUCCESSORS = ["successors", "nachfolger", "successeurs", "sucesoras"]
+# words for a column with names of resources
+ASSIGNMENTS = ["resource names", "resources", "ressourcennamen", "noms ressources", "nombres de los recursos"]
 # words for days
 DAYS = ["", "d", "day", "days", "tag", "tage", "jour", "jours", "día", "días"]
 
@@ -529,14 +531,58 @@ def without_groups(found, given):
     return [(line, ["" if k in outlines else cell for k, cell in enumerate(cells)]) for line, cells in kept]
 
 
+def entries_of(cell):
+    """The resources that a cell names, each with its amount as a text."""
+    parts = [part.strip(BLANKS) for part in re.split("[,;\n]", cell)]
+    return [entry_of(part) for part in parts if part]
+
+
+def entry_of(part):
+    name, _, amount = part.partition("[")
+    if name and amount.endswith("]") and amount[:-1].strip(BLANKS):
+        return name.strip(BLANKS), amount[:-1]
+    return part, "1"
+
+
+def with_assignments(found, given):
+    """The records with a column for each resource in place of that with their names, if one of them has
+    a capacity."""
+    line, cells = found[0]
+    kinds, keys, names = header_of(line, cells)
+    rows = [cells for _, cells in found[1:]]
+    _, ids = capacities_of(keys, names, kinds, rows, given)
+    kinds = settled(kinds, keys, names, rows, given)
+    limits = [row for row in rows if ids is not None and lower(cell_at(row, ids)) == "capacity"]
+    given = [lower(name) for name in given]
+    for k, key in enumerate(keys):
+        numbers = [row for row in limits if number_of(cell_at(row, k)) is not None]
+        if kinds[k] == "resource" and key in ASSIGNMENTS and key not in given and not numbers:
+            return assigned(found, k, limits, [name for name in given if name not in map(lower, names)])
+    return found
+
+
+def assigned(found, k, limits, given):
+    """The records with a column for each resource that column k names."""
+    entries = [entries_of(cell_at(cells, k)) for _, cells in found[1:]]
+    names = {}
+    for name, _ in [entry for row in entries for entry in row]:
+        names.setdefault(lower(name), name)
+    if not any(cell_at(row, k) for row in limits) and not names.keys() & set(given):
+        return found
+    amounts = [["".join(n + " " for name, n in row if lower(name) == key) for key in names] for row in entries]
+    rows = [cells[:k] + new + cells[k + 1 :] if k < len(cells) else cells
+            for (_, cells), new in zip(found, [list(names.values())] + amounts)]
+    return [(line, cells) for (line, _), cells in zip(found, rows)]
+
+
 def plain_rows(found, given):
     """The records of the plain list, and the headers of its notes."""
     try:
-        found = without_groups(without(found, ()), given)
+        found = with_assignments(without_groups(without(found, ()), given), given)
         columns, names, _ = open_columns(found, given)
     except Refused:
         return found, []
-    notes = [k for k, key in columns.items() if key not in SUCCESSORS
+    notes = [k for k, key in columns.items() if key == "slack" or key not in SUCCESSORS
              and any(cell_at(cells, k) and number_of(cell_at(cells, k)) is None for _, cells in found[1:])]
     return without(found, notes), [names[k] for k in notes]
 
@@ -588,7 +634,7 @@ HEADS = {
     "name": ["name", "task", "Task"],
     "predecessors": ["predecessors", "after", "depends on", "Depends On"],
 }
-NOTES = ["Notes", "Start", "Cost", "Bemerkung", "coût", "% Complete", "FIN", "descripción", "Nr", "Tâche", "Days", "Depends", "Weight"]
+NOTES = ["Notes", "Start", "Cost", "Bemerkung", "coût", "% Complete", "FIN", "descripción", "Nr", "Tâche", "Days", "Depends", "Weight", "Slack"]
 CAPACITY = ["capacity", "capacity", "Capacity", "CAPACITY"]
 
 
@@ -598,6 +644,15 @@ def drawn_header(draw, kind, words):
         word = draw.choice(SYNONYMS[kind].split(", "))
         return word.capitalize() if draw.random() < 0.5 else word
     return draw.choice(HEADS[kind])
+
+
+def drawn_assignments(draw):
+    """A cell with names of resources."""
+    words = [draw.choice(["crew0", "CREW0", "Ann", "Kran"]) + draw.choice(["", "", "[2]", " [ 1 ]", "[3]"])
+             for _ in range(draw.choice([0, 1, 1, 2, 2]))]
+    if draw.random() < 0.03:
+        words.append(draw.choice(["[2]", "Ann[]", "Ann[ ]", "Ann[200%]", "Ann]", "Ann[1", "Ann[1]x"]))
+    return draw.choice([",", "; ", "\n"]).join(words)
 
 
 def drawn_table(draw):
@@ -611,6 +666,8 @@ def drawn_table(draw):
     if draw.random() < 0.05:
         notes.append(draw.choice(["Successors", "NACHFOLGER", " successeurs", "sucesoras"]))
     kinds += notes
+    names = draw.choice(ASSIGNMENTS).title() if draw.random() < 0.15 else None
+    kinds += [names] if names else []
     draw.shuffle(kinds)
     ids = [chr(65 + k) if count <= 26 else f"a{k}" for k in range(count)]
     if "id" not in kinds:
@@ -631,12 +688,14 @@ def drawn_table(draw):
         row["predecessors"] = kept.join(draw.choice([ids[i]] * 6 + [ids[i] + "FS", "Garden", "名前FS"]) for i in before)
         row.update({name: draw.choice(["", "0", "1", "3"]) for name in resources})
         row.update({name: draw.choice(["", "1", "2024-05-01", "see plan"]) for name in notes})
+        row[names] = drawn_assignments(draw)
         if draw.random() < 0.02:
             row[draw.choice(kinds)] = draw.choice(["x", "-1", "99999", "A B", "1000000000"])
         lines.append([row[kind] for kind in kinds])
     if "id" in kinds and draw.random() < 0.9:
         row = {"id": draw.choice(CAPACITY), **{name: str(draw.randrange(3 - (draw.random() < 0.2), 9)) for name in resources}}
         row.update({name: "2" for name in notes if draw.random() < 0.1})
+        row[names] = draw.choice(["", "2", "crew0[4],Ann[2]; Kran", "crew0[5], ann[1] ,Kran[2],"])
         lines.insert(draw.randrange(1, len(lines) + 1), [row.get(kind, "") for kind in kinds])
     if draw.random() < 0.2:
         lines.insert(draw.randrange(1, len(lines) + 1), [""] * len(kinds))

@@ -1,8 +1,9 @@
 -- Notes: columns that a plan doesn't use. They contain text, and have no capacity.
-use Rattle.std.specs.Prelude.{ℕ, ◌+◌, ◌==◌, ◌&&◌, Bool, if◌then◌else◌, List, [], ◌∷◌, ◌++◌, Result, Ok, Err, length, map, not, is_none}
+use Rattle.std.specs.Prelude.{ℕ, ◌+◌, ◌==◌, ◌&&◌, ◌||◌, Bool, if◌then◌else◌, List, [], ◌∷◌, ◌++◌, Result, Ok, Err, codes, length, map, not, is_none}
 use Rattle.std.specs.List.{list_any}
 use Rattle.plan_psplib.specs.Numbers.{number}
 use Rattle.plan_table.specs.declared.header.Column.TheVariants as columns
+use Rattle.plan_table.specs.Cells.{same_name}
 use Rattle.plan_table.specs.Csv.{Row}
 use Rattle.plan_table.specs.Header.{Head, heads_at, same_kind}
 use Rattle.plan_table.specs.Overrides.{Override}
@@ -17,12 +18,16 @@ is_text cell = not (length cell == 0) && is_none (number cell)
 abbrev pub has_text : List Row → ℕ → Bool
 has_text rows k = list_any (λ row. is_text (cell_of k row)) rows
 
+-- the slack of activities, as `list_back` of plan_list_back writes it, is a note without text too
+abbrev pub is_slack_word : List ℕ → Bool
+is_slack_word key = same_name (codes "slack") key
+
 -- column k is a note: its header alone would make it a resource, but it has text and no capacity, and
 -- isn't a column of successors
 abbrev pub is_note : Body → ℕ → Head → Bool
 is_note body k head =
     same_kind columns.Resource head.column && not (has_capacity body k head)
-    && not (gives_successors body k head) && has_text body.rows k
+    && not (gives_successors body k head) && (has_text body.rows k || is_slack_word head.key)
 
 -- the notes so far, with column k if it is one
 abbrev pub with_note : Body → List ℕ → ℕ → Head → List ℕ

@@ -3,16 +3,26 @@
 #![tactic(auto)]
 
 mod acceptance;
+mod assignments;
 mod fault;
 mod grid;
 mod groups;
 mod lags;
 mod list;
 mod notes;
+mod options;
+mod parts;
+mod prepared;
 mod rewriting;
 mod rows;
+mod scaling;
+mod units;
 mod waiting;
 mod waits;
 
 pub use fault::SpreadsheetFault;
+pub use grid::spells;
 pub use list::{PlainList, plain_list};
+pub use options::{Options, Rename, unit_of};
+pub use prepared::{OptionsFault, plain_list_with};
+pub use rows::filled;

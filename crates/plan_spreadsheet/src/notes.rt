@@ -12,7 +12,7 @@ ghost use Rattle.plan_spreadsheet.specs.Notes as spec;
 use plan_psplib::number;
 use plan_table::{
     Body, Column, Head, Override, ReadError, Row, cell_of, gives_successors, has_capacity,
-    ids_place, read_heads, same_kind, settle,
+    ids_place, read_heads, same_kind, same_name, settle,
 };
 use std::alloc::{AllocError, Global};
 
@@ -35,6 +35,13 @@ fn has_text(rows: &[Row], k: usize) -> bool
     false
 }
 
+// Whether a header is that of the slack of activities.
+fn is_slack_word(key: &[u8]) -> bool
+    ensures { result ≡ spec.is_slack_word key.now }
+{
+    same_name(b"slack", key)
+}
+
 // Whether column `k` is a note.
 fn is_note(body: &Body<'_>, k: usize, head: &Head) -> bool
     ensures { result ≡ spec.is_note (body_of body.now) k (head_of head.now) }
@@ -42,7 +49,7 @@ fn is_note(body: &Body<'_>, k: usize, head: &Head) -> bool
     same_kind(Column::Resource, head.column)
         && !has_capacity(body, k, head)
         && !gives_successors(body, k, head)
-        && has_text(body.rows, k)
+        && (has_text(body.rows, k) || is_slack_word(&head.key))
 }
 
 // Puts the number of column `k` behind others, if it is a note.

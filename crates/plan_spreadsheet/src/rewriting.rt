@@ -10,6 +10,7 @@ ghost use Rattle.plan_spreadsheet.specs.PlainRows as spec;
 ghost use Rattle.plan_spreadsheet.specs.Rows.{Spells, filled as filled_rows};
 
 use crate::acceptance::is_refused;
+use crate::assignments::with_assignments;
 use crate::fault::SpreadsheetFault;
 use crate::grid::write_rows;
 use crate::groups::without_groups;
@@ -108,7 +109,8 @@ fn rewrite_rows(
 {
     let before = filled(alloc, rows)?;
     let ungrouped = without_groups(alloc, overrides, &before)?;
-    let plain = without_notes(alloc, overrides, &ungrouped)?;
+    let assigned = with_assignments(alloc, overrides, &ungrouped)?;
+    let plain = without_notes(alloc, overrides, &assigned)?;
     let waiting = with_waits(alloc, overrides, &plain.rows)?;
     let plain_rows = filled(alloc, &waiting)?;
     let text = write_plain(alloc, &before, &plain_rows)?;
