@@ -1,9 +1,9 @@
 #!/usr/bin/env python3
 """Reads calendar files of `plan days --format ics` with --uid, --sequence, --only, --per-day and
---opens back, over drawn projects and job shops with names and ids: lines are unfolded, values
-unescaped, and the events compared with those of a plain model: their identifiers by a word, their
-revisions, the resources in their names, the events of one resource, machine or order, and times of
-day.
+--opens back, over drawn projects and job shops with names and ids, and over drawn lists: lines are
+unfolded, values unescaped, and the events compared with those of a plain model: their identifiers by
+a word, their revisions, the resources in their names, the events of one resource, machine or order,
+and times of day.
 
     tests/trials/crew_events.py               1,000 files; prints nothing on success
     tests/trials/crew_events.py CASES SEED    so many, drawn from this seed
@@ -27,7 +27,9 @@ from drawing import Draw
 from drawing.words import rule
 from events import HEAD, content_lines, digest_of, name_lines, shown_name, text_of
 from holidays import Calendar, STARTS, small_file
+from list_rows import RULES, List, bytes_of
 from model.commands import pages_of
+from model.schedules import rule_starts
 from model.texts import shop_steps
 from model.words import Fault
 
@@ -67,14 +69,27 @@ class Case:
         self.text, self.names, self.others, self.ids = with_names(draw, text, self.instance)
         pages = pages_of(self.text, self.instance)
         self.plan = pages.shop if self.is_shop else pages.project
+        self.notes = b""
         self.rule = rule(draw, self.is_shop)
         self.starts = pages.starts(self.rule)
+        self.choose(draw)
+
+    def choose(self, draw):
+        """Draws the options."""
         self.start, self.marks = draw.pick(STARTS), draw.pick(MARKS)
         self.word = draw.pick(WORDS) if draw.chance(0.7) else None
-        self.sequence = draw.pick((0, 0, 1, 2, 12, 4294967295))
+        self.sequence = draw.pick((0, 0, 1, 2, 12, 2147483647))
         self.per_day, self.opens = draw.pick(((1, 0), (1, 420), (8, 420), (3, 425), (24, 0), (2, 1320)))
         self.only = self.a_name(draw) if draw.chance(0.6) else None
         self.is_plain = self.word is None and self.only is None and not self.sequence
+
+    def digest(self, folder):
+        """The digest of the file."""
+        return digest_of(self.text, self.instance)
+
+    def title(self):
+        """The word of identifiers if none is given."""
+        return self.instance[0] if self.instance and self.instance[0] != "-" else FILE
 
     def a_name(self, draw):
         """A name of a resource, a machine or an order, at times of none."""
@@ -103,6 +118,25 @@ class Case:
         return ["days", "--format", "ics", *options, self.rule, self.start, self.marks, file, *self.instance]
 
 
+class ListCase(Case):
+    """The same of a list."""
+
+    def __init__(self, draw, random):
+        drawn, self.is_shop, self.instance = List(random), False, []
+        self.text, self.notes = bytes_of(random, drawn)
+        rows = enumerate(drawn.names, 2)
+        self.names = {j: name.encode() for j, name in rows if name}
+        self.others = {r: name.encode() for r, name in enumerate(drawn.resources, 1)}
+        self.ids = {j: name.encode() for j, name in enumerate(drawn.ids, 2)}
+        self.plan, self.rule = drawn.project(), random.choice(RULES)
+        self.starts = rule_starts(self.plan, self.rule)
+        self.choose(draw)
+
+    def digest(self, folder):
+        """The digest of the file that `plan import` makes of it."""
+        return digest_of(plan(folder, "import", FILE)[1], [])
+
+
 # ---- what is wanted
 
 
@@ -128,7 +162,7 @@ def moment(case, calendar, unit, is_end):
     return (datetime.datetime.combine(day, datetime.time()) + datetime.timedelta(minutes=minutes)).strftime("%Y%m%dT%H%M00")
 
 
-def wanted_event(case, calendar, bar):
+def wanted_event(case, digest, calendar, bar):
     number, step, begin, end, parts = bar
     front = "machine " if case.is_shop else "R"
     labels = [(name_or(case.others, part, front), amount) for part, amount in parts]
@@ -137,8 +171,7 @@ def wanted_event(case, calendar, bar):
         return None
     mark, tail = (f"-{step}", f", step {step}") if step else ("", "")
     key = name_or(case.ids, number)
-    digest = digest_of(case.text, case.instance)
-    uid = f"{digest}-{number}{mark}@plan" if case.is_plain else escaped_back(f"{case.word or FILE}-{key}{mark}@plan")
+    uid = f"{digest}-{number}{mark}@plan" if case.is_plain else escaped_back(f"{case.word or case.title()}-{key}{mark}@plan")
     listed = ", ".join(f"{label} {amount}" if amount else label for label, amount in labels)
     summary = name + tail + (f" ({listed})" if listed else "")
     if case.is_plain:
@@ -175,27 +208,37 @@ def events_of(text, has_times):
 # ---- the trial
 
 
-def try_file(draw, folder):
+def drawn_case(draw, random):
+    return ListCase(draw, random) if draw.chance(0.3) else Case(draw)
+
+
+def try_file(draw, random, folder):
     try:
-        case = Case(draw)
+        case = drawn_case(draw, random)
     except Fault:
         return "refused"
     words = case.words(written(folder, FILE, case.text))
     what = f"{case.text!r}: {words}"
     status, output, errors = plan(folder, *words)
-    same(f"{what}: the status and the errors", (status, errors), (0, b""))
+    same(f"{what}: the status and the errors", (status, errors), (0, case.notes))
     calendar = Calendar(case.start, case.marks, set())
     bars = [bar for bar in case.bars() if bar[2] < bar[3]]
-    events = [wanted_event(case, calendar, bar) for bar in bars]
-    same(what, events_of(output, case.per_day > 1), [event for event in events if event])
+    digest = case.digest(folder)
+    events = [wanted_event(case, digest, calendar, bar) for bar in bars]
+    found = events_of(output, case.per_day > 1)
+    same(what, found, [event for event in events if event])
+    keys = {(escaped_back(name_or(case.ids, number)), step) for number, step, *_ in bars}
+    if len(keys) == len(bars):
+        same(f"{what}: the number of identifiers", len({event[0] for event in found}), len(found))
     return "some" if any(events) else "none"
 
 
 def try_crew_events(cases=1000, seed=1, is_verbose=False):
-    draw, tally = Draw(Random(seed)), collections.Counter()
+    random = Random(seed)
+    draw, tally = Draw(random), collections.Counter()
     with tempfile.TemporaryDirectory() as folder:
         for _ in range(cases):
-            tally[try_file(draw, folder)] += 1
+            tally[try_file(draw, random, folder)] += 1
     if is_verbose:
         print(f"{cases} calendar files by seed {seed}: {dict(tally)}")
 

@@ -5,8 +5,8 @@ use crate::misuse::Misuse;
 use crate::status::Status;
 use clap::ArgMatches;
 use plan_orders::{
-    Lists, OfficeOrder, Order, capacities_of, command, help, order_of, overrides_of, texts_of,
-    version,
+    Lists, OfficeOrder, Order, capacities_of, command, help, misplaced_option, order_of,
+    overrides_of, texts_of, version,
 };
 use std::alloc::Global;
 use std::env;
@@ -46,6 +46,9 @@ fn run_matches<O: Offices>(
     let capacities = capacities.map_err(|text| Misuse::of_capacity(alloc, text))?;
     let overrides = overrides_of(alloc, &matches)?;
     let overrides = overrides.map_err(|text| Misuse::of_capacity(alloc, text))?;
+    if let Some(option) = misplaced_option(&matches) {
+        return Err(Misuse::NeedsCalendarFile(option));
+    }
     let texts = texts_of(alloc, &matches)?;
     let lists = Lists {
         capacities: &capacities,

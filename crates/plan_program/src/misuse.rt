@@ -23,6 +23,8 @@ pub enum Misuse {
     OneInput(&'static str, &'static str),
     /// A text that gives no capacity.
     BadCapacity(String),
+    /// The option with this name is given, and the output isn't a calendar file.
+    NeedsCalendarFile(&'static str),
 }
 
 impl From<AllocError> for Misuse {
@@ -58,6 +60,7 @@ impl Misuse {
                 print_misuse(rt, "the commands of an office need the program itself")
             }
             Misuse::BadCapacity(text) => print_bad_capacity(rt, text),
+            Misuse::NeedsCalendarFile(option) => print_misplaced(rt, option),
             Misuse::OneInput(first, second) => print_one_input(rt, first, second),
         }
     }
@@ -98,6 +101,14 @@ fn print_bad_capacity(rt: &HostRuntime, text: &str) -> Status {
     let _ = eprintln!(rt;
         "error: invalid value '{text}' for '--capacity <NAME=N>': N is a number from 0 to 10000\n\n\
         For more information, try '--help'."
+    );
+    Status::Misused
+}
+
+// Prints the error of an option for calendar files, and returns the status of usage.
+fn print_misplaced<R: Eprint>(rt: &R, option: &str) -> Status {
+    let _ = eprintln!(rt;
+        "error: --{option} requires --format ics\n\nFor more information, try '--help'."
     );
     Status::Misused
 }

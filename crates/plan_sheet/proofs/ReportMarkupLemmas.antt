@@ -1,5 +1,5 @@
 -- The markup of a report doesn't depend on names.
-use Rattle.std.proofs.Common.{◌≡◌, ℕ, ◌+◌, ◌-◌, ◌*◌, ◌==◌, ◌||◌, Bool, true, false, if◌then◌else◌, nat_lt, List, [], ◌∷◌, ◌++◌, Option, Some, None, length, map, flat_map, codes, min, refl, sym, ap, ap₂, ◌∙◌, cond}
+use Rattle.std.proofs.Common.{◌≡◌, ℕ, ◌+◌, ◌-◌, ◌*◌, ◌==◌, Bool, true, false, if◌then◌else◌, nat_lt, List, [], ◌∷◌, ◌++◌, Option, Some, length, map, flat_map, codes, min, refl, ap, ap₂, ◌∙◌, cond}
 use Rattle.std.specs.List.{range_with_len}
 use Rattle.std.specs.Int.{div_ceil}
 use Rattle.std.specs.Prelude.{slice_index}
@@ -252,7 +252,7 @@ bars_bare l ids bars =
     (λ bar. ap (λ (b : Bool). cond b (bar ∷ []) []) (shows_bare l ids bar)) bars
 
 line_bare : (ids : List Name) (first k : ℕ) → shown_line ids first k ≡ shown_line (map unnamed ids) first k
-line_bare ids first k = ap (λ (b : Bool). cond b (first + k ∷ []) []) (shown_bare ids (first + k))
+line_bare ids first k = ap (λ (b : Bool). cond b ((first + k) ∷ []) []) (shown_bare ids (first + k))
 
 lines_bare : (l : Layout) (ids : List Name) → lines_of l ids ≡ lines_of l (map unnamed ids)
 lines_bare (activities i) ids =
@@ -267,12 +267,11 @@ ids_bare : (l : Layout) (ids : List Name) → has_ids (bar_ids l ids) ≡ has_id
 ids_bare (activities i) ids = has_bare ids
 ids_bare (steps s by_job brief) ids = refl
 
--- the page of a chart with these lines and bars, which is that of a list or not
-abbrev page_with : List ℕ → Option ℕ → SheetNames → Layout → List ℕ → Calendared → Margins → Bool → List ℕ → List Bar → List ℕ
-page_with title lower names l starts on margins listed lines bars =
-    let makespan = greatest_end (bars_of l starts) in
-    let chart = record {
-      span = axis_to on.days (day_count on.hours makespan);
+-- the chart of a schedule with these lines and bars
+abbrev chart_with : SheetNames → Layout → List ℕ → Calendared → List ℕ → List ℕ → List Bar → Chart
+chart_with names l starts on slacks lines bars =
+    record {
+      span = axis_to on.days (day_count on.hours (greatest_end (bars_of l starts)));
       days = on.days;
       per_day = per_day_of on.hours;
       lines = lines;
@@ -280,9 +279,13 @@ page_with title lower names l starts on margins listed lines bars =
       rows = row_names l names.lines names.legend;
       names = bar_names l names.lines names.legend;
       bars = bars;
-      slacks = margins.slacks;
-    } in
-    page title lower makespan (record {
+      slacks = slacks;
+    }
+
+-- the table of a chart, which is that of a list or not
+abbrev table_with : SheetNames → Layout → Calendared → Margins → Bool → Chart → Table
+table_with names l on margins listed chart =
+    record {
       chart = chart;
       dated = on.dated;
       weekdays = on.weekdays;
@@ -293,7 +296,14 @@ page_with title lower names l starts on margins listed lines bars =
       floats = margins.floats;
       resources = names.resources;
       predecessors = names.predecessors;
-    }) (section_of l chart names.legend starts makespan)
+    }
+
+-- the page of a chart with these lines and bars
+abbrev page_with : List ℕ → Option ℕ → SheetNames → Layout → List ℕ → Calendared → Margins → Bool → List ℕ → List Bar → List ℕ
+page_with title lower names l starts on margins listed lines bars =
+    page title lower (greatest_end (bars_of l starts))
+    (table_with names l on margins listed (chart_with names l starts on margins.slacks lines bars))
+    (section_of l (chart_with names l starts on margins.slacks lines bars) names.legend starts (greatest_end (bars_of l starts)))
 
 -- the report of a schedule has the same markup whatever its title, its names and the texts of its
 -- ids and columns are
