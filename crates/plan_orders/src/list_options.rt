@@ -96,14 +96,7 @@ fn unit_in(text: Option<&str>) -> Result<Option<u64>, BadOption<'_>> {
 fn listing<'a, 'b>(matches: &'a ArgMatches<'b>) -> Option<&'a ArgMatches<'b>> {
     match matches.subcommand()? {
         (
-            "import"
-            | "solve"
-            | "chart"
-            | "days"
-            | "report"
-            | "check"
-            | "slack"
-            | "compare",
+            "import" | "solve" | "chart" | "days" | "report" | "check" | "slack" | "compare",
             arguments,
         ) => Some(arguments),
         _ => None,

@@ -761,9 +761,7 @@ fn print_order<'a>(
     lists: Lists<'a>,
 ) -> Option<Print<'a>> {
     match name {
-        "days" if arguments.get_str("format") == Some("ics") => {
-            events_order(arguments, lists)
-        }
+        "days" if arguments.get_str("format") == Some("ics") => { events_order(arguments, lists) }
         "chart" if arguments.get_flag("svg") => image_order(arguments, lists),
         "report" => report_order(arguments, lists),
         _ => None,
