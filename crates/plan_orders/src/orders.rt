@@ -1,5 +1,6 @@
 //! The orders that the arguments of the command line spell.
 
+use crate::hours::{HourWords, hour_words};
 use clap::ArgMatches;
 use plan_cli::{
     Capacity, Dates, NamedText, Options, Origin, Pair, Role, Rows, Subject, Task, Template,
@@ -55,8 +56,13 @@ pub enum FileOrder<'a> {
         log: &'a str,
         instance: Option<&'a str>,
     },
-    /// A sheet to print, with the time limit of a search for the schedule, in seconds.
-    Print(Print<'a>, Option<u32>),
+    /// A sheet to print. Its days have the hours that the words give.
+    Print {
+        print: Print<'a>,
+        hours: HourWords<'a>,
+        /// The time limit of a search for the schedule, in seconds.
+        seconds: Option<u32>,
+    },
     /// A table to start from.
     New(Template),
     /// The meaning of an error line, which is given as one argument or as several.
@@ -113,7 +119,7 @@ impl<'a> FileOrder<'a> {
     /// Returns the names of two arguments that are standard input, if there are two.
     pub fn shared_input(&self) -> Option<(&'static str, &'static str)> {
         match *self {
-            FileOrder::Print(print, _) => print_input(&print),
+            FileOrder::Print { print, .. } => print_input(&print),
             FileOrder::Texts { file, texts, .. } => texts_input(file, texts),
             FileOrder::Check {
                 file: "-",
@@ -615,7 +621,8 @@ fn dates_behind_rule<'a>(arguments: &'a ArgMatches<'_>) -> Option<Dates<'a>> {
     Some(dates_of(arguments.get_str(start)?, arguments.get_str(marks)?))
 }
 
-// Returns the order of `days`.
+// Returns the order of `days` for a table. The table shows dates alone: `Task::Days` of plan_cli has
+// no style yet. With one, `day_style` and `hour_words` give its parts, as for a calendar file.
 fn days_order<'a>(arguments: &'a ArgMatches<'_>, lists: Lists<'a>) -> Option<FileOrder<'a>> {
     let words = schedule_words(arguments, "MARKS")?;
     let task = Task::Days {
@@ -677,13 +684,38 @@ fn subject_of<'a>(instance: Option<&'a str>, capacities: &'a [Capacity<'a>]) -> 
     }
 }
 
+// Returns the style of days that the arguments give, without hours.
+fn day_style(arguments: &ArgMatches<'_>) -> DayStyle {
+    DayStyle {
+        weekdays: arguments.get_flag("weekdays"),
+        ..DayStyle::plain()
+    }
+}
+
+// Returns the choice of events that the arguments give, without hours. With a choice the identifiers
+// have a word, which is that of the option or else this title.
+fn events_of<'a>(arguments: &'a ArgMatches<'_>, title: &'a str) -> Events<'a> {
+    let (uid, only) = (arguments.get_str("uid"), arguments.get_str("only"));
+    let sequence: Option<u32> = arguments.get_one("sequence");
+    if uid.is_none() && only.is_none() && sequence.is_none() {
+        return Events::plain();
+    }
+    Events {
+        uid: Some(uid.unwrap_or(title)),
+        sequence: sequence.unwrap_or(0),
+        only,
+        resources: true,
+        ..Events::plain()
+    }
+}
+
 // Returns the order of `days` for a calendar file.
 fn events_order<'a>(arguments: &'a ArgMatches<'_>, lists: Lists<'a>) -> Option<Print<'a>> {
     let words = schedule_words(arguments, "MARKS")?;
     Some(Print {
         sheet: Sheet::Events {
             dates: dates_behind_rule(arguments)?,
-            events: Events::plain(),
+            events: events_of(arguments, title_of(words.instance, words.file)),
         },
         options: lists.options,
         subject: subject_of(words.instance, lists.capacities),
@@ -743,7 +775,7 @@ fn report_order<'a>(arguments: &'a ArgMatches<'_>, lists: Lists<'a>) -> Option<P
         sheet: Sheet::Report {
             title: title.unwrap_or(title_of(instance, file)),
             dates: report_dates(arguments),
-            style: DayStyle::plain(),
+            style: day_style(arguments),
             by_job: arguments.get_str("by") == Some("job"),
         },
         options: lists.options,
@@ -752,6 +784,14 @@ fn report_order<'a>(arguments: &'a ArgMatches<'_>, lists: Lists<'a>) -> Option<P
         holidays: arguments.get_str("holidays"),
         file,
     })
+}
+
+// Returns the hours of a command that prints a sheet.
+fn print_hours<'a>(name: &str, arguments: &'a ArgMatches<'_>) -> HourWords<'a> {
+    match name {
+        "days" | "report" => hour_words(arguments),
+        _ => HourWords::NONE,
+    }
 }
 
 // Returns the order of a command that prints a sheet.
@@ -785,7 +825,11 @@ fn file_order<'a>(
     lists: Lists<'a>,
 ) -> Option<FileOrder<'a>> {
     if let Some(print) = print_order(name, arguments, lists) {
-        return Some(FileOrder::Print(print, limit_of(arguments)));
+        return Some(FileOrder::Print {
+            print,
+            hours: print_hours(name, arguments),
+            seconds: limit_of(arguments),
+        });
     }
     match name {
         "import" => import_order(arguments, lists.overrides),
@@ -801,6 +845,23 @@ fn file_order<'a>(
         "days" => days_order(arguments, lists),
         _ => plain_order(name, arguments, lists.capacities),
     }
+}
+
+/// Returns the name of an option for calendar files that the arguments give for another output, if
+/// they give one.
+pub fn misplaced_option(matches: &ArgMatches<'_>) -> Option<&'static str> {
+    let ("days", arguments) = matches.subcommand()? else {
+        return None;
+    };
+    if arguments.get_str("format") == Some("ics") {
+        return None;
+    }
+    for name in ["uid", "sequence", "only"] {
+        if arguments.get_str(name).is_some() {
+            return Some(name);
+        }
+    }
+    None
 }
 
 /// Returns the order that the arguments and their lists spell. The parser has checked that the
