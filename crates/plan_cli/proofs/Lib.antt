@@ -11,6 +11,7 @@ pub mod TurnLemmas
 pub mod CalendarLemmas
 pub mod DaysLemmas
 pub mod InputLemmas
+pub mod PreparedLemmas
 pub mod ViewTextLemmas
 pub mod CheckLemmas
 pub mod SearchLemmas

@@ -72,6 +72,12 @@ enum Form {
     CapacityIfProject,
     /// An option with the capacity of a resource of a list, any number of times.
     ListCapacity,
+    /// An option with a header of a list and its word, any number of times.
+    Map,
+    /// An option with a header of a list, any number of times.
+    Ignore,
+    /// An option with the unit of the durations of a list.
+    Unit,
     /// An option with the name of a file to write.
     Output,
     /// A name that isn't given if the option `starts` or `solve` is.
@@ -226,6 +232,25 @@ const CAPACITY_IF_PROJECT: Argument = Argument {
     help: CAPACITY_HELP,
 };
 
+// The options of commands that read lists.
+const MAP: Argument = Argument {
+    name: "map",
+    form: Form::Map,
+    help: "for a list: read the column HEADER as WORD, for example Effort=duration; may be repeated",
+};
+
+const IGNORE: Argument = Argument {
+    name: "ignore",
+    form: Form::Ignore,
+    help: "for a list: leave out the column HEADER; may be repeated",
+};
+
+const UNIT: Argument = Argument {
+    name: "unit",
+    form: Form::Unit,
+    help: "for a list: the days in a unit of time, for example 0.5; durations and lags are in days",
+};
+
 // The file of a command that has the option `starts`.
 const FILE_UNLESS_STARTS: Argument = Argument {
     name: "FILE",
@@ -288,7 +313,8 @@ const WEEKDAYS_HELP: &str = "print the weekdays of days, for example Mon 2026-11
 
 const PER_DAY_HELP: &str = "time units of a working day, an hour each, 1 to 24 [default: 1]";
 
-const OPENS_HELP: &str = "the time at which a working day begins, for example 07:00 [default: 00:00]";
+const OPENS_HELP: &str =
+    "the time at which a working day begins, for example 07:00 [default: 00:00]";
 
 const WEEKDAYS: Argument = Argument {
     name: "weekdays",
@@ -422,6 +448,9 @@ const LIST_COMMANDS: [Entry; 2] = [
                 form: Form::ListCapacity,
                 help: "the capacity of a resource, in place of that of the list; may be repeated",
             },
+            MAP,
+            IGNORE,
+            UNIT,
             Argument {
                 name: "shop",
                 form: Form::Flag,
@@ -462,6 +491,9 @@ const PROJECT_COMMANDS: [Entry; 6] = [
             FILE_OR_LIST,
             GIVEN_STARTS,
             INSTANCE_IF_SHOP,
+            MAP,
+            IGNORE,
+            UNIT,
             FORMAT,
             Argument {
                 name: "status",
@@ -476,7 +508,16 @@ const PROJECT_COMMANDS: [Entry; 6] = [
         examples: "Examples:\n  \
             plan slack examples/six.sm examples/starts.txt\n  \
             plan schedule lft examples/house.sm | plan slack --names examples/house.sm -",
-        arguments: &[FILE_OR_LIST, GIVEN_STARTS, CAPACITY, NAMES, FORMAT],
+        arguments: &[
+            FILE_OR_LIST,
+            GIVEN_STARTS,
+            CAPACITY,
+            MAP,
+            IGNORE,
+            UNIT,
+            NAMES,
+            FORMAT,
+        ],
     },
     Entry {
         name: "compare",
@@ -491,6 +532,9 @@ const PROJECT_COMMANDS: [Entry; 6] = [
             STARTS_B,
             INSTANCE_IF_SHOP,
             CAPACITY_IF_PROJECT,
+            MAP,
+            IGNORE,
+            UNIT,
             NAMES,
             FORMAT,
         ],
@@ -562,6 +606,9 @@ const SCHEDULE_COMMANDS: [Entry; 5] = [
                 help: "conflict limit of each search, 1 to 1000000000",
             },
             CAPACITY_IF_PROJECT,
+            MAP,
+            IGNORE,
+            UNIT,
             NAMES,
             FORMAT,
             Argument {
@@ -605,6 +652,9 @@ const SCHEDULE_COMMANDS: [Entry; 5] = [
             SOLVE,
             SOLVE_SECONDS,
             CAPACITY_IF_PROJECT,
+            MAP,
+            IGNORE,
+            UNIT,
             NAMES,
             FORMAT,
             SVG,
@@ -646,6 +696,9 @@ const SCHEDULE_COMMANDS: [Entry; 5] = [
             PER_DAY,
             OPENS,
             CAPACITY_IF_PROJECT,
+            MAP,
+            IGNORE,
+            UNIT,
             NAMES,
             DAY_FORMAT,
             UID,
@@ -707,6 +760,9 @@ const SCHEDULE_COMMANDS: [Entry; 5] = [
                 help: "the title [default: INSTANCE, or the name of FILE]",
             },
             CAPACITY_IF_PROJECT,
+            MAP,
+            IGNORE,
+            UNIT,
         ],
     },
 ];
@@ -993,6 +1049,15 @@ fn arg_of<'a>(alloc: Global, argument: &Argument) -> Result<Arg<'a>, AllocError>
             .value_name("FORMAT")
             .value_parser(DAY_FORMATS)
             .default_value("text"),
+        Form::Map => arg
+            .long(argument.name)
+            .value_name("HEADER=WORD")
+            .action(ArgAction::Append),
+        Form::Ignore => arg
+            .long(argument.name)
+            .value_name("HEADER")
+            .action(ArgAction::Append),
+        Form::Unit => arg.long(argument.name).value_name("U"),
         Form::PerDay => arg
             .long(argument.name)
             .value_name("N")

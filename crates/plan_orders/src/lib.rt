@@ -6,11 +6,13 @@ mod arguments;
 mod contexts;
 mod digest;
 mod hours;
+mod list_options;
 mod orders;
 mod outputs;
 
 pub use arguments::{command, help, version};
 pub use hours::{HourWords, with_hours};
+pub use list_options::{BadOption, ListOptions, list_options_of};
 pub use orders::{
     FileOrder, Lists, OfficeOrder, Order, capacities_of, misplaced_option, order_of, overrides_of,
     texts_of,
