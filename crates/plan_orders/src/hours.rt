@@ -1,7 +1,7 @@
 //! The hours of a working day that the arguments give.
 
 use clap::ArgMatches;
-use plan_cli::CliFault;
+use plan_cli::{CliFault, MomentStyle, Task};
 use plan_print::{DayStyle, Events, Print, Sheet, hours_of};
 use std::alloc::Global;
 
@@ -60,4 +60,30 @@ pub fn with_hours<'a>(
         },
     };
     Ok(Print { sheet, ..print })
+}
+
+/// Returns a task whose days have these hours. The error is `G7 hours`.
+pub fn task_with_hours<'a>(
+    alloc: Global,
+    task: Task<'a>,
+    words: HourWords<'_>,
+) -> Result<Task<'a>, CliFault> {
+    let hours = hours_of(alloc, words.per_day, words.opens)?;
+    match task {
+        Task::Days {
+            origin,
+            dates,
+            style,
+            subject,
+        } if hours.is_some() => {
+            let weekdays = style.is_some_and(|style| style.weekdays);
+            Ok(Task::Days {
+                origin,
+                dates,
+                style: Some(MomentStyle { weekdays, hours }),
+                subject,
+            })
+        }
+        _ => Ok(task),
+    }
 }

@@ -13,7 +13,7 @@ use plan_cli::{
 };
 use plan_errors::{About, write_text};
 use plan_io::{Sink, StdSink};
-use plan_orders::{FileOrder, with_hours};
+use plan_orders::{FileOrder, task_with_hours, with_hours};
 use plan_print::print_on_files;
 use std::alloc::Global;
 use std::io;
@@ -106,8 +106,10 @@ fn do_file_order(
             task,
             file,
             texts,
+            hours,
             seconds,
         } => {
+            let task = task_with_hours(rt.alloc(), task, hours)?;
             let mut line = ProgressLine::within(rt, seconds);
             run_on_files(rt, options, task, rows, &mut line, texts, file, &mut writer)?;
             line.print_notes();
