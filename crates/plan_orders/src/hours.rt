@@ -62,28 +62,56 @@ pub fn with_hours<'a>(
     Ok(Print { sheet, ..print })
 }
 
-/// Returns a task whose days have these hours. The error is `G7 hours`.
-pub fn task_with_hours<'a>(
-    alloc: Global,
-    task: Task<'a>,
-    words: HourWords<'_>,
-) -> Result<Task<'a>, CliFault> {
-    let hours = hours_of(alloc, words.per_day, words.opens)?;
+/// The days of a table as the arguments give them.
+#[derive(Clone, Copy)]
+pub struct DayWords<'a> {
+    /// Whether they have weekdays.
+    pub weekdays: bool,
+    pub hours: HourWords<'a>,
+}
+
+impl<'a> DayWords<'a> {
+    /// Dates alone.
+    pub const NONE: DayWords<'static> = DayWords {
+        weekdays: false,
+        hours: HourWords::NONE,
+    };
+}
+
+// Returns the days that the options of a command give.
+pub(crate) fn day_words<'a>(arguments: &'a ArgMatches<'_>) -> DayWords<'a> {
+    DayWords {
+        weekdays: arguments.get_flag("weekdays"),
+        hours: hour_words(arguments),
+    }
+}
+
+/// Returns the style of a table of days, or none for dates alone. The error is `G7 hours`.
+pub fn style_of(alloc: Global, words: DayWords<'_>) -> Result<Option<MomentStyle>, CliFault> {
+    let hours = hours_of(alloc, words.hours.per_day, words.hours.opens)?;
+    if !words.weekdays && hours.is_none() {
+        return Ok(None);
+    }
+    Ok(Some(MomentStyle {
+        weekdays: words.weekdays,
+        hours,
+    }))
+}
+
+/// Returns a task whose table of days is shown in a style. Another task stays as it is.
+pub fn with_style<'a>(task: Task<'a>, style: Option<&'a MomentStyle>) -> Task<'a> {
     match task {
         Task::Days {
             origin,
             dates,
+            subject,
+            ..
+        } => Task::Days {
+            origin,
+            dates,
             style,
             subject,
-        } if hours.is_some() => {
-            let weekdays = style.is_some_and(|style| style.weekdays);
-            Ok(Task::Days {
-                origin,
-                dates,
-                style: Some(MomentStyle { weekdays, hours }),
-                subject,
-            })
-        }
-        _ => Ok(task),
+        },
+        _ => task,
     }
 }

@@ -1,10 +1,9 @@
 //! The orders that the arguments of the command line spell.
 
-use crate::hours::{HourWords, hour_words};
+use crate::hours::{DayWords, HourWords, day_words, hour_words};
 use clap::ArgMatches;
 use plan_cli::{
-    Capacity, Dates, MomentStyle, NamedText, Options, Origin, Pair, Role, Rows, Subject, Task,
-    Template,
+    Capacity, Dates, NamedText, Options, Origin, Pair, Role, Rows, Subject, Task, Template,
 };
 use plan_formats::Format;
 use plan_print::{DayStyle, Events, NamedOrigin, Print, Sheet};
@@ -36,13 +35,13 @@ pub enum FileOrder<'a> {
         seconds: Option<u32>,
         log: Option<&'a str>,
     },
-    /// A task on the file with this name, and on texts in other files. Its days have the hours that
-    /// the words give.
+    /// A task on the file with this name, and on texts in other files. The words give the style of
+    /// its days.
     Texts {
         task: Task<'a>,
         file: &'a str,
         texts: &'a [NamedText<'a>],
-        hours: HourWords<'a>,
+        days: DayWords<'a>,
         /// The time limit of a search for the schedule, in seconds.
         seconds: Option<u32>,
     },
@@ -524,7 +523,7 @@ fn texts_order<'a>(task: Task<'a>, file: &'a str, texts: &'a [NamedText<'a>]) ->
         task,
         file,
         texts,
-        hours: HourWords::NONE,
+        days: DayWords::NONE,
         seconds: None,
     }
 }
@@ -593,13 +592,13 @@ fn searched_order<'a>(
     task: Task<'a>,
     file: &'a str,
     texts: &'a [NamedText<'a>],
-    hours: HourWords<'a>,
+    days: DayWords<'a>,
 ) -> FileOrder<'a> {
     FileOrder::Texts {
         task,
         file,
         texts,
-        hours,
+        days,
         seconds: limit_of(arguments),
     }
 }
@@ -611,8 +610,8 @@ fn chart_order<'a>(arguments: &'a ArgMatches<'_>, lists: Lists<'a>) -> Option<Fi
         origin: origin_of(words.origin),
         subject: subject_of(words.instance, lists.capacities),
     };
-    let hours = HourWords::NONE;
-    Some(searched_order(arguments, task, words.file, lists.texts, hours))
+    let days = DayWords::NONE;
+    Some(searched_order(arguments, task, words.file, lists.texts, days))
 }
 
 // Returns dates without holidays.
@@ -633,29 +632,17 @@ fn dates_behind_rule<'a>(arguments: &'a ArgMatches<'_>) -> Option<Dates<'a>> {
     Some(dates_of(arguments.get_str(start)?, arguments.get_str(marks)?))
 }
 
-// Returns the style of `days` for a table, without hours, if it shows more than dates.
-fn moment_style(arguments: &ArgMatches<'_>) -> Option<MomentStyle> {
-    if arguments.get_flag("weekdays") {
-        Some(MomentStyle {
-            weekdays: true,
-            hours: None,
-        })
-    } else {
-        None
-    }
-}
-
-// Returns the order of `days` for a table.
+// Returns the order of `days` for a table. Its style follows from the words.
 fn days_order<'a>(arguments: &'a ArgMatches<'_>, lists: Lists<'a>) -> Option<FileOrder<'a>> {
     let words = schedule_words(arguments, "MARKS")?;
     let task = Task::Days {
         origin: origin_of(words.origin),
         dates: dates_behind_rule(arguments)?,
-        style: moment_style(arguments),
+        style: None,
         subject: subject_of(words.instance, lists.capacities),
     };
-    let hours = hour_words(arguments);
-    Some(searched_order(arguments, task, words.file, lists.texts, hours))
+    let days = day_words(arguments);
+    Some(searched_order(arguments, task, words.file, lists.texts, days))
 }
 
 // Returns the order of `check`, which has no capacities.
