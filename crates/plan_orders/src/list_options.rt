@@ -108,14 +108,16 @@ pub fn list_options_of<'a>(
     alloc: Global,
     matches: &'a ArgMatches<'_>,
 ) -> Result<Result<ListOptions<'a>, BadOption<'a>>, AllocError> {
-    let (maps, ignores, unit) = match listing(matches) {
-        Some(arguments) => (
-            arguments.get_strs("map").unwrap_or(&[]),
-            arguments.get_strs("ignore").unwrap_or(&[]),
-            arguments.get_str("unit"),
-        ),
-        None => (&[], &[], None),
+    let Some(arguments) = listing(matches) else {
+        return Ok(Ok(ListOptions {
+            renames: Vec::new(alloc),
+            ignored: Vec::new(alloc),
+            unit: None,
+        }));
     };
+    let maps = arguments.get_strs("map").unwrap_or(&[]);
+    let ignores = arguments.get_strs("ignore").unwrap_or(&[]);
+    let unit = arguments.get_str("unit");
     let renames = match renames_of(alloc, maps)? {
         Ok(renames) => renames,
         Err(bad) => return Ok(Err(bad)),
