@@ -5,14 +5,14 @@
 mod arguments;
 mod contexts;
 mod digest;
-mod hours;
 mod orders;
 mod outputs;
+mod styles;
 
 pub use arguments::{command, help, version};
-pub use hours::{HourWords, with_hours};
 pub use orders::{
-    FileOrder, Lists, OfficeOrder, Order, capacities_of, misplaced_option, order_of, overrides_of,
-    texts_of,
+    FileOrder, Lists, OfficeOrder, Order, capacities_of, events_of, misplaced_option, order_of,
+    overrides_of, rows_of, texts_of,
 };
 pub use outputs::{FileId, Found, Way, way_to_write};
+pub use styles::style_of;

@@ -1,6 +1,5 @@
 //! The orders that the arguments of the command line spell.
 
-use crate::hours::{HourWords, hour_words};
 use clap::ArgMatches;
 use plan_cli::{Capacity, Dates, NamedText, Origin, Pair, Role, Rows, Subject, Task, Template};
 use plan_formats::Format;
@@ -54,13 +53,8 @@ pub enum FileOrder<'a> {
         log: &'a str,
         instance: Option<&'a str>,
     },
-    /// A sheet to print. Its days have the hours that the words give.
-    Print {
-        print: Print<'a>,
-        hours: HourWords<'a>,
-        /// The time limit of a search for the schedule, in seconds.
-        seconds: Option<u32>,
-    },
+    /// A sheet to print, with the time limit of a search for the schedule, in seconds.
+    Print(Print<'a>, Option<u32>),
     /// A table to start from.
     New(Template),
     /// The meaning of an error line, which is given as one argument or as several.
@@ -117,7 +111,7 @@ impl<'a> FileOrder<'a> {
     /// Returns the names of two arguments that are standard input, if there are two.
     pub fn shared_input(&self) -> Option<(&'static str, &'static str)> {
         match *self {
-            FileOrder::Print { print, .. } => print_input(&print),
+            FileOrder::Print(print, _) => print_input(&print),
             FileOrder::Texts { file, texts, .. } => texts_input(file, texts),
             FileOrder::Check {
                 file: "-",
@@ -408,8 +402,8 @@ fn text_rows(is_named: bool) -> Rows {
     if is_named { Rows::Named } else { Rows::Plain }
 }
 
-// Returns the rows that a command prints.
-fn rows_of(name: &str, arguments: &ArgMatches<'_>) -> Rows {
+// Returns the rows that the command with this name prints.
+fn command_rows(name: &str, arguments: &ArgMatches<'_>) -> Rows {
     let format = if has_formats(name) {
         arguments.get_str("format")
     } else {
@@ -494,7 +488,7 @@ fn import_order<'a>(
     Some(FileOrder::Task(task, arguments.get_str("FILE")?))
 }
 
-/// The arguments of the command line that are lists.
+/// The arguments of the command line that are lists, and others that orders refer to.
 #[derive(Clone, Copy)]
 pub struct Lists<'a> {
     /// The capacities of a file's resources.
@@ -503,6 +497,10 @@ pub struct Lists<'a> {
     pub overrides: &'a [Override<'a>],
     /// The names of the texts.
     pub texts: &'a [NamedText<'a>],
+    /// How days are shown.
+    pub style: &'a DayStyle,
+    /// The events of a calendar file.
+    pub events: &'a Events<'a>,
 }
 
 // Returns the order of a task on a file with texts.
@@ -617,7 +615,7 @@ fn dates_behind_rule<'a>(arguments: &'a ArgMatches<'_>) -> Option<Dates<'a>> {
 }
 
 // Returns the order of `days` for a table. The table shows dates alone: `Task::Days` of plan_cli has
-// no style yet. With one, `day_style` and `hour_words` give its parts, as for a calendar file.
+// no style yet. `lists.style` is the one that the arguments give.
 fn days_order<'a>(arguments: &'a ArgMatches<'_>, lists: Lists<'a>) -> Option<FileOrder<'a>> {
     let words = schedule_words(arguments, "MARKS")?;
     let task = Task::Days {
@@ -679,43 +677,48 @@ fn subject_of<'a>(instance: Option<&'a str>, capacities: &'a [Capacity<'a>]) -> 
     }
 }
 
-// Returns the style of days that the arguments give, without hours.
-fn day_style(arguments: &ArgMatches<'_>) -> DayStyle {
-    DayStyle {
-        weekdays: arguments.get_flag("weekdays"),
-        ..DayStyle::plain()
+// Returns the choice of events that the arguments of `days` give, in a style. With a choice the
+// identifiers have a word, which is that of the option or else this title.
+fn chosen_events<'a>(
+    arguments: &'a ArgMatches<'_>,
+    title: &'a str,
+    style: &DayStyle,
+) -> Events<'a> {
+    let (uid, only) = (arguments.get_str("uid"), arguments.get_str("only"));
+    let sequence: Option<u32> = arguments.get_one("sequence");
+    let resources = uid.is_some() || only.is_some() || sequence.is_some();
+    Events {
+        uid: if resources { Some(uid.unwrap_or(title)) } else { None },
+        sequence: sequence.unwrap_or(0),
+        only,
+        resources,
+        hours: style.hours,
     }
 }
 
-// Returns the choice of events that the arguments give, without hours. With a choice the identifiers
-// have a word, which is that of the option or else this title.
-fn events_of<'a>(arguments: &'a ArgMatches<'_>, title: &'a str) -> Events<'a> {
-    let (uid, only) = (arguments.get_str("uid"), arguments.get_str("only"));
-    let sequence: Option<u32> = arguments.get_one("sequence");
-    if uid.is_none() && only.is_none() && sequence.is_none() {
+/// Returns the choice of events that the arguments give, with the hours of a style.
+pub fn events_of<'a>(matches: &'a ArgMatches<'_>, style: &DayStyle) -> Events<'a> {
+    let Some(("days", arguments)) = matches.subcommand() else {
         return Events::plain();
-    }
-    Events {
-        uid: Some(uid.unwrap_or(title)),
-        sequence: sequence.unwrap_or(0),
-        only,
-        resources: true,
-        ..Events::plain()
+    };
+    match schedule_words(arguments, "MARKS") {
+        Some(words) => {
+            let title = title_of(words.instance, words.file);
+            chosen_events(arguments, title, style)
+        }
+        None => Events::plain(),
     }
 }
 
 // Returns the order of `days` for a calendar file.
-fn events_order<'a>(
-    arguments: &'a ArgMatches<'_>,
-    capacities: &'a [Capacity<'a>],
-) -> Option<Print<'a>> {
+fn events_order<'a>(arguments: &'a ArgMatches<'_>, lists: Lists<'a>) -> Option<Print<'a>> {
     let words = schedule_words(arguments, "MARKS")?;
     Some(Print {
         sheet: Sheet::Events {
             dates: dates_behind_rule(arguments)?,
-            events: events_of(arguments, title_of(words.instance, words.file)),
+            events: lists.events,
         },
-        subject: subject_of(words.instance, capacities),
+        subject: subject_of(words.instance, lists.capacities),
         origin: words.origin,
         holidays: arguments.get_str("holidays"),
         file: words.file,
@@ -767,46 +770,33 @@ fn report_dates<'a>(arguments: &'a ArgMatches<'_>) -> Option<Dates<'a>> {
 }
 
 // Returns the order of `report`.
-fn report_order<'a>(
-    arguments: &'a ArgMatches<'_>,
-    capacities: &'a [Capacity<'a>],
-) -> Option<Print<'a>> {
+fn report_order<'a>(arguments: &'a ArgMatches<'_>, lists: Lists<'a>) -> Option<Print<'a>> {
     let (file, instance) = (arguments.get_str("FILE")?, arguments.get_str("INSTANCE"));
     let title = arguments.get_str("title");
     Some(Print {
         sheet: Sheet::Report {
             title: title.unwrap_or(title_of(instance, file)),
             dates: report_dates(arguments),
-            style: day_style(arguments),
+            style: lists.style,
             by_job: arguments.get_str("by") == Some("job"),
         },
-        subject: subject_of(instance, capacities),
+        subject: subject_of(instance, lists.capacities),
         origin: report_origin(arguments),
         holidays: arguments.get_str("holidays"),
         file,
     })
 }
 
-// Returns the hours of a command that prints a sheet.
-fn print_hours<'a>(name: &str, arguments: &'a ArgMatches<'_>) -> HourWords<'a> {
-    match name {
-        "days" | "report" => hour_words(arguments),
-        _ => HourWords::NONE,
-    }
-}
-
 // Returns the order of a command that prints a sheet.
 fn print_order<'a>(
     name: &str,
     arguments: &'a ArgMatches<'_>,
-    capacities: &'a [Capacity<'a>],
+    lists: Lists<'a>,
 ) -> Option<Print<'a>> {
     match name {
-        "days" if arguments.get_str("format") == Some("ics") => {
-            events_order(arguments, capacities)
-        }
-        "chart" if arguments.get_flag("svg") => image_order(arguments, capacities),
-        "report" => report_order(arguments, capacities),
+        "days" if arguments.get_str("format") == Some("ics") => events_order(arguments, lists),
+        "chart" if arguments.get_flag("svg") => image_order(arguments, lists.capacities),
+        "report" => report_order(arguments, lists),
         _ => None,
     }
 }
@@ -827,12 +817,8 @@ fn file_order<'a>(
     arguments: &'a ArgMatches<'_>,
     lists: Lists<'a>,
 ) -> Option<FileOrder<'a>> {
-    if let Some(print) = print_order(name, arguments, lists.capacities) {
-        return Some(FileOrder::Print {
-            print,
-            hours: print_hours(name, arguments),
-            seconds: limit_of(arguments),
-        });
+    if let Some(print) = print_order(name, arguments, lists) {
+        return Some(FileOrder::Print(print, limit_of(arguments)));
     }
     match name {
         "import" => import_order(arguments, lists.overrides),
@@ -847,6 +833,14 @@ fn file_order<'a>(
         "chart" => chart_order(arguments, lists),
         "days" => days_order(arguments, lists),
         _ => plain_order(name, arguments, lists.capacities),
+    }
+}
+
+/// Returns the rows that the command prints.
+pub fn rows_of(matches: &ArgMatches<'_>) -> Rows {
+    match matches.subcommand() {
+        Some((name, arguments)) => command_rows(name, arguments),
+        None => Rows::Plain,
     }
 }
 
@@ -877,7 +871,7 @@ pub fn order_of<'a>(matches: &'a ArgMatches<'_>, lists: Lists<'a>) -> Option<Ord
         }
         _ => Some(Order::File(
             file_order(name, arguments, lists)?,
-            rows_of(name, arguments),
+            command_rows(name, arguments),
         )),
     }
 }

@@ -1,12 +1,13 @@
 //! The command line of the process: its arguments, and the order that they make.
 
+use crate::errors::print_early;
 use crate::file_orders::run_file_order;
 use crate::misuse::Misuse;
 use crate::status::Status;
 use clap::ArgMatches;
 use plan_orders::{
-    Lists, OfficeOrder, Order, capacities_of, command, help, misplaced_option, order_of,
-    overrides_of, texts_of, version,
+    Lists, OfficeOrder, Order, capacities_of, command, events_of, help, misplaced_option, order_of,
+    overrides_of, rows_of, style_of, texts_of, version,
 };
 use std::alloc::Global;
 use std::env;
@@ -50,10 +51,17 @@ fn run_matches<O: Offices>(
         return Err(Misuse::NeedsCalendarFile(option));
     }
     let texts = texts_of(alloc, &matches)?;
+    let style = match style_of(alloc, &matches) {
+        Ok(style) => style,
+        Err(fault) => return Ok(print_early(rt, rows_of(&matches), &fault)),
+    };
+    let events = events_of(&matches, &style);
     let lists = Lists {
         capacities: &capacities,
         overrides: &overrides,
         texts: &texts,
+        style: &style,
+        events: &events,
     };
     match order_of(&matches, lists) {
         Some(order) => run_order(rt, order, offices),

@@ -13,7 +13,7 @@ use plan_cli::{
 };
 use plan_errors::{About, write_text};
 use plan_io::{Sink, StdSink};
-use plan_orders::{FileOrder, with_hours};
+use plan_orders::FileOrder;
 use plan_print::print_on_files;
 use std::alloc::Global;
 use std::io;
@@ -113,12 +113,7 @@ fn do_file_order(rt: &HostRuntime, order: FileOrder<'_>, rows: Rows) -> Result<S
             log,
             instance,
         } => do_verify(rt, file, instance, log)?,
-        FileOrder::Print {
-            print,
-            hours,
-            seconds,
-        } => {
-            let print = with_hours(rt.alloc(), print, hours)?;
+        FileOrder::Print(print, seconds) => {
             let mut line = ProgressLine::within(rt, seconds);
             print_on_files(rt, print, &mut line, &mut writer)?;
             line.print_notes();
