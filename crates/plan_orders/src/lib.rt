@@ -15,4 +15,4 @@ pub use orders::{
     overrides_of, rows_of, texts_of,
 };
 pub use outputs::{FileId, Found, Way, way_to_write};
-pub use styles::style_of;
+pub use styles::{moments_of, style_of};

@@ -1,7 +1,9 @@
 //! The orders that the arguments of the command line spell.
 
 use clap::ArgMatches;
-use plan_cli::{Capacity, Dates, NamedText, Origin, Pair, Role, Rows, Subject, Task, Template};
+use plan_cli::{
+    Capacity, Dates, MomentStyle, NamedText, Origin, Pair, Role, Rows, Subject, Task, Template,
+};
 use plan_formats::Format;
 use plan_print::{DayStyle, Events, NamedOrigin, Print, Sheet};
 use plan_solve::MOST_CONFLICTS;
@@ -62,7 +64,8 @@ pub enum FileOrder<'a> {
 }
 
 // The roles of texts, and their arguments as messages name them.
-const ROLE_NAMES: [(Role, &str); 4] = [
+const ROLE_NAMES: [(Role, &str); 5] = [
+    (Role::Old, "OLD"),
     (Role::Starts, "STARTS"),
     (Role::StartsA, "STARTS_A"),
     (Role::StartsB, "STARTS_B"),
@@ -451,7 +454,11 @@ pub fn overrides_of<'a>(
 fn text_arguments(command: &str) -> &'static [(&'static str, Role)] {
     match command {
         "check" | "slack" => &[("STARTS", Role::Starts)],
-        "compare" => &[("STARTS_A", Role::StartsA), ("STARTS_B", Role::StartsB)],
+        "compare" => &[
+            ("old", Role::Old),
+            ("STARTS_A", Role::StartsA),
+            ("STARTS_B", Role::StartsB),
+        ],
         "chart" => &[("starts", Role::Starts)],
         "days" => &[("holidays", Role::Holidays), ("starts", Role::Starts)],
         _ => &[],
@@ -497,7 +504,9 @@ pub struct Lists<'a> {
     pub overrides: &'a [Override<'a>],
     /// The names of the texts.
     pub texts: &'a [NamedText<'a>],
-    /// How days are shown.
+    /// How a table of days shows them, if not as dates alone.
+    pub moments: Option<&'a MomentStyle>,
+    /// How a report shows days.
     pub style: &'a DayStyle,
     /// The events of a calendar file.
     pub events: &'a Events<'a>,
@@ -614,13 +623,13 @@ fn dates_behind_rule<'a>(arguments: &'a ArgMatches<'_>) -> Option<Dates<'a>> {
     Some(dates_of(arguments.get_str(start)?, arguments.get_str(marks)?))
 }
 
-// Returns the order of `days` for a table. The table shows dates alone: `Task::Days` of plan_cli has
-// no style yet. `lists.style` is the one that the arguments give.
+// Returns the order of `days` for a table.
 fn days_order<'a>(arguments: &'a ArgMatches<'_>, lists: Lists<'a>) -> Option<FileOrder<'a>> {
     let words = schedule_words(arguments, "MARKS")?;
     let task = Task::Days {
         origin: origin_of(words.origin),
         dates: dates_behind_rule(arguments)?,
+        style: lists.moments,
         subject: subject_of(words.instance, lists.capacities),
     };
     Some(searched_order(arguments, task, words.file, lists.texts))
@@ -660,12 +669,24 @@ fn slack_order<'a>(arguments: &'a ArgMatches<'_>, lists: Lists<'a>) -> Option<Fi
     Some(texts_order(task, arguments.get_str("FILE")?, lists.texts))
 }
 
+// Returns the task of `compare`: by ids if an old list is given.
+fn compare_task<'a>(is_by_ids: bool, subject: Subject<'a>) -> Task<'a> {
+    let starts = Pair { a: &[], b: &[] };
+    if is_by_ids {
+        Task::CompareLists {
+            old: &[],
+            starts,
+            subject,
+        }
+    } else {
+        Task::Compare { starts, subject }
+    }
+}
+
 // Returns the order of `compare`.
 fn compare_order<'a>(arguments: &'a ArgMatches<'_>, lists: Lists<'a>) -> Option<FileOrder<'a>> {
-    let task = Task::Compare {
-        starts: Pair { a: &[], b: &[] },
-        subject: subject_of(arguments.get_str("INSTANCE"), lists.capacities),
-    };
+    let subject = subject_of(arguments.get_str("INSTANCE"), lists.capacities);
+    let task = compare_task(arguments.get_str("old").is_some(), subject);
     Some(texts_order(task, arguments.get_str("FILE")?, lists.texts))
 }
 

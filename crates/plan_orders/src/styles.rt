@@ -1,7 +1,7 @@
 //! The weekdays and the hours of days that the arguments give.
 
 use clap::ArgMatches;
-use plan_cli::CliFault;
+use plan_cli::{CliFault, MomentStyle};
 use plan_print::{DayStyle, hours_of};
 use std::alloc::Global;
 
@@ -26,5 +26,16 @@ pub fn style_of(alloc: Global, matches: &ArgMatches<'_>) -> Result<DayStyle, Cli
     Ok(DayStyle {
         weekdays: arguments.get_flag("weekdays"),
         hours: hours_of(alloc, per_day.unwrap_or(1), opens)?,
+    })
+}
+
+/// Returns the same for a table of days, or nothing for dates alone.
+pub fn moments_of(style: &DayStyle) -> Option<MomentStyle> {
+    if !style.weekdays && style.hours.is_none() {
+        return None;
+    }
+    Some(MomentStyle {
+        weekdays: style.weekdays,
+        hours: style.hours,
     })
 }

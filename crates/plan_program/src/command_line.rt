@@ -6,8 +6,8 @@ use crate::misuse::Misuse;
 use crate::status::Status;
 use clap::ArgMatches;
 use plan_orders::{
-    Lists, OfficeOrder, Order, capacities_of, command, events_of, help, misplaced_option, order_of,
-    overrides_of, rows_of, style_of, texts_of, version,
+    Lists, OfficeOrder, Order, capacities_of, command, events_of, help, misplaced_option, moments_of,
+    order_of, overrides_of, rows_of, style_of, texts_of, version,
 };
 use std::alloc::Global;
 use std::env;
@@ -55,11 +55,13 @@ fn run_matches<O: Offices>(
         Ok(style) => style,
         Err(fault) => return Ok(print_early(rt, rows_of(&matches), &fault)),
     };
+    let moments = moments_of(&style);
     let events = events_of(&matches, &style);
     let lists = Lists {
         capacities: &capacities,
         overrides: &overrides,
         texts: &texts,
+        moments: moments.as_ref(),
         style: &style,
         events: &events,
     };
