@@ -130,7 +130,7 @@ impl<'a> FileOrder<'a> {
     fn rule_or_search(&self) -> Option<&'a str> {
         match *self {
             FileOrder::Texts { task, .. } => replaceable_rule(task),
-            FileOrder::Print { print, .. } => match print.origin {
+            FileOrder::Print(print, _) => match print.origin {
                 NamedOrigin::Rule(rule) => Some(rule),
                 NamedOrigin::Default | NamedOrigin::Starts(_) | NamedOrigin::Solved { .. } => None,
             },
@@ -167,7 +167,7 @@ impl<'a> FileOrder<'a> {
                 log: Some(log),
                 ..file_context(file)
             },
-            FileOrder::Print { print, .. } => print_context(print),
+            FileOrder::Print(print, _) => print_context(print),
             FileOrder::New(_) | FileOrder::Explain(_) => Context::NONE,
         }
     }

@@ -1,9 +1,9 @@
 //! The orders that the arguments of the command line spell.
 
-use crate::hours::{DayWords, HourWords, day_words, hour_words};
 use clap::ArgMatches;
 use plan_cli::{
-    Capacity, Dates, NamedText, Options, Origin, Pair, Role, Rows, Subject, Task, Template,
+    Capacity, Dates, MomentStyle, NamedText, Options, Origin, Pair, Role, Rows, Subject, Task,
+    Template,
 };
 use plan_formats::Format;
 use plan_print::{DayStyle, Events, NamedOrigin, Print, Sheet};
@@ -35,13 +35,11 @@ pub enum FileOrder<'a> {
         seconds: Option<u32>,
         log: Option<&'a str>,
     },
-    /// A task on the file with this name, and on texts in other files. The words give the style of
-    /// its days.
+    /// A task on the file with this name, and on texts in other files.
     Texts {
         task: Task<'a>,
         file: &'a str,
         texts: &'a [NamedText<'a>],
-        days: DayWords<'a>,
         /// The time limit of a search for the schedule, in seconds.
         seconds: Option<u32>,
     },
@@ -58,13 +56,8 @@ pub enum FileOrder<'a> {
         log: &'a str,
         instance: Option<&'a str>,
     },
-    /// A sheet to print. Its days have the hours that the words give.
-    Print {
-        print: Print<'a>,
-        hours: HourWords<'a>,
-        /// The time limit of a search for the schedule, in seconds.
-        seconds: Option<u32>,
-    },
+    /// A sheet to print, with the time limit of a search for the schedule, in seconds.
+    Print(Print<'a>, Option<u32>),
     /// A table to start from.
     New(Template),
     /// The meaning of an error line, which is given as one argument or as several.
@@ -122,7 +115,7 @@ impl<'a> FileOrder<'a> {
     /// Returns the names of two arguments that are standard input, if there are two.
     pub fn shared_input(&self) -> Option<(&'static str, &'static str)> {
         match *self {
-            FileOrder::Print { print, .. } => print_input(&print),
+            FileOrder::Print(print, _) => print_input(&print),
             FileOrder::Texts { file, texts, .. } => texts_input(file, texts),
             FileOrder::Check {
                 file: "-",
@@ -414,8 +407,8 @@ fn text_rows(is_named: bool) -> Rows {
     if is_named { Rows::Named } else { Rows::Plain }
 }
 
-// Returns the rows that a command prints.
-fn rows_of(name: &str, arguments: &ArgMatches<'_>) -> Rows {
+// Returns the rows that the command with this name prints.
+fn command_rows(name: &str, arguments: &ArgMatches<'_>) -> Rows {
     let format = if has_formats(name) {
         arguments.get_str("format")
     } else {
@@ -504,7 +497,7 @@ fn import_order<'a>(
     Some(FileOrder::Task(task, arguments.get_str("FILE")?))
 }
 
-/// The arguments of the command line that are lists.
+/// The arguments of the command line that are lists, and others that orders refer to.
 #[derive(Clone, Copy)]
 pub struct Lists<'a> {
     /// The capacities of a file's resources.
@@ -515,6 +508,12 @@ pub struct Lists<'a> {
     pub options: Option<Options<'a>>,
     /// The names of the texts.
     pub texts: &'a [NamedText<'a>],
+    /// How a table of days shows them, if not as dates alone.
+    pub moments: Option<&'a MomentStyle>,
+    /// How a report shows days.
+    pub style: &'a DayStyle,
+    /// The events of a calendar file.
+    pub events: &'a Events<'a>,
 }
 
 // Returns the order of a task on a file with texts.
@@ -523,7 +522,6 @@ fn texts_order<'a>(task: Task<'a>, file: &'a str, texts: &'a [NamedText<'a>]) ->
         task,
         file,
         texts,
-        days: DayWords::NONE,
         seconds: None,
     }
 }
@@ -592,13 +590,11 @@ fn searched_order<'a>(
     task: Task<'a>,
     file: &'a str,
     texts: &'a [NamedText<'a>],
-    days: DayWords<'a>,
 ) -> FileOrder<'a> {
     FileOrder::Texts {
         task,
         file,
         texts,
-        days,
         seconds: limit_of(arguments),
     }
 }
@@ -610,8 +606,7 @@ fn chart_order<'a>(arguments: &'a ArgMatches<'_>, lists: Lists<'a>) -> Option<Fi
         origin: origin_of(words.origin),
         subject: subject_of(words.instance, lists.capacities),
     };
-    let days = DayWords::NONE;
-    Some(searched_order(arguments, task, words.file, lists.texts, days))
+    Some(searched_order(arguments, task, words.file, lists.texts))
 }
 
 // Returns dates without holidays.
@@ -632,17 +627,16 @@ fn dates_behind_rule<'a>(arguments: &'a ArgMatches<'_>) -> Option<Dates<'a>> {
     Some(dates_of(arguments.get_str(start)?, arguments.get_str(marks)?))
 }
 
-// Returns the order of `days` for a table. Its style follows from the words.
+// Returns the order of `days` for a table.
 fn days_order<'a>(arguments: &'a ArgMatches<'_>, lists: Lists<'a>) -> Option<FileOrder<'a>> {
     let words = schedule_words(arguments, "MARKS")?;
     let task = Task::Days {
         origin: origin_of(words.origin),
         dates: dates_behind_rule(arguments)?,
-        style: None,
+        style: lists.moments,
         subject: subject_of(words.instance, lists.capacities),
     };
-    let days = day_words(arguments);
-    Some(searched_order(arguments, task, words.file, lists.texts, days))
+    Some(searched_order(arguments, task, words.file, lists.texts))
 }
 
 // Returns the order of `check`, which has no capacities.
@@ -708,28 +702,36 @@ fn subject_of<'a>(instance: Option<&'a str>, capacities: &'a [Capacity<'a>]) -> 
     }
 }
 
-// Returns the style of days that the arguments give, without hours.
-fn day_style(arguments: &ArgMatches<'_>) -> DayStyle {
-    DayStyle {
-        weekdays: arguments.get_flag("weekdays"),
-        ..DayStyle::plain()
+// Returns the choice of events that the arguments of `days` give, in a style. With a choice the
+// identifiers have a word, which is that of the option or else this title.
+fn chosen_events<'a>(
+    arguments: &'a ArgMatches<'_>,
+    title: &'a str,
+    style: &DayStyle,
+) -> Events<'a> {
+    let (uid, only) = (arguments.get_str("uid"), arguments.get_str("only"));
+    let sequence: Option<u32> = arguments.get_one("sequence");
+    let resources = uid.is_some() || only.is_some() || sequence.is_some();
+    Events {
+        uid: if resources { Some(uid.unwrap_or(title)) } else { None },
+        sequence: sequence.unwrap_or(0),
+        only,
+        resources,
+        hours: style.hours,
     }
 }
 
-// Returns the choice of events that the arguments give, without hours. With a choice the identifiers
-// have a word, which is that of the option or else this title.
-fn events_of<'a>(arguments: &'a ArgMatches<'_>, title: &'a str) -> Events<'a> {
-    let (uid, only) = (arguments.get_str("uid"), arguments.get_str("only"));
-    let sequence: Option<u32> = arguments.get_one("sequence");
-    if uid.is_none() && only.is_none() && sequence.is_none() {
+/// Returns the choice of events that the arguments give, with the hours of a style.
+pub fn events_of<'a>(matches: &'a ArgMatches<'_>, style: &DayStyle) -> Events<'a> {
+    let Some(("days", arguments)) = matches.subcommand() else {
         return Events::plain();
-    }
-    Events {
-        uid: Some(uid.unwrap_or(title)),
-        sequence: sequence.unwrap_or(0),
-        only,
-        resources: true,
-        ..Events::plain()
+    };
+    match schedule_words(arguments, "MARKS") {
+        Some(words) => {
+            let title = title_of(words.instance, words.file);
+            chosen_events(arguments, title, style)
+        }
+        None => Events::plain(),
     }
 }
 
@@ -739,7 +741,7 @@ fn events_order<'a>(arguments: &'a ArgMatches<'_>, lists: Lists<'a>) -> Option<P
     Some(Print {
         sheet: Sheet::Events {
             dates: dates_behind_rule(arguments)?,
-            events: events_of(arguments, title_of(words.instance, words.file)),
+            events: lists.events,
         },
         options: lists.options,
         subject: subject_of(words.instance, lists.capacities),
@@ -799,7 +801,7 @@ fn report_order<'a>(arguments: &'a ArgMatches<'_>, lists: Lists<'a>) -> Option<P
         sheet: Sheet::Report {
             title: title.unwrap_or(title_of(instance, file)),
             dates: report_dates(arguments),
-            style: day_style(arguments),
+            style: lists.style,
             by_job: arguments.get_str("by") == Some("job"),
         },
         options: lists.options,
@@ -810,14 +812,6 @@ fn report_order<'a>(arguments: &'a ArgMatches<'_>, lists: Lists<'a>) -> Option<P
     })
 }
 
-// Returns the hours of a command that prints a sheet.
-fn print_hours<'a>(name: &str, arguments: &'a ArgMatches<'_>) -> HourWords<'a> {
-    match name {
-        "days" | "report" => hour_words(arguments),
-        _ => HourWords::NONE,
-    }
-}
-
 // Returns the order of a command that prints a sheet.
 fn print_order<'a>(
     name: &str,
@@ -825,7 +819,7 @@ fn print_order<'a>(
     lists: Lists<'a>,
 ) -> Option<Print<'a>> {
     match name {
-        "days" if arguments.get_str("format") == Some("ics") => { events_order(arguments, lists) }
+        "days" if arguments.get_str("format") == Some("ics") => events_order(arguments, lists),
         "chart" if arguments.get_flag("svg") => image_order(arguments, lists),
         "report" => report_order(arguments, lists),
         _ => None,
@@ -849,11 +843,7 @@ fn file_order<'a>(
     lists: Lists<'a>,
 ) -> Option<FileOrder<'a>> {
     if let Some(print) = print_order(name, arguments, lists) {
-        return Some(FileOrder::Print {
-            print,
-            hours: print_hours(name, arguments),
-            seconds: limit_of(arguments),
-        });
+        return Some(FileOrder::Print(print, limit_of(arguments)));
     }
     match name {
         "import" => import_order(arguments, lists.overrides),
@@ -868,6 +858,14 @@ fn file_order<'a>(
         "chart" => chart_order(arguments, lists),
         "days" => days_order(arguments, lists),
         _ => plain_order(name, arguments, lists.capacities),
+    }
+}
+
+/// Returns the rows that the command prints.
+pub fn rows_of(matches: &ArgMatches<'_>) -> Rows {
+    match matches.subcommand() {
+        Some((name, arguments)) => command_rows(name, arguments),
+        None => Rows::Plain,
     }
 }
 
@@ -898,7 +896,7 @@ pub fn order_of<'a>(matches: &'a ArgMatches<'_>, lists: Lists<'a>) -> Option<Ord
         }
         _ => Some(Order::File(
             file_order(name, arguments, lists)?,
-            rows_of(name, arguments),
+            command_rows(name, arguments),
             lists.options,
         )),
     }

@@ -139,17 +139,17 @@ HidesReport (Some dates) style by_job p starts line =
 -- a text is a sheet of starts, perhaps with a lower bound of the least makespan
 abbrev pub IsSheetOf : Bool → Sheet → Subject → List ℕ → Plan → List ℕ → Option ℕ → List ℕ → Type 0
 IsSheetOf listed (sheet.Events dates e) of file p starts lower =
-    ShowsDays dates (AreEvents listed of file e p starts)
+    ShowsDays dates (AreEvents listed of file e.now p starts)
 IsSheetOf listed (sheet.Chart title) of file p starts lower = IsChart title.now listed of file p starts
 IsSheetOf listed (sheet.Report title dates style by_job) of file p starts lower =
-    IsReport (record { title = title; lower = lower }) dates style by_job listed of file p starts
+    IsReport (record { title = title; lower = lower }) dates style.now by_job listed of file p starts
 
 -- a line refuses a sheet of starts
 abbrev pub HidesSheet : Sheet → Plan → List ℕ → List ℕ → Type 0
-HidesSheet (sheet.Events dates e) p starts line = TellsNoDays dates (IsIcsBeyond e p starts) line
+HidesSheet (sheet.Events dates e) p starts line = TellsNoDays dates (IsIcsBeyond e.now p starts) line
 HidesSheet (sheet.Chart title) p starts line = ⊥
 HidesSheet (sheet.Report title dates style by_job) p starts line =
-    HidesReport dates style by_job p starts line
+    HidesReport dates style.now by_job p starts line
 
 -- a text is a sheet of a plan's schedule; the lower bound is that of the search that found it
 pub record IsSheetFrom (listed : Bool) (from : Origin) (shown_as : Sheet) (of : Subject)

@@ -1,6 +1,6 @@
 //! The hours of a working day, as a command gives them.
 
-ghost use Rattle.std.specs.Prelude.{IfErr, IfOk};
+ghost use Rattle.std.specs.Prelude.{◌≡◌, IfErr, IfOk};
 ghost use Rattle.plan_errors.specs.Output.{Refuses};
 ghost use Rattle.plan_print.specs.Hours as spec;
 

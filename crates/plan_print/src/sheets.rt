@@ -31,7 +31,7 @@ pub enum Sheet<'a> {
     Events {
         dates: Dates<'a>,
         /// `Events::plain()`: all events, by numbers, on whole days.
-        events: Events<'a>,
+        events: &'a Events<'a>,
     },
     /// The Gantt chart as an SVG file with this title, in time units: a line for each activity, or
     /// for each machine. Errors: those of `Task::Chart`.
@@ -43,7 +43,7 @@ pub enum Sheet<'a> {
         /// Errors: those of `Task::Days` with dates, else those of `Task::Chart`.
         dates: Option<Dates<'a>>,
         /// How days are shown. `DayStyle::plain()`: a date for each time unit.
-        style: DayStyle,
+        style: &'a DayStyle,
         /// Whether the chart of a job shop has a line for each job, else for each machine.
         by_job: bool,
     },
@@ -68,7 +68,7 @@ fn schedule_sheet(
     let schedule = &made.schedule;
     match sheet {
         Sheet::Events { dates, events } => {
-            events_text(alloc, dates, &events, listed, subject, file, plan, schedule)
+            events_text(alloc, dates, events, listed, subject, file, plan, schedule)
         }
         Sheet::Chart(title) => chart_text(alloc, title, listed, subject, file, plan, schedule),
         Sheet::Report {
@@ -80,7 +80,7 @@ fn schedule_sheet(
             let lower = made.lower;
             let heading = Heading { title, lower };
             report_text(
-                alloc, heading, dates, &style, by_job, listed, subject, file, plan, schedule,
+                alloc, heading, dates, style, by_job, listed, subject, file, plan, schedule,
             )
         }
     }

@@ -1,12 +1,13 @@
 //! The command line of the process: its arguments, and the order that they make.
 
+use crate::errors::print_early;
 use crate::file_orders::run_file_order;
 use crate::misuse::Misuse;
 use crate::status::Status;
 use clap::ArgMatches;
 use plan_orders::{
-    Lists, OfficeOrder, Order, capacities_of, command, help, list_options_of, misplaced_option,
-    order_of, overrides_of, texts_of, version,
+    Lists, OfficeOrder, Order, capacities_of, command, events_of, help, list_options_of,
+    misplaced_option, moments_of, order_of, overrides_of, rows_of, style_of, texts_of, version,
 };
 use std::alloc::Global;
 use std::env;
@@ -52,11 +53,20 @@ fn run_matches<O: Offices>(
         return Err(Misuse::NeedsCalendarFile(option));
     }
     let texts = texts_of(alloc, &matches)?;
+    let style = match style_of(alloc, &matches) {
+        Ok(style) => style,
+        Err(fault) => return Ok(print_early(rt, rows_of(&matches), &fault)),
+    };
+    let moments = moments_of(&style);
+    let events = events_of(&matches, &style);
     let lists = Lists {
         capacities: &capacities,
         overrides: &overrides,
         options: options.options(),
         texts: &texts,
+        moments: moments.as_ref(),
+        style: &style,
+        events: &events,
     };
     match order_of(&matches, lists) {
         Some(order) => run_order(rt, order, offices),

@@ -8,7 +8,7 @@ use crate::hints::{print_error, print_line};
 use crate::misuse::print_misuse;
 use crate::status::Status;
 use plan_cli::Rows;
-use plan_errors::{CliFault, error_json};
+use plan_errors::{CliFault, Context, error_json};
 use plan_formats::Format;
 use plan_orders::FileOrder;
 use std::alloc::AllocError;
@@ -94,8 +94,8 @@ fn with_cause(rt: &HostRuntime, order: &FileOrder<'_>, fault: CliFault) -> CliFa
 }
 
 // Prints an error as JSON.
-fn print_json_error(rt: &HostRuntime, order: &FileOrder<'_>, fault: &CliFault) -> Status {
-    if let Ok(text) = error_json(rt.alloc(), order.context(), fault) {
+fn print_json_error(rt: &HostRuntime, context: Context<'_>, fault: &CliFault) -> Status {
+    if let Ok(text) = error_json(rt.alloc(), context, fault) {
         let _ = rt.stderr().write_all(&text);
     }
     Status::Failed
@@ -105,7 +105,7 @@ fn print_json_error(rt: &HostRuntime, order: &FileOrder<'_>, fault: &CliFault) -
 fn print_in(rt: &HostRuntime, order: &FileOrder<'_>, form: Form, fault: &CliFault) -> Status {
     match form {
         Form::Hinted => print_error(rt, order.context(), fault),
-        Form::Json => print_json_error(rt, order, fault),
+        Form::Json => print_json_error(rt, order.context(), fault),
         Form::Bare | Form::Usage => {
             print_line(rt, fault);
             Status::Failed
@@ -125,5 +125,13 @@ pub(crate) fn print_fault(
         FileFault::Task(fault) => print_in(rt, order, form, &with_cause(rt, order, fault)),
         FileFault::Log(fault) => print_in(rt, order, form, &fault),
         FileFault::Usage(text) => print_misuse(rt, text.as_str()),
+    }
+}
+
+/// Prints the error of arguments for a command with these rows, and returns the status.
+pub(crate) fn print_early(rt: &HostRuntime, rows: Rows, fault: &CliFault) -> Status {
+    match rows {
+        Rows::In(Format::Json) => print_json_error(rt, Context::NONE, fault),
+        _ => print_error(rt, Context::NONE, fault),
     }
 }
