@@ -1,4 +1,5 @@
 pub mod RowLemmas
 pub mod AcceptanceLemmas
 pub mod ListLemmas
+pub mod PreparedLemmas
 pub mod AssignmentLemmas

@@ -1,11 +1,13 @@
 -- Rows that are the same.
-use Rattle.std.proofs.Common.{◌≡◌, ℕ, ◌-◌, arith, length, take, Bool, true, false, List, [], ◌∷◌, Ok, drop, refl, sym, ap, ◌∙◌, subst}
+use Rattle.std.proofs.Common.{◌≡◌, ◌≤◌, ℕ, ◌-◌, arith, length, take, Bool, true, false, List, [], ◌∷◌, Ok, map, drop, refl, sym, ap, ◌∙◌, subst}
 use Rattle.std.specs.Prelude.{◌==◌, ◌&&◌}
 use Rattle.std.specs.Str.{bytes_eq}
 use Rattle.std.proofs.lemmas.Bool.{and_parts}
 use Rattle.std.proofs.lemmas.Bool.Decides.{Decides-eqb}
-use Rattle.std.proofs.lemmas.List.{length-drop, take_all}
+use Rattle.std.proofs.lemmas.List.{drop-map, drop_all, length-drop, take_all}
 use Rattle.std.proofs.lemmas.Slice.Eq.{bytes_eq-Decides}
+use Rattle.plan_table.specs.declared.header.Head as declared
+use Rattle.plan_table.specs.Header.{head_of}
 use Rattle.plan_table.specs.Csv.{Row}
 use Rattle.plan_table.specs.Listing.{rows_read}
 use Rattle.plan_spreadsheet.specs.Rows.{Spells, filled, same_cells, same_row, same_rows}
@@ -53,3 +55,11 @@ spelt text found before rows is filled same = (found, is, sym filled ∙ rows_sa
 -- a slice from a place to the end
 pub rest_of : {A : Type 0} (n : ℕ) (xs : List A) → take (length xs - n) (drop n xs) ≡ drop n xs
 rest_of n xs = take_all (length xs - n) (drop n xs) (omega (arith, length-drop n xs))
+
+-- the columns behind some
+pub heads_dropped : (k : ℕ) (heads : List declared.Head) → map head_of (drop k heads) ≡ drop k (map head_of heads)
+heads_dropped k heads = sym (drop-map head_of k heads)
+
+-- behind the last column there is none
+pub no_heads : (k : ℕ) (heads : List declared.Head) → length heads ≤ k → drop k (map head_of heads) ≡ []
+no_heads k heads past = drop-map head_of k heads ∙ ap (map head_of) (drop_all k heads past)

@@ -4,5 +4,9 @@ pub mod Groups
 pub mod Lags
 pub mod Waits
 pub mod Assignments
+pub mod Units
+pub mod Scaling
+pub mod Options
 pub mod PlainRows
 pub mod PlainLists
+pub mod PreparedLists

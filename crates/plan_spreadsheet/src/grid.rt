@@ -60,9 +60,9 @@ fn text_of(alloc: Global, rows: &[Row]) -> Result<Vec<u8>, AllocError> {
     Ok(text)
 }
 
-// Whether a text is read as these rows.
+/// Whether a text is read as these rows, apart from rows without content.
 #[tactic(auto, using(crate::proofs::RowLemmas::spelt))]
-fn spells(alloc: Global, text: &[u8], rows: &[Row]) -> Result<bool, AllocError>
+pub fn spells(alloc: Global, text: &[u8], rows: &[Row]) -> Result<bool, AllocError>
     ensures { IfOk result (λ is. IsTrue is → Spells text.now (map row_of rows.now)) }
 {
     match read_rows_of(alloc, text) {

@@ -43,15 +43,15 @@ pub fn is_unit(text: &[u8]) -> bool
     text.is_empty() || is_word(&DAY_WORDS, text)
 }
 
-// Whether a byte is a digit.
-fn is_digit(byte: u8) -> bool
+/// Whether a byte is a digit.
+pub fn is_digit(byte: u8) -> bool
     ensures { result ≡ numbers.is_digit byte }
 {
     byte >= 48 && byte <= 57
 }
 
-// Where the digits at the front of a text end, if something follows them.
-fn digits_end(text: &[u8]) -> Option<usize>
+/// Where the digits at the front of a text end, if something follows them.
+pub fn digits_end(text: &[u8]) -> Option<usize>
     ensures { result ≡ durations.digits_end text.now }
 {
     text.iter().position(|&byte| !is_digit(byte))

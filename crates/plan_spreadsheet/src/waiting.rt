@@ -25,8 +25,8 @@ pub struct Linked {
     pub waits: Vec<Wait>,
 }
 
-// The first column of a kind.
-fn place_of(heads: &[Head], kind: Column) -> Option<usize>
+/// The first column of a kind.
+pub fn place_of(heads: &[Head], kind: Column) -> Option<usize>
     ensures { result ≡ place_from kind 0 (map head_of heads.now) }
 {
     for (k, head) in heads.iter().enumerate() {
@@ -67,9 +67,9 @@ fn push_label(
     Ok(())
 }
 
-// The labels of the activities.
+/// The labels of the activities.
 #[tactic(auto, unfolding(crate::specs::Waits::labels_from))]
-fn labels_of(
+pub fn labels_of(
     alloc: Global,
     ids: usize,
     names: Option<usize>,

@@ -7,6 +7,7 @@ ghost use Rattle.plan_table.specs.Predecessors.{label_of};
 ghost use Rattle.plan_spreadsheet.specs.Waits as spec;
 
 use crate::lags::{is_lag, is_unit};
+use crate::units::behind_first;
 use plan_psplib::Words;
 use plan_table::{Label, number_by, same};
 use std::alloc::{AllocError, Global};
@@ -36,8 +37,8 @@ fn is_linked(labels: &[Label], word: &[u8]) -> bool
     same(&word[end..], b"FS") && number_by(labels, &word[..end]).is_some()
 }
 
-// Whether a word names an activity.
-fn is_named(labels: &[Label], word: &[u8]) -> bool
+/// Whether a word names an activity.
+pub fn is_named(labels: &[Label], word: &[u8]) -> bool
     requires { length labels.now ≤ most_rows }
     ensures { result ≡ spec.is_named (map label_of labels.now) word.now }
 {
@@ -85,21 +86,11 @@ fn push_wait(
     Ok(())
 }
 
-// Where the first plus sign of a word is.
-fn plus_in(word: &[u8]) -> Option<usize>
+/// Where the first plus sign of a word is.
+pub fn plus_in(word: &[u8]) -> Option<usize>
     ensures { result ≡ spec.plus_in word.now }
 {
     word.iter().position(|&byte| byte == b'+')
-}
-
-// A text without its first byte.
-fn behind_first(text: &[u8]) -> &[u8]
-    ensures { result.now ≡ drop 1 text.now }
-{
-    match text {
-        [_, rest @ ..] => rest,
-        [] => text,
-    }
 }
 
 // Whether two parts of a word are a predecessor and a lag.
@@ -216,9 +207,9 @@ fn push_byte(text: &mut Vec<u8>, byte: u8) -> Result<(), AllocError>
     Ok(())
 }
 
-// A cell in which each separator is a word.
+/// A cell in which each separator is a word.
 #[tactic(auto, unfolding(crate::specs::Waits::spaced_from))]
-fn spaced(alloc: Global, cell: &[u8]) -> Result<Vec<u8>, AllocError>
+pub fn spaced(alloc: Global, cell: &[u8]) -> Result<Vec<u8>, AllocError>
     ensures { IfOk result (λ v. v.items ≡ spec.spaced_from [] cell.now) }
 {
     let mut text = Vec::new(alloc);

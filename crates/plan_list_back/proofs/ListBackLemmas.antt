@@ -1,0 +1,60 @@
+-- Cells with a text in one column, and lists that are read as the same project.
+use Rattle.std.proofs.Common.{◌≡◌, ◌≤◌, ◌<◌, ℕ, ◌+◌, ◌-◌, List, [], ◌∷◌, ◌++◌, Ok, length, drop, take, replicate, refl, sym, ap, ◌∙◌, subst}
+use Rattle.std.proofs.lemmas.List.{append_assoc, append-nil, drop_all, length-append, length-replicate, take-append-le, take_all}
+use Rattle.plan_encoding.specs.declared.text.Decoded.{Decoded}
+use Rattle.plan_encoding.specs.Encodings.{utf8_of}
+use Rattle.plan_encoding.specs.Texts as decoded
+use Rattle.plan_table.specs.Csv.{Row}
+use Rattle.plan_table.specs.Listing.{rows_read, table_read_with}
+use Rattle.plan_table.specs.Overrides.{Override}
+use Rattle.plan_table.specs.ProjectText.{project_text}
+use Rattle.plan_table.specs.Table.{Table}
+use Rattle.plan_spreadsheet.specs.declared.list.PlainList.{PlainList}
+use Rattle.plan_spreadsheet.specs.Options.{Options}
+use Rattle.plan_spreadsheet.specs.PlainLists.{text_of}
+use Rattle.plan_spreadsheet.specs.PreparedLists.{IsPlainWith}
+use Rattle.plan_spreadsheet.specs.Rows.{Spells, filled}
+use Rattle.plan_list_back.specs.ListBack.{IsBack, IsProjectOf, SameProject, Times, padded, put, with_times}
+
+-- a text in the place of another cell
+pub put_within : (k : ℕ) (text : List ℕ) (cells : List (List ℕ)) → k < length cells
+    → put k text cells ≡ take k cells ++ text ∷ drop (k + 1) cells
+put_within k text cells within =
+    ap (λ front. front ++ text ∷ drop (k + 1) cells) (take-append-le k cells (replicate (k - length cells) []) (omega (arith, within)))
+
+padded_length : (k : ℕ) (cells : List (List ℕ)) → length cells ≤ k → length (padded k cells) ≡ k
+padded_length k cells behind =
+    length-append cells (replicate (k - length cells) [])
+    ∙ ap (λ n. length cells + n) (length-replicate (k - length cells) [])
+    ∙ omega (arith, behind)
+
+-- a text behind all cells
+pub put_behind : (k : ℕ) (text : List ℕ) (cells : List (List ℕ)) → length cells ≤ k
+    → put k text cells ≡ (cells ++ replicate (k - length cells) []) ++ text ∷ []
+put_behind k text cells behind =
+    ap (λ front. front ++ text ∷ drop (k + 1) cells) (take_all k (padded k cells) (omega (arith, padded_length k cells behind)))
+    ∙ ap (λ end. padded k cells ++ text ∷ end) (drop_all (k + 1) cells (omega (arith, behind)))
+
+-- a text is read as the rows of a list with times
+pub back : (times : List Times) (bytes text made : List ℕ) (d : Decoded) (rows all new : List Row)
+    → text ≡ decoded.text_in d bytes → decoded.text_in d bytes ≡ utf8_of bytes → rows_read text ≡ Ok rows
+    → all ≡ filled rows → new ≡ with_times times all → Spells made new → IsBack times bytes made
+back times bytes text made d rows all new has is read full timed spells =
+    (
+      rows,
+      ap rows_read (sym (has ∙ is)) ∙ read,
+      subst (λ xs. Spells made (with_times times xs)) full (subst (λ xs. Spells made xs) timed spells),
+    )
+
+-- the project file of a file
+pub project_of_file : (o : Options) (overrides : List Override) (bytes text written : List ℕ) (p : PlainList) (t : Table)
+    → IsPlainWith o overrides bytes p → text ≡ text_of p bytes → table_read_with overrides text ≡ Ok t
+    → written ≡ project_text t → IsProjectOf o overrides bytes written
+project_of_file o overrides bytes text written p t plain is read file = (t, (p, plain, ap (table_read_with overrides) (sym is) ∙ read), file)
+
+-- two files with one project file
+pub same : (o : Options) (overrides : List Override) (bytes made before behind : List ℕ)
+    → IsProjectOf o overrides bytes before → IsProjectOf o overrides made behind → before ≡ behind
+    → SameProject o overrides bytes made
+same o overrides bytes made before behind (t, read, is) (u, again, other) equal =
+    (t, u, read, again, sym is ∙ equal ∙ other)
