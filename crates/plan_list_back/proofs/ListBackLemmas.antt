@@ -14,7 +14,7 @@ use Rattle.plan_spreadsheet.specs.Options.{Options}
 use Rattle.plan_spreadsheet.specs.PlainLists.{text_of}
 use Rattle.plan_spreadsheet.specs.PreparedLists.{IsPlainWith}
 use Rattle.plan_spreadsheet.specs.Rows.{Spells, filled}
-use Rattle.plan_list_back.specs.ListBack.{IsBack, IsProjectOf, SameProject, Times, padded, put, with_times}
+use Rattle.plan_list_back.specs.ListBack.{IsBack, IsProjectOf, IsReadAs, SameProject, Times, padded, put, with_times}
 
 -- a text in the place of another cell
 pub put_within : (k : ℕ) (text : List ℕ) (cells : List (List ℕ)) → k < length cells
@@ -46,11 +46,16 @@ back times bytes text made d rows all new has is read full timed spells =
       subst (λ xs. Spells made (with_times times xs)) full (subst (λ xs. Spells made xs) timed spells),
     )
 
--- the project file of a file
-pub project_of_file : (o : Options) (overrides : List Override) (bytes text written : List ℕ) (p : PlainList) (t : Table)
+-- a table that is read in a file
+pub read_as : (o : Options) (overrides : List Override) (bytes text : List ℕ) (p : PlainList) (t : Table)
     → IsPlainWith o overrides bytes p → text ≡ text_of p bytes → table_read_with overrides text ≡ Ok t
-    → written ≡ project_text t → IsProjectOf o overrides bytes written
-project_of_file o overrides bytes text written p t plain is read file = (t, (p, plain, ap (table_read_with overrides) (sym is) ∙ read), file)
+    → IsReadAs o overrides bytes t
+read_as o overrides bytes text p t plain is read = (p, plain, ap (table_read_with overrides) (sym is) ∙ read)
+
+-- the project file of a file
+pub project_of_file : (o : Options) (overrides : List Override) (bytes written : List ℕ) (t : Table)
+    → IsReadAs o overrides bytes t → written ≡ project_text t → IsProjectOf o overrides bytes written
+project_of_file o overrides bytes written t read file = (t, read, file)
 
 -- two files with one project file
 pub same : (o : Options) (overrides : List Override) (bytes made before behind : List ℕ)

@@ -1,9 +1,10 @@
 -- A planner's own list with the times of its activities. Records are those of plan_table.
-use Rattle.std.specs.Prelude.{◌≡◌, ℕ, ◌+◌, ◌-◌, ◌==◌, if◌then◌else◌, List, [], ◌∷◌, ◌++◌, Option, Some, None, Ok, codes, drop, length, map, replicate, take}
-use Rattle.std.specs.List.{find}
+use Rattle.std.specs.Prelude.{◌≡◌, ℕ, ◌+◌, ◌-◌, ◌==◌, ◌&&◌, ◌||◌, Bool, if◌then◌else◌, List, [], ◌∷◌, ◌++◌, Option, Some, None, Ok, codes, drop, length, map, replicate, take}
+use Rattle.std.specs.List.{find, list_any}
+use Rattle.std.specs.String.{string_bytes}
 use Rattle.plan_encoding.specs.Encodings.{utf8_of}
 use Rattle.plan_psplib.specs.Lines.{trim}
-use Rattle.plan_table.specs.Cells.{same_name}
+use Rattle.plan_table.specs.Cells.{same, same_name}
 use Rattle.plan_table.specs.Csv.{Row}
 use Rattle.plan_table.specs.Listing.{rows_read, table_read_with}
 use Rattle.plan_table.specs.Overrides.{Override}
@@ -20,16 +21,23 @@ use Rattle.plan_list_back.specs.declared.times.Times as declared
 
 -- ---- times
 
--- the texts for an activity, whose row begins in a line
+-- the texts for an activity, whose row begins in a line; the id is empty if the list has no ids
 pub record Times : Type 0 where
   pub line : ℕ
+  pub id : List ℕ
   pub start : List ℕ
   pub finish : List ℕ
   pub slack : List ℕ
 
 -- the same, as the program keeps it
 abbrev pub times_of : declared.Times → Times
-times_of t = record { line = t.line; start = t.start.now; finish = t.finish.now; slack = t.slack.now }
+times_of t = record {
+  line = t.line;
+  id = t.id.now;
+  start = string_bytes t.start;
+  finish = string_bytes t.finish;
+  slack = string_bytes t.slack;
+}
 
 -- the header of a column of times
 abbrev pub word_of : Field → List ℕ
@@ -46,9 +54,17 @@ abbrev pub text_if : Field → Option Times → List ℕ
 text_if field None = []
 text_if field (Some t) = text_in field t
 
--- the text for the row in a line: that of the first times for this line, or an empty one
-abbrev pub text_for : Field → List Times → ℕ → List ℕ
-text_for field times line = text_if field (find (λ t. t.line == line) times)
+-- an id is empty, or a cell has it between blanks
+abbrev pub has_id : List ℕ → List (List ℕ) → Bool
+has_id id cells = length id == 0 || list_any (λ cell. same (trim cell) id) cells
+
+-- times are those of a row: it begins in their line, and has their id
+abbrev pub are_of : Row → Times → Bool
+are_of row t = t.line == row.line && has_id t.id row.cells
+
+-- the text for a row: that of its first times, or an empty one
+abbrev pub text_for : Field → List Times → Row → List ℕ
+text_for field times row = text_if field (find (are_of row) times)
 
 -- ---- columns
 
@@ -82,7 +98,7 @@ header_with word row = record { line = row.line; cells = header_cells word (plac
 
 -- a row with its text in column k
 abbrev pub row_with : Field → List Times → ℕ → Row → Row
-row_with field times k row = record { line = row.line; cells = put k (text_for field times row.line) row.cells }
+row_with field times k row = record { line = row.line; cells = put k (text_for field times row) row.cells }
 
 -- where the column of a field is in the rows under a header, once the header has it
 abbrev pub place_of : Field → Row → ℕ

@@ -104,7 +104,7 @@ fn push_rows(
         ++ map (spec.row_with field (map spec.times_of times.now) k) (map row_of rows.now)) }
 {
     for row in rows {
-        let text = text_for(field, times, row.line);
+        let text = text_for(field, times, row);
         let cells = put(alloc, k, text, &row.cells)?;
         all.push(Row {
             line: row.line,

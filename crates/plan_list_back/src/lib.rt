@@ -2,10 +2,11 @@
 #![tactic(auto)]
 
 mod columns;
-mod list_back;
+mod lists;
 mod sameness;
 mod text;
 mod times;
 
-pub use list_back::{ListBackFault, list_back};
+pub use lists::{ListBackFault, list_back};
+pub use sameness::list_table;
 pub use times::Times;

@@ -126,9 +126,27 @@ fn push_feeds(text: &mut Vec<u8>, from: u64, to: u64) -> Result<(), AllocError> 
     Ok(())
 }
 
-/// Returns the text of rows, each in its line.
-pub fn text_of(alloc: Global, separator: u8, rows: &[Row]) -> Result<Vec<u8>, AllocError> {
+// Appends the byte-order mark of UTF-8 if the bytes of a file begin with one of any encoding.
+fn push_mark(text: &mut Vec<u8>, bytes: &[u8]) -> Result<(), AllocError> {
+    let is_marked = bytes.starts_with(b"\xef\xbb\xbf")
+        || bytes.starts_with(b"\xff\xfe")
+        || bytes.starts_with(b"\xfe\xff");
+    if is_marked {
+        text.extend_from_slice(b"\xef\xbb\xbf")?;
+    }
+    Ok(())
+}
+
+/// Returns the text of rows, each in its line. It begins with a byte-order mark if the bytes of the
+/// file of the rows do.
+pub fn text_of(
+    alloc: Global,
+    bytes: &[u8],
+    separator: u8,
+    rows: &[Row],
+) -> Result<Vec<u8>, AllocError> {
     let mut text = Vec::new(alloc);
+    push_mark(&mut text, bytes)?;
     let mut line: u64 = 1;
     for row in rows {
         push_feeds(&mut text, line, row.line)?;

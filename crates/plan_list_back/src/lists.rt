@@ -5,7 +5,7 @@ ghost use Rattle.plan_encoding.specs.Encodings.{utf8_of};
 ghost use Rattle.plan_table.specs.Csv.{row_of};
 ghost use Rattle.plan_table.specs.Overrides.{override_of};
 ghost use Rattle.plan_spreadsheet.specs.Options.{options_of};
-ghost use Rattle.plan_list_back.specs.declared.list_back.ListBackFault.TheVariants as fault;
+ghost use Rattle.plan_list_back.specs.declared.lists.ListBackFault.TheVariants as fault;
 ghost use Rattle.plan_list_back.specs.ListBack as spec;
 
 use crate::columns::with_times;
@@ -54,7 +54,7 @@ fn with_texts(
         Err(ReadError::Fault(_)) => return Err(ListBackFault::NoList),
     };
     let rows = with_times(alloc, times, &rows)?;
-    let made = text_of(alloc, separator_of(text), &rows)?;
+    let made = text_of(alloc, bytes, separator_of(text), &rows)?;
     let right = spells(alloc, &made, &rows)?;
     if !right {
         return Err(ListBackFault::Changed);
