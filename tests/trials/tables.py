@@ -4,7 +4,7 @@ ones of tests/tables.
 
     tests/trials/tables.py [--tables 5000] [--seed 1]
 
-Each table is drawn with names, quotes, blanks, waits, groups, all three delimiters and encodings; one
+One table in five has options: new words for headers, columns to leave out, a unit. Each table is drawn with names, quotes, blanks, waits, groups, all three delimiters and encodings; one
 in four is then damaged at some byte. The model reads it, and prints the `.sm` text or the error line
 that docs/formats.md describes. It prints nothing on success. The program is the one that ./plan runs,
 or the one that PLAN_PROGRAM names.
@@ -653,26 +653,153 @@ def plain_rows(found, given):
     return with_waits(without(found, notes), given), [names[k] for k in notes]
 
 
-def table_of(text, is_list, given):
-    """The table of a text, and the headers of its notes."""
-    found = list(records(text, delimiter_of(text)))
+def plain_list(found, is_list, given):
+    """The records as a list, or those of its plain list if it is refused, and the headers of its notes."""
     try:
-        return Table(found, given), []
+        Table(found, given)
     except Refused as fault:
-        if str(fault).startswith("T11") or not is_list or any(cells is None for _, cells in found):
-            raise
-    found, ignored = plain_rows(found, given)
-    return Table(found, given), ignored
+        if not str(fault).startswith("T11") and is_list and all(cells is not None for _, cells in found):
+            return plain_rows(found, given)
+    return found, []
 
 
-def wanted(data, given):
+# ---- options
+
+
+class Options:
+    """New words for headers, headers of columns that are left out, and a unit in thousandths of a day."""
+
+    def __init__(self, renames=(), ignored=(), unit=None):
+        self.renames, self.ignored, self.unit = renames, ignored, unit
+
+    def words(self):
+        """The options as words of the command line."""
+        found = [f"--map={header}={word}" for header, word in self.renames]
+        found += [f"--ignore={header}" for header in self.ignored]
+        return found + ([f"--unit={self.unit / 1000:g}"] if self.unit else [])
+
+    def refuse_missing(self, cells):
+        """Refuses the first header of an option that no column has."""
+        for header in [header for header, _ in self.renames] + self.ignored:
+            if not any(is_header(header, cell) for cell in cells):
+                raise Refused(f"T3 no column {header}")
+
+    def header(self, cell):
+        """A header as it is read."""
+        if any(is_header(header, cell) for header in self.ignored):
+            return ""
+        return next((word for header, word in self.renames if is_header(header, cell)), cell)
+
+    def applied(self, found, given):
+        """The records as the options say."""
+        if not found:
+            return found
+        found = [(found[0][0], [self.header(cell) for cell in found[0][1]]), *found[1:]]
+        return in_unit(found, given, self.unit) if self.unit else found
+
+
+def is_header(header, cell):
+    return lower(header) == lower(cell.strip(BLANKS))
+
+
+def decimal_in(cell):
+    """The thousandths in a cell: a number up to 1,000,000 with at most two digits behind its point or comma,
+    and perhaps a word for days."""
+    parts = re.fullmatch(rf"([0-9]*)([.,]([0-9]*))?(?![0-9.,])[{BLANKS}]*(.*)", cell, re.S)
+    if parts is None or lower(parts[4].strip(BLANKS)) not in DAYS or number_of(parts[1]) is None:
+        return None
+    if number_of(parts[1]) > LONGEST_SUM or parts[2] and not 1 <= len(parts[3]) <= 2:
+        return None
+    return 1000 * number_of(parts[1]) + (int(parts[3].ljust(3, "0")) if parts[2] else 0)
+
+
+def counted(cell, unit):
+    """A cell in units; one that isn't a whole number of them can't be read."""
+    value = decimal_in(cell)
+    if value is None:
+        return cell
+    return cell + "/unit" if value % unit else str(value // unit)
+
+
+def scaled_link(word, labels, unit):
+    """A word of predecessors with its lag in units."""
+    before, plus, lag = word.partition("+")
+    if labels.number_of(word) is None and plus and before and labels.number_of(before) is not None:
+        return before + "+" + counted(lag, unit)
+    return word
+
+
+def in_unit(found, given, unit):
+    """The records with durations and lags in units. Without ids, or in a list that is too long, lags stay."""
+    rows = [cells for _, cells in found[1:]]
+    try:
+        kinds, keys, names = header_of(*found[0])
+    except Refused:
+        return found
+    kinds = settled(kinds, keys, names, rows, given)
+    ids, called = [], []
+    for cells in rows if "id" in kinds else []:
+        if lower(cell_at(cells, kinds.index("id"))) != "capacity":
+            ids.append(cell_at(cells, kinds.index("id")))
+            called.append(cell_at(cells, kinds.index("name")) if "name" in kinds else "")
+    labels = Labels(ids, called) if len(ids) <= MOST_ROWS else Labels([], [])
+
+    def scaled(kind, cell):
+        if kind == "duration":
+            return counted(cell.strip(BLANKS), unit)
+        if kind == "predecessors":
+            parts = [words_of(part) for part in re.split("[,;]", cell)]
+            return ",".join(" ".join(scaled_link(word, labels, unit) for word in part) for part in parts)
+        return cell
+
+    return found[:1] + [(line, [scaled(kinds[k] if k < len(kinds) else "", cell) for k, cell in enumerate(cells)])
+                        for line, cells in found[1:]]
+
+
+def prepared(data, given, options):
+    """The records that the options make of a file, and whether its encoding is a guess; nothing if a quote
+    isn't closed."""
+    is_guess = not is_utf8(data) and data[:2] not in MARKS
+    text = data.decode() if is_utf8(data) else windows_1252(data) if is_guess else data.decode("utf-16")
+    text = text.removeprefix("\ufeff")
+    found = list(records(text, delimiter_of(text)))
+    if any(cells is None for _, cells in found):
+        return None, is_guess
+    found = without(found, ())
+    options.refuse_missing(found[0][1] if found else [])
+    return options.applied(found, given), is_guess
+
+
+def is_activities(found):
+    """Whether records are a list of activities by their header."""
+    return bool(found) and any(COLUMNS.get(key, KINDS.get(key)) == "duration"
+                               for key in [lower(cell.strip(BLANKS)) for cell in found[0][1]])
+
+
+# ---- what is printed
+
+
+def list_of(data, given, options):
+    """The records that are read of a file, the headers of its notes, and whether its encoding is a guess."""
+    found = None
+    if options:
+        found, is_guess = prepared(data, given, options)
+    if found is not None:
+        found, ignored = plain_list(found, is_activities(found), given)
+        return plain_list(found, is_activities(found), given)[0], ignored, is_guess
+    text, is_guess = decoded(data)
+    text = text.removeprefix("\ufeff")
+    found = list(records(text, delimiter_of(text)))
+    return *plain_list(found, kind_in(text.encode()) == "activities", given), is_guess
+
+
+def wanted(data, given, options=None):
     """What `plan import` prints for these bytes, or the line that it refuses them with."""
     try:
         if len(data) > LONGEST_TEXT:
             raise Refused("T1 too long")
-        text, is_guess = decoded(data)
-        text = text.removeprefix("\ufeff")
-        table, ignored = table_of(text, kind_in(text.encode()) == "activities", given)
+        found, ignored, is_guess = list_of(data, given, options)
+        table = Table(found, given)
         ids = table.seen if table.id_at is not None else ()
         notes = ["read as Windows-1252"] * is_guess + ["ignored columns: " + ", ".join(ignored)] * bool(ignored)
         line = ("; ".join(notes) + "\n").encode() if notes else b""
@@ -730,7 +857,8 @@ def drawn_link(draw, name):
         lag = draw.choice(["0", "1", "2", "10"]) + draw.choice(["", "d", " d", "d", " days", "Tage", " JOURS"])
         return name + draw.choice(["", "FS"]) + "+" + lag
     if draw.random() < 0.02:
-        return draw.choice(["Garden", "名前FS", "FS", name + "SS", name + "FS-2d", name + "+2,5d", name + "+", "+2", "d"])
+        return draw.choice(["Garden", "名前FS", "FS", name + "SS", name + "FS-2d", name + "+2,5d", name + "+", "+2", "d",
+                            name + "+0.5", name + "+1.5d"])
     return name + ("FS" if draw.random() < 0.1 else "")
 
 
@@ -775,7 +903,7 @@ def drawn_table(draw):
         if draw.random() < 0.1:
             row["duration"] += draw.choice([",0", ".0", ""]) + draw.choice(["", " ", "  "]) + draw.choice(DAYS + ["Days"])
         if draw.random() < 0.01:
-            row["duration"] += draw.choice([".5", ",00", " hrs", ",0 0"])
+            row["duration"] += draw.choice([".5", ",00", " hrs", ",0 0", ".25 d", ",5", "."])
         kept = draw.choice([" ", ",", "; "])
         row["predecessors"] = kept.join(drawn_link(draw, ids[i]) for i in before)
         row.update({name: draw.choice(["", "0", "1", "3"]) for name in resources})
@@ -798,6 +926,21 @@ def drawn_table(draw):
     mark = "\ufeff" if draw.random() < 0.2 else ""
     text = end.join(delimiter.join(drawn_cell(draw, cell, delimiter) for cell in line) for line in lines)
     return mark + text + (end if draw.random() < 0.8 else ""), delimiter
+
+
+def drawn_options(draw, headers):
+    """Options for a list with these headers, which are renamed back or left out, and a unit."""
+    shown = [header.strip(BLANKS) for header in headers]
+    shown = [header for header in shown if header and "=" not in header and not has_control(header)]
+    renames, words = [], ["duration", "id", "after", "name", "crew0", "Note", "DURATION"]
+    for header in draw.sample(shown, min(len(shown), draw.choice([0, 0, 1, 1, 2]))):
+        word = draw.choice(words) if draw.random() < 0.3 else header
+        renames.append((draw.choice([header, header.upper()]), word))
+    ignored = draw.sample(shown, min(len(shown), draw.choice([0, 0, 0, 1])))
+    if draw.random() < 0.1:
+        draw.choice([ignored, [], ignored]).append(draw.choice(["Missing", "duration", "Größe"]))
+    unit = draw.choice([None, None, 500, 500, 250, 1000, 2000, 100, 50, 10])
+    return Options(renames, ignored, unit) if renames or ignored or unit else None
 
 
 def drawn_bytes(draw, text):
@@ -849,13 +992,21 @@ def answer_of(stem):
         return 0, project_of(json.load(file)).text().encode(), b""
 
 
+def options_of(stem):
+    """The options for a table of tests/tables, one in a line."""
+    if not os.path.exists(stem + ".options"):
+        return []
+    with open(stem + ".options", encoding="utf-8") as file:
+        return file.read().split("\n")[:-1]
+
+
 def try_worked_tables():
     """Compares the tables of tests/tables with the projects and the error lines beside them."""
-    names = sorted(name[:-4] for name in os.listdir(TABLES) if name.endswith(".csv"))
-    for name in names:
+    names = [folder + name for folder in ("", "options/") for name in os.listdir(os.path.join(TABLES, folder))]
+    for name in sorted(name[:-4] for name in names if name.endswith(".csv")):
         stem = os.path.join(TABLES, name)
         with open(stem + ".csv", "rb") as file:
-            answer = imported(file.read())
+            answer = imported(file.read(), options_of(stem))
         if answer != answer_of(stem):
             raise Wrong(f"tests/tables/{name}.csv gave {answer!r}\n  not {answer_of(stem)!r}")
 
@@ -869,10 +1020,12 @@ def try_drawn_tables(count, seed):
             raise Wrong(f"table {n}: the model's records differ from those of Python's module csv")
         data = drawn_bytes(draw, text)
         given = {draw.choice(["crew0", "CREW0"]): draw.randrange(9)} if draw.random() < 0.2 else {}
-        options = [f"--capacity={name}={amount}" for name, amount in given.items()]
-        answer = imported(data, options)
-        if answer != wanted(data, given):
-            raise Wrong(f"table {n} of seed {seed}: {data!r}\n  gave {answer!r}\n  not {wanted(data, given)!r}")
+        headers = next((cells for _, cells in found if cells and any(cell.strip(BLANKS) for cell in cells)), [])
+        options = drawn_options(draw, headers) if draw.random() < 0.2 else None
+        words = [f"--capacity={name}={amount}" for name, amount in given.items()] + (options.words() if options else [])
+        answer, right = imported(data, words), wanted(data, given, options)
+        if answer != right:
+            raise Wrong(f"table {n} of seed {seed}, {words}: {data!r}\n  gave {answer!r}\n  not {right!r}")
 
 
 def main():

@@ -11,7 +11,10 @@ use Rattle.plan_cli.specs.declared.tasks.Task.{Task}
 use Rattle.plan_cli.specs.declared.tasks.Rows.{Rows}
 use Rattle.plan_cli.specs.Run.{ReadsFront}
 use Rattle.plan_cli.specs.Tasks.{RefusesRead, ShowsRead, DoesTask, AreRead, bytes_named}
-use Rattle.plan_cli.specs.NamedTexts.{DoesTexts, DoesWith, with_text}
+use Rattle.plan_errors.specs.Output.{Writes}
+use Rattle.plan_spreadsheet.specs.declared.options.Options.{Options}
+use Rattle.plan_cli.specs.NamedTexts.{DoesFile, DoesTexts, DoesWith, with_text}
+use Rattle.plan_cli.specs.PreparedTasks.{RefusesPrepared, ShowsPrepared}
 use Rattle.plan_cli.specs.declared.named_texts.NamedText.{NamedText}
 use Rattle.plan_cli.proofs.RunLemmas.{judged_bytes}
 
@@ -73,13 +76,23 @@ unknown_with bytes (Err (cli.Input unread)) D E f does = tt
 unknown_with bytes (Err cli.Output) D E f (text, short, read, does) = (text, short, tt, f text does)
 unknown_with bytes (Err (cli.Refused refusal)) D E f (text, short, read, does) = (text, short, tt, f text does)
 
+-- the same for a file that is read with options
+pub unknown_file : (o : Option Options) (task : Task) (rows : Rows) (file taken after : Option (List ℕ)) (r : Result (Unit {0}) CliFault)
+    → DoesFile o task rows file taken after r → DoesFile o task rows None taken after r
+unknown_file None task rows file taken after r does = unknown_task task rows file taken after r does
+unknown_file (Some o) task rows file taken after r does =
+    unknown_with file r
+    (λ text. Writes (ShowsPrepared (Some o) rows task text.now) (RefusesPrepared (Some o) task text.now) taken after r)
+    (λ text. Writes (ShowsPrepared (Some o) rows task text.now) (RefusesPrepared (Some o) task text.now) taken after r)
+    (λ text d. d) does
+
 -- the same for a file and texts
-pub unknown_texts : (behind : List ℕ → Option (List ℕ)) (task : Task) (rows : Rows) (texts : List NamedText)
+pub unknown_texts : (behind : List ℕ → Option (List ℕ)) (o : Option Options) (task : Task) (rows : Rows) (texts : List NamedText)
     (file taken after : Option (List ℕ)) (r : Result (Unit {0}) CliFault)
-    → DoesTexts behind task rows texts file taken after r → DoesTexts (λ name. None) task rows texts None taken after r
-unknown_texts behind task rows [] file taken after r does = unknown_task task rows file taken after r does
-unknown_texts behind task rows (named ∷ rest) file taken after r does =
+    → DoesTexts behind o task rows texts file taken after r → DoesTexts (λ name. None) o task rows texts None taken after r
+unknown_texts behind o task rows [] file taken after r does = unknown_file o task rows file taken after r does
+unknown_texts behind o task rows (named ∷ rest) file taken after r does =
     unknown_with (behind named.name.now) r
-    (λ text. DoesTexts behind (with_text task named.role text) rows rest file taken after r)
-    (λ text. DoesTexts (λ name. None) (with_text task named.role text) rows rest None taken after r)
-    (λ text d. unknown_texts behind (with_text task named.role text) rows rest file taken after r d) does
+    (λ text. DoesTexts behind o (with_text task named.role text) rows rest file taken after r)
+    (λ text. DoesTexts (λ name. None) o (with_text task named.role text) rows rest None taken after r)
+    (λ text d. unknown_texts behind o (with_text task named.role text) rows rest file taken after r d) does

@@ -3,6 +3,7 @@ pub mod Links
 pub mod PlanRefs
 pub mod ShopRun
 pub mod Tasks
+pub mod PreparedTasks
 pub mod NamedTexts
 pub use Rattle.plan_net.specs.Network
 pub use Rattle.plan_cpm.specs.Dates
@@ -63,4 +64,5 @@ pub use Rattle.plan_documents.specs.ImportRun
 pub use Rattle.plan_documents.specs.Quotes
 pub use Rattle.plan_documents.specs.Spreadsheets
 pub use Rattle.plan_documents.specs.Notes
+pub use Rattle.plan_documents.specs.ListOptions
 pub use Rattle.plan_documents.specs.TableFaultText

@@ -1,5 +1,5 @@
 -- Tasks with texts in files of their own (docs/definitions.md, "Runs").
-use Rattle.std.specs.Prelude.{◌⊎◌, ℕ, ◌+◌, ◌≤◌, List, [], ◌∷◌, Option, Result, Err, length}
+use Rattle.std.specs.Prelude.{◌⊎◌, ℕ, ◌+◌, ◌≤◌, List, [], ◌∷◌, Option, Some, None, Result, Err, length}
 use denote.Ref.{Bor}
 use Rattle.plan_psplib.specs.Plain.{longest_text}
 use Rattle.plan_errors.specs.Faults.{IsUnread}
@@ -7,6 +7,9 @@ use Rattle.plan_errors.specs.declared.context.About.{About}
 use Rattle.plan_errors.specs.declared.context.About.TheVariants as about
 use Rattle.plan_errors.specs.declared.fault.CliFault.{CliFault}
 use Rattle.plan_errors.specs.declared.fault.CliFault.TheVariants as fault
+use Rattle.plan_errors.specs.Output.{Writes}
+use Rattle.plan_spreadsheet.specs.declared.options.Options.{Options}
+use Rattle.plan_cli.specs.PreparedTasks.{RefusesPrepared, ShowsPrepared}
 use Rattle.plan_cli.specs.Tasks.{AreRead, DoesTask}
 use Rattle.plan_cli.specs.declared.calendars.Dates.{Dates}
 use Rattle.plan_cli.specs.declared.comparisons.Pair.{Pair}
@@ -70,14 +73,23 @@ DoesWith bytes result Does =
     (text : Bor (List ℕ)) × (length text.now ≤ longest_text + 1) × AreRead text.now bytes
     × Does text
 
+-- Unless the input fails or memory runs out, a task with options writes its text or line for the
+-- bytes that were read, or for the list that the options make of them. Without options it does what
+-- it does with the file.
+abbrev pub DoesFile : Option Options → Task → Rows → Option (List ℕ) → Option (List ℕ)
+    → Option (List ℕ) → Result (Unit {0}) CliFault → Type 0
+DoesFile None t rows bytes taken after result = DoesTask t rows bytes taken after result
+DoesFile (Some o) t rows bytes taken after result = DoesWith bytes result (λ file. Writes
+    (ShowsPrepared (Some o) rows t file.now) (RefusesPrepared (Some o) t file.now) taken after result)
+
 -- The task does what it does with the texts that were read for these names, in their order. The
 -- first argument gives the bytes behind a name, if they are known.
-abbrev pub DoesTexts : (List ℕ → Option (List ℕ)) → Task → Rows → List NamedText
+abbrev pub DoesTexts : (List ℕ → Option (List ℕ)) → Option Options → Task → Rows → List NamedText
     → Option (List ℕ) → Option (List ℕ) → Option (List ℕ) → Result (Unit {0}) CliFault → Type 0
-DoesTexts behind t rows [] file taken after result = DoesTask t rows file taken after result
-DoesTexts behind t rows (named ∷ rest) file taken after result =
+DoesTexts behind o t rows [] file taken after result = DoesFile o t rows file taken after result
+DoesTexts behind o t rows (named ∷ rest) file taken after result =
     DoesWith (behind named.name.now) result
-    (λ text. DoesTexts behind (with_text t named.role text) rows rest file taken after result)
+    (λ text. DoesTexts behind o (with_text t named.role text) rows rest file taken after result)
 
 -- the argument with a text of this role
 abbrev pub about_of : Role → About

@@ -1,19 +1,21 @@
 //! Tasks on files that are given by their names.
 
-ghost use Rattle.std.specs.Prelude.{◌≡◌, ◌⊎◌, ◌+◌, ◌≤◌, length, None};
+ghost use Rattle.std.specs.Prelude.{◌≡◌, ◌⊎◌, ◌+◌, ◌≤◌, length, None, Some};
 ghost use Rattle.std.specs.Prelude.{IfOk, IfErr, IsErrOf, OnOk};
 ghost use Rattle.plan_io.specs.Devices.{most_calls};
 ghost use Rattle.plan_psplib.specs.Plain.{longest_text};
 ghost use Rattle.plan_errors.specs.Faults.{IsUnread};
 ghost use Rattle.plan_errors.specs.Output.{HasSinkFailed};
 ghost use Rattle.plan_cli.specs.Tasks.{DoesTask, AreRead, bytes_behind};
-ghost use Rattle.plan_cli.specs.NamedTexts.{DoesTexts, IsUnreadAmong};
+ghost use Rattle.plan_cli.specs.NamedTexts.{DoesFile, DoesTexts, IsUnreadAmong};
 
 use crate::inputs::{Inputs, SystemInputs};
 use crate::named_texts::{NamedText, with_text};
+use crate::prepared_tasks::answer_prepared;
 use crate::runs::run_task;
 use crate::tasks::{Rows, Task};
 use crate::watchers::{Log, NoteWatcher, ProofWatcher, SolveWatcher, Unlogged};
+use plan_documents::Options;
 use plan_errors::{About, CliFault, read_file};
 use plan_io::Sink;
 use std::alloc::Global;
@@ -72,6 +74,68 @@ pub fn read_named<I: Inputs>(
     read_file(alloc, &mut inputs.open(name, about)?, about)
 }
 
+// Runs a task on the file with this name, or on standard input if the name is `-`, with the options
+// of its list.
+#[tactic(auto, using(plan_errors::proofs::RefusalLemmas::input_unread))]
+fn run_prepared<I: Inputs, W: Sink, V: ProofWatcher + SolveWatcher + NoteWatcher, L: Log>(
+    alloc: Global,
+    inputs: &I,
+    options: Options<'_>,
+    task: Task<'_>,
+    rows: Rows,
+    watcher: &mut V,
+    log: &mut L,
+    path: &str,
+    writer: &mut W,
+) -> Result<(), CliFault>
+    ensures does { DoesFile (Some options.entry) task.entry rows
+        (bytes_behind I.Inputs inputs.now path.now)
+        (W.taken writer.old) (W.taken writer.new) result }
+    ensures writes { W.calls writer.new ≤ W.calls writer.old + most_calls }
+    ensures unread { IfErr result (IsUnread About.Plan) }
+    ensures quiet { IfErr result (λ e. (e ≡ CliFault.Output) ⊎ (writer.new ≡ writer.old)) }
+    ensures fine { OnOk result (W.faults writer.new ≡ W.faults writer.old) }
+    ensures output { IsErrOf result CliFault.Output → HasSinkFailed W.Sink writer.old writer.new }
+{
+    let file = read_named(alloc, inputs, About::Plan, path)?;
+    answer_prepared(alloc, options, task, rows, watcher, log, &file, writer)
+}
+
+/// Runs a task on the file with this name, or on standard input if the name is `-`. With options, a
+/// list is read as the plain list that the options make of it. The watcher is called during a search
+/// of `prove` or `solve`. A file that can't be opened or read is [`CliFault::Input`].
+pub fn run_with_options<I: Inputs, W: Sink, V: ProofWatcher + SolveWatcher + NoteWatcher, L: Log>(
+    alloc: Global,
+    inputs: &I,
+    options: Option<Options<'_>>,
+    task: Task<'_>,
+    rows: Rows,
+    watcher: &mut V,
+    log: &mut L,
+    path: &str,
+    writer: &mut W,
+) -> Result<(), CliFault>
+    // The text of the task is written for the bytes of that file, or for the list that options make
+    // of it.
+    ensures does { DoesFile options.entry task.entry rows
+        (bytes_behind I.Inputs inputs.now path.now)
+        (W.taken writer.old) (W.taken writer.new) result }
+    ensures writes { W.calls writer.new ≤ W.calls writer.old + most_calls }
+    // If a file can't be read, the error tells which one.
+    ensures unread { IfErr result (IsUnread About.Plan) }
+    // With any other error than that of the output, nothing is written.
+    ensures quiet { IfErr result (λ e. (e ≡ CliFault.Output) ⊎ (writer.new ≡ writer.old)) }
+    ensures fine { OnOk result (W.faults writer.new ≡ W.faults writer.old) }
+    ensures output { IsErrOf result CliFault.Output → HasSinkFailed W.Sink writer.old writer.new }
+{
+    match options {
+        Some(options) => {
+            run_prepared(alloc, inputs, options, task, rows, watcher, log, path, writer)
+        }
+        None => run_on_named(alloc, inputs, task, rows, watcher, log, path, writer),
+    }
+}
+
 /// Runs a task on a file and on the files of texts with a role in the task. One of all names may
 /// be `-` for standard input. The texts are read first, in their order. Each replaces the text with
 /// its role in the task. The watcher is called during a search. A file that can't be opened or read
@@ -80,6 +144,7 @@ pub fn read_named<I: Inputs>(
 pub fn run_on_texts<I: Inputs, W: Sink, V: ProofWatcher + SolveWatcher + NoteWatcher>(
     alloc: Global,
     inputs: &I,
+    options: Option<Options<'_>>,
     task: Task<'_>,
     rows: Rows,
     watcher: &mut V,
@@ -87,9 +152,10 @@ pub fn run_on_texts<I: Inputs, W: Sink, V: ProofWatcher + SolveWatcher + NoteWat
     path: &str,
     writer: &mut W,
 ) -> Result<(), CliFault>
-    // The text of the task is written for the bytes of all files.
-    ensures does { DoesTexts (bytes_behind I.Inputs inputs.now) task.entry rows texts.now
-        (bytes_behind I.Inputs inputs.now path.now)
+    // The text of the task is written for the bytes of all files. With options, a list is read as
+    // the plain list that the options make of it.
+    ensures does { DoesTexts (bytes_behind I.Inputs inputs.now) options.entry task.entry rows
+        texts.now (bytes_behind I.Inputs inputs.now path.now)
         (W.taken writer.old) (W.taken writer.new) result }
     ensures writes { W.calls writer.new ≤ W.calls writer.old + most_calls }
     // If a file can't be read, the error tells which one.
@@ -100,9 +166,10 @@ pub fn run_on_texts<I: Inputs, W: Sink, V: ProofWatcher + SolveWatcher + NoteWat
     ensures output { IsErrOf result CliFault.Output → HasSinkFailed W.Sink writer.old writer.new }
 {
     let [first, rest @ ..] = texts else {
-        return run_on_named(
+        return run_with_options(
             alloc,
             inputs,
+            options,
             task,
             rows,
             watcher,
@@ -113,10 +180,10 @@ pub fn run_on_texts<I: Inputs, W: Sink, V: ProofWatcher + SolveWatcher + NoteWat
     };
     let text = read_named(alloc, inputs, first.role.about(), first.name)?;
     let task = with_text(task, first.role, &text);
-    run_on_texts(alloc, inputs, task, rows, watcher, rest, path, writer)
+    run_on_texts(alloc, inputs, options, task, rows, watcher, rest, path, writer)
 }
 
-/// Calls [`run_on_named`] with the system's files and standard input.
+/// Calls [`run_with_options`] with the system's files and standard input.
 pub fn run_on_file<
     R: Files + Input + AllocGlobal,
     W: Sink,
@@ -124,6 +191,7 @@ pub fn run_on_file<
     L: Log,
 >(
     rt: &R,
+    options: Option<Options<'_>>,
     task: Task<'_>,
     rows: Rows,
     watcher: &mut V,
@@ -132,7 +200,8 @@ pub fn run_on_file<
     writer: &mut W,
 ) -> Result<(), CliFault>
     // The text of the task is written for the bytes that were read.
-    ensures does { DoesTask task.entry rows None (W.taken writer.old) (W.taken writer.new) result }
+    ensures does { DoesFile options.entry task.entry rows None
+        (W.taken writer.old) (W.taken writer.new) result }
     ensures writes { W.calls writer.new ≤ W.calls writer.old + most_calls }
     // If a file can't be read, the error tells which one.
     ensures unread { IfErr result (IsUnread About.Plan) }
@@ -141,9 +210,10 @@ pub fn run_on_file<
     ensures fine { OnOk result (W.faults writer.new ≡ W.faults writer.old) }
     ensures output { IsErrOf result CliFault.Output → HasSinkFailed W.Sink writer.old writer.new }
 {
-    run_on_named(
+    run_with_options(
         rt.alloc(),
         &SystemInputs::new(rt),
+        options,
         task,
         rows,
         watcher,
@@ -160,6 +230,7 @@ pub fn run_on_files<
     V: ProofWatcher + SolveWatcher + NoteWatcher,
 >(
     rt: &R,
+    options: Option<Options<'_>>,
     task: Task<'_>,
     rows: Rows,
     watcher: &mut V,
@@ -168,7 +239,7 @@ pub fn run_on_files<
     writer: &mut W,
 ) -> Result<(), CliFault>
     // The text of the task is written for the bytes that were read.
-    ensures does { DoesTexts (λ name. None) task.entry rows texts.now None
+    ensures does { DoesTexts (λ name. None) options.entry task.entry rows texts.now None
         (W.taken writer.old) (W.taken writer.new) result }
     ensures writes { W.calls writer.new ≤ W.calls writer.old + most_calls }
     // If a file can't be read, the error tells which one.
@@ -181,6 +252,7 @@ pub fn run_on_files<
     run_on_texts(
         rt.alloc(),
         &SystemInputs::new(rt),
+        options,
         task,
         rows,
         watcher,

@@ -16,6 +16,7 @@ mod named_texts;
 mod names;
 mod origins;
 mod plan_refs;
+mod prepared_tasks;
 mod proof;
 mod rules;
 mod runs;
@@ -35,14 +36,16 @@ pub use calendars::{Dates, calendar_of};
 pub use checks::{Checked, check_text};
 pub use comparisons::Pair;
 pub use explanations::explain_run_in;
-pub use files::{read_named, run_on_file, run_on_files, run_on_named, run_on_texts};
+pub use files::{
+    read_named, run_on_file, run_on_files, run_on_named, run_on_texts, run_with_options,
+};
 pub use inputs::{Inputs, SystemInputs};
 pub use named_texts::{NamedText, Role};
 pub use origins::Origin;
 pub use plan_documents::{
-    Capacity, Document, Plan, Reading, Subject, file_refusal, instance_with, names_of_lines,
-    names_of_rows, need_refusal, notes_of, plan_of, read_document, read_instance, read_project,
-    readable, replaced, with_names,
+    Capacity, Document, Options, Plan, Prepared, Reading, Rename, Subject, file_refusal,
+    instance_with, names_of_lines, names_of_rows, need_refusal, notes_of, plan_of, prepare,
+    read_document, read_instance, read_project, readable, replaced, unit_of, with_names,
 };
 pub use plan_errors::{CliFault, Code, Context, code_hint, error_json, explain_run, hint, masked};
 pub use runs::{best_project_run, best_run, cpm_run, run_task, schedule_run, shop_run};

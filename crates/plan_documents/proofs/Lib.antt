@@ -11,3 +11,4 @@ pub mod InfeasibleLemmas
 pub mod ImportLemmas
 pub mod SpreadsheetLemmas
 pub mod ListLemmas
+pub mod ListOptionLemmas

@@ -48,6 +48,10 @@ fault_text_of f = line_by f.code f.line (utf8_lossy f.word)
 abbrev pub TellsNoResource : List ℕ → List ℕ → Type 0
 TellsNoResource name line = line ≡ line_by code.NoResource 0 (utf8_lossy name)
 
+-- a line reports that no column of a list has a header, which an option names
+abbrev pub TellsNoHeader : List ℕ → List ℕ → Type 0
+TellsNoHeader header line = line ≡ line_by code.NoDuration 0 (utf8_lossy header)
+
 -- the sentence that a word isn't a duration or a time, with at most 60 bytes of the word
 abbrev pub duration_sentence : List ℕ → List ℕ
 duration_sentence word =

@@ -7,6 +7,7 @@ mod details;
 mod documents;
 mod imports;
 mod infeasible;
+mod list_options;
 mod lists;
 mod notes;
 mod projects;
@@ -25,8 +26,10 @@ pub use documents::{
 };
 pub use imports::{file_import_text, file_shop_text};
 pub use infeasible::{infeasible_refusal, shop_infeasible_refusal};
+pub use list_options::{Prepared, prepare};
 pub use lists::{Reading, readable};
 pub use notes::notes_of;
+pub use plan_spreadsheet::{Options, Rename, unit_of};
 pub use projects::{instance_with, read_project};
 pub use refusals::{file_refusal, need_refusal, rule_refusal};
 pub use sentences::with_names;

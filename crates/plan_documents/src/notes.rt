@@ -98,8 +98,8 @@ fn joined_notes(first: Option<String>, second: Option<String>) -> Result<Option<
     }
 }
 
-// Returns the line of notes on a plain list, if there are notes.
-fn note_line(alloc: Global, plain: &PlainList) -> Result<Option<String>, AllocError>
+/// Returns the line of notes on a plain list, if there are notes.
+pub fn note_line(alloc: Global, plain: &PlainList) -> Result<Option<String>, AllocError>
     ensures { IfOk result (λ note. option_map string_bytes note ≡ spec.note_line plain.now) }
 {
     let encoding = encoding_note(alloc, plain.encoding)?;

@@ -47,8 +47,8 @@ fn project_refusal(alloc: Global) -> CliFault
     refuse_words(alloc, Code::Workbook, About::List, words)
 }
 
-// Returns the error of a file that becomes no plain list.
-fn spreadsheet_refusal(alloc: Global, fault: SpreadsheetFault) -> CliFault
+/// Returns the error of a file that becomes no plain list.
+pub fn spreadsheet_refusal(alloc: Global, fault: SpreadsheetFault) -> CliFault
     ensures { Refuses (spec.TellsFault fault) result }
 {
     match fault {
@@ -73,10 +73,10 @@ fn book_refusal(alloc: Global, book: Workbook) -> CliFault
     }
 }
 
-// Returns the plain list of a file that is longer than the longest text: the file itself, unless it
-// begins like a workbook.
+/// Returns the plain list of a file that is longer than the longest text: the file itself, unless it
+/// begins like a workbook.
 #[tactic(auto, using(crate::proofs::SpreadsheetLemmas::book_told))]
-fn long_list(alloc: Global, file: &[u8]) -> Result<PlainList, CliFault>
+pub fn long_list(alloc: Global, file: &[u8]) -> Result<PlainList, CliFault>
     requires { longest_text < length file.now }
     ensures plain { IfOk result (spec.IsLong file.now) }
     ensures refused { IfErr result (Refuses (spec.TellsBook file.now)) }

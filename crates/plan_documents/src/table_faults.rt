@@ -284,3 +284,22 @@ pub fn resource_refusal(alloc: Global, resource: &[u8], file: &[u8]) -> CliFault
     };
     table_refusal(alloc, &fault, file)
 }
+
+/// Returns the error that no column of a list has this header, which an option names.
+#[tactic(auto, using(crate::proofs::RefusalLemmas::detailed_refused))]
+pub fn header_refusal(alloc: Global, header: &[u8]) -> CliFault
+    ensures { Refuses (spec.TellsNoHeader header.now) result }
+{
+    let Ok(word) = header.to_vec(alloc) else {
+        return CliFault::Memory;
+    };
+    let fault = TableFault {
+        code: TableCode::NoDuration,
+        line: 0,
+        word,
+    };
+    match "no column has this header".to_string(alloc) {
+        Ok(detail) => plain_refusal(alloc, &fault).with_detail(Some(detail)),
+        Err(_) => CliFault::Memory,
+    }
+}

@@ -72,6 +72,12 @@ enum Form {
     CapacityIfProject,
     /// An option with the capacity of a resource of a list, any number of times.
     ListCapacity,
+    /// An option with a header of a list and its word, any number of times.
+    Map,
+    /// An option with a header of a list, any number of times.
+    Ignore,
+    /// An option with the unit of the durations of a list.
+    Unit,
     /// An option with the name of a file to write.
     Output,
     /// A name that isn't given if the option `starts` or `solve` is.
@@ -210,6 +216,25 @@ const CAPACITY_IF_PROJECT: Argument = Argument {
     name: "capacity",
     form: Form::CapacityIfProject,
     help: CAPACITY_HELP,
+};
+
+// The options of commands that read lists.
+const MAP: Argument = Argument {
+    name: "map",
+    form: Form::Map,
+    help: "for a list: read the column HEADER as WORD, for example Effort=duration; may be repeated",
+};
+
+const IGNORE: Argument = Argument {
+    name: "ignore",
+    form: Form::Ignore,
+    help: "for a list: leave out the column HEADER; may be repeated",
+};
+
+const UNIT: Argument = Argument {
+    name: "unit",
+    form: Form::Unit,
+    help: "for a list: the days in a unit of time, for example 0.5; durations and lags are in days",
 };
 
 // The file of a command that has the option `starts`.
@@ -353,6 +378,9 @@ const LIST_COMMANDS: [Entry; 2] = [
                 form: Form::ListCapacity,
                 help: "the capacity of a resource, in place of that of the list; may be repeated",
             },
+            MAP,
+            IGNORE,
+            UNIT,
             Argument {
                 name: "shop",
                 form: Form::Flag,
@@ -393,6 +421,9 @@ const PROJECT_COMMANDS: [Entry; 6] = [
             FILE_OR_LIST,
             GIVEN_STARTS,
             INSTANCE_IF_SHOP,
+            MAP,
+            IGNORE,
+            UNIT,
             FORMAT,
             Argument {
                 name: "status",
@@ -407,7 +438,16 @@ const PROJECT_COMMANDS: [Entry; 6] = [
         examples: "Examples:\n  \
             plan slack examples/six.sm examples/starts.txt\n  \
             plan schedule lft examples/house.sm | plan slack --names examples/house.sm -",
-        arguments: &[FILE_OR_LIST, GIVEN_STARTS, CAPACITY, NAMES, FORMAT],
+        arguments: &[
+            FILE_OR_LIST,
+            GIVEN_STARTS,
+            CAPACITY,
+            MAP,
+            IGNORE,
+            UNIT,
+            NAMES,
+            FORMAT,
+        ],
     },
     Entry {
         name: "compare",
@@ -422,6 +462,9 @@ const PROJECT_COMMANDS: [Entry; 6] = [
             STARTS_B,
             INSTANCE_IF_SHOP,
             CAPACITY_IF_PROJECT,
+            MAP,
+            IGNORE,
+            UNIT,
             NAMES,
             FORMAT,
         ],
@@ -493,6 +536,9 @@ const SCHEDULE_COMMANDS: [Entry; 5] = [
                 help: "conflict limit of each search, 1 to 1000000000",
             },
             CAPACITY_IF_PROJECT,
+            MAP,
+            IGNORE,
+            UNIT,
             NAMES,
             FORMAT,
             Argument {
@@ -536,6 +582,9 @@ const SCHEDULE_COMMANDS: [Entry; 5] = [
             SOLVE,
             SOLVE_SECONDS,
             CAPACITY_IF_PROJECT,
+            MAP,
+            IGNORE,
+            UNIT,
             NAMES,
             FORMAT,
             SVG,
@@ -572,6 +621,9 @@ const SCHEDULE_COMMANDS: [Entry; 5] = [
             SOLVE_SECONDS,
             HOLIDAYS,
             CAPACITY_IF_PROJECT,
+            MAP,
+            IGNORE,
+            UNIT,
             NAMES,
             DAY_FORMAT,
         ],
@@ -627,6 +679,9 @@ const SCHEDULE_COMMANDS: [Entry; 5] = [
                 help: "the title [default: INSTANCE, or the name of FILE]",
             },
             CAPACITY_IF_PROJECT,
+            MAP,
+            IGNORE,
+            UNIT,
         ],
     },
 ];
@@ -913,6 +968,15 @@ fn arg_of<'a>(alloc: Global, argument: &Argument) -> Result<Arg<'a>, AllocError>
             .value_name("FORMAT")
             .value_parser(DAY_FORMATS)
             .default_value("text"),
+        Form::Map => arg
+            .long(argument.name)
+            .value_name("HEADER=WORD")
+            .action(ArgAction::Append),
+        Form::Ignore => arg
+            .long(argument.name)
+            .value_name("HEADER")
+            .action(ArgAction::Append),
+        Form::Unit => arg.long(argument.name).value_name("U"),
         Form::Output => arg.long(argument.name).value_name("LOG"),
         Form::Flag => arg.long(argument.name).action(ArgAction::SetTrue),
         Form::OldFlag => arg

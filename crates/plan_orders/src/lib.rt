@@ -5,10 +5,12 @@
 mod arguments;
 mod contexts;
 mod digest;
+mod list_options;
 mod orders;
 mod outputs;
 
 pub use arguments::{command, help, version};
+pub use list_options::{BadOption, ListOptions, list_options_of};
 pub use orders::{
     FileOrder, Lists, OfficeOrder, Order, capacities_of, order_of, overrides_of, texts_of,
 };

@@ -1,7 +1,9 @@
 //! The orders that the arguments of the command line spell.
 
 use clap::ArgMatches;
-use plan_cli::{Capacity, Dates, NamedText, Origin, Pair, Role, Rows, Subject, Task, Template};
+use plan_cli::{
+    Capacity, Dates, NamedText, Options, Origin, Pair, Role, Rows, Subject, Task, Template,
+};
 use plan_formats::Format;
 use plan_print::{DayStyle, Events, NamedOrigin, Print, Sheet};
 use plan_solve::MOST_CONFLICTS;
@@ -178,7 +180,8 @@ pub enum OfficeOrder<'a> {
 
 /// An order of the command line.
 pub enum Order<'a> {
-    File(FileOrder<'a>, Rows),
+    /// An order on files, with the options of its list, if some are given.
+    File(FileOrder<'a>, Rows, Option<Options<'a>>),
     Office(OfficeOrder<'a>),
 }
 
@@ -254,8 +257,8 @@ fn proof_order<'a>(arguments: &'a ArgMatches<'_>) -> Option<FileOrder<'a>> {
     Some(FileOrder::Watched(task, path))
 }
 
-// Whether a name isn't empty and has no control characters: an error line can contain it.
-fn is_plain(name: &str) -> bool {
+/// Whether a name isn't empty and has no control characters: an error line can contain it.
+pub(crate) fn is_plain(name: &str) -> bool {
     !name.is_empty() && !name.bytes().any(|byte| byte.is_ascii_control())
 }
 
@@ -495,6 +498,8 @@ pub struct Lists<'a> {
     pub capacities: &'a [Capacity<'a>],
     /// The capacities of `import`.
     pub overrides: &'a [Override<'a>],
+    /// The options of a list, if some are given.
+    pub options: Option<Options<'a>>,
     /// The names of the texts.
     pub texts: &'a [NamedText<'a>],
 }
@@ -673,17 +678,15 @@ fn subject_of<'a>(instance: Option<&'a str>, capacities: &'a [Capacity<'a>]) -> 
 }
 
 // Returns the order of `days` for a calendar file.
-fn events_order<'a>(
-    arguments: &'a ArgMatches<'_>,
-    capacities: &'a [Capacity<'a>],
-) -> Option<Print<'a>> {
+fn events_order<'a>(arguments: &'a ArgMatches<'_>, lists: Lists<'a>) -> Option<Print<'a>> {
     let words = schedule_words(arguments, "MARKS")?;
     Some(Print {
         sheet: Sheet::Events {
             dates: dates_behind_rule(arguments)?,
             events: Events::plain(),
         },
-        subject: subject_of(words.instance, capacities),
+        options: lists.options,
+        subject: subject_of(words.instance, lists.capacities),
         origin: words.origin,
         holidays: arguments.get_str("holidays"),
         file: words.file,
@@ -703,14 +706,12 @@ fn title_of<'a>(instance: Option<&'a str>, file: &'a str) -> &'a str {
 }
 
 // Returns the order of `chart` for an SVG image.
-fn image_order<'a>(
-    arguments: &'a ArgMatches<'_>,
-    capacities: &'a [Capacity<'a>],
-) -> Option<Print<'a>> {
+fn image_order<'a>(arguments: &'a ArgMatches<'_>, lists: Lists<'a>) -> Option<Print<'a>> {
     let words = schedule_words(arguments, "RULE")?;
     Some(Print {
         sheet: Sheet::Chart(title_of(words.instance, words.file)),
-        subject: subject_of(words.instance, capacities),
+        options: lists.options,
+        subject: subject_of(words.instance, lists.capacities),
         origin: words.origin,
         holidays: None,
         file: words.file,
@@ -735,10 +736,7 @@ fn report_dates<'a>(arguments: &'a ArgMatches<'_>) -> Option<Dates<'a>> {
 }
 
 // Returns the order of `report`.
-fn report_order<'a>(
-    arguments: &'a ArgMatches<'_>,
-    capacities: &'a [Capacity<'a>],
-) -> Option<Print<'a>> {
+fn report_order<'a>(arguments: &'a ArgMatches<'_>, lists: Lists<'a>) -> Option<Print<'a>> {
     let (file, instance) = (arguments.get_str("FILE")?, arguments.get_str("INSTANCE"));
     let title = arguments.get_str("title");
     Some(Print {
@@ -748,7 +746,8 @@ fn report_order<'a>(
             style: DayStyle::plain(),
             by_job: arguments.get_str("by") == Some("job"),
         },
-        subject: subject_of(instance, capacities),
+        options: lists.options,
+        subject: subject_of(instance, lists.capacities),
         origin: report_origin(arguments),
         holidays: arguments.get_str("holidays"),
         file,
@@ -759,14 +758,14 @@ fn report_order<'a>(
 fn print_order<'a>(
     name: &str,
     arguments: &'a ArgMatches<'_>,
-    capacities: &'a [Capacity<'a>],
+    lists: Lists<'a>,
 ) -> Option<Print<'a>> {
     match name {
         "days" if arguments.get_str("format") == Some("ics") => {
-            events_order(arguments, capacities)
+            events_order(arguments, lists)
         }
-        "chart" if arguments.get_flag("svg") => image_order(arguments, capacities),
-        "report" => report_order(arguments, capacities),
+        "chart" if arguments.get_flag("svg") => image_order(arguments, lists),
+        "report" => report_order(arguments, lists),
         _ => None,
     }
 }
@@ -787,7 +786,7 @@ fn file_order<'a>(
     arguments: &'a ArgMatches<'_>,
     lists: Lists<'a>,
 ) -> Option<FileOrder<'a>> {
-    if let Some(print) = print_order(name, arguments, lists.capacities) {
+    if let Some(print) = print_order(name, arguments, lists) {
         return Some(FileOrder::Print(print, limit_of(arguments)));
     }
     match name {
@@ -817,6 +816,7 @@ pub fn order_of<'a>(matches: &'a ArgMatches<'_>, lists: Lists<'a>) -> Option<Ord
         _ => Some(Order::File(
             file_order(name, arguments, lists)?,
             rows_of(name, arguments),
+            lists.options,
         )),
     }
 }

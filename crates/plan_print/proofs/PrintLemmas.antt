@@ -9,6 +9,7 @@ use Rattle.plan_cli.specs.NamedTexts.{DoesWith}
 use Rattle.plan_documents.specs.declared.documents.Subject.{Subject}
 use Rattle.plan_cli.specs.declared.origins.Origin.{Origin}
 use Rattle.plan_cli.specs.declared.origins.Origin.TheVariants as origin
+use Rattle.plan_spreadsheet.specs.declared.options.Options.{Options}
 use Rattle.plan_print.specs.Prints.{PrintsFrom, PrintsNamed, PrintsWith, Prints, sheet_with}
 use Rattle.plan_print.specs.declared.prints.NamedOrigin.{NamedOrigin}
 use Rattle.plan_print.specs.declared.prints.NamedOrigin.TheVariants as named
@@ -30,31 +31,31 @@ does_as known other (Err cli.Output) Does Other same implies (text, short, read,
 abbrev pub AreSame : (List ℕ → Option (List ℕ)) → (List ℕ → Option (List ℕ)) → Type 0
 AreSame f g = (name : List ℕ) → f name ≡ g name
 
-from_same : (known other : Option (List ℕ)) (s : Sheet) (of : Subject) (from : Option Origin) (taken after : Option (List ℕ))
+from_same : (known other : Option (List ℕ)) (o : Option Options) (s : Sheet) (of : Subject) (from : Option Origin) (taken after : Option (List ℕ))
     (r : Result (Unit {0}) CliFault) → known ≡ other
-    → PrintsFrom known s of from taken after r → PrintsFrom other s of from taken after r
-from_same known other s of from taken after r same p = subst (λ (k : Option (List ℕ)). PrintsFrom k s of from taken after r) same p
+    → PrintsFrom known o s of from taken after r → PrintsFrom other o s of from taken after r
+from_same known other o s of from taken after r same p = subst (λ (k : Option (List ℕ)). PrintsFrom k o s of from taken after r) same p
 
 named_same : (f g : List ℕ → Option (List ℕ)) → AreSame f g
-    → (s : Sheet) (of : Subject) (from : NamedOrigin) (file : List ℕ) (taken after : Option (List ℕ)) (r : Result (Unit {0}) CliFault)
-    → PrintsNamed f s of from file taken after r → PrintsNamed g s of from file taken after r
-named_same f g same s of (named.Rule name) file taken after r p = from_same (f file) (g file) s of (Some (origin.Rule name)) taken after r (same file) p
-named_same f g same s of named.Default file taken after r p = from_same (f file) (g file) s of None taken after r (same file) p
-named_same f g same s of (named.Starts name) file taken after r p =
-    does_as (f name.now) (g name.now) r (λ starts. PrintsFrom (f file) s of (Some (origin.Starts starts)) taken after r)
-    (λ starts. PrintsFrom (g file) s of (Some (origin.Starts starts)) taken after r) (same name.now)
-    (λ starts q. from_same (f file) (g file) s of (Some (origin.Starts starts)) taken after r (same file) q) p
-named_same f g same s of (named.Solved conflicts) file taken after r p = from_same (f file) (g file) s of (Some (origin.Solved conflicts)) taken after r (same file) p
+    → (o : Option Options) (s : Sheet) (of : Subject) (from : NamedOrigin) (file : List ℕ) (taken after : Option (List ℕ)) (r : Result (Unit {0}) CliFault)
+    → PrintsNamed f o s of from file taken after r → PrintsNamed g o s of from file taken after r
+named_same f g same o s of (named.Rule name) file taken after r p = from_same (f file) (g file) o s of (Some (origin.Rule name)) taken after r (same file) p
+named_same f g same o s of named.Default file taken after r p = from_same (f file) (g file) o s of None taken after r (same file) p
+named_same f g same o s of (named.Starts name) file taken after r p =
+    does_as (f name.now) (g name.now) r (λ starts. PrintsFrom (f file) o s of (Some (origin.Starts starts)) taken after r)
+    (λ starts. PrintsFrom (g file) o s of (Some (origin.Starts starts)) taken after r) (same name.now)
+    (λ starts q. from_same (f file) (g file) o s of (Some (origin.Starts starts)) taken after r (same file) q) p
+named_same f g same o s of (named.Solved conflicts) file taken after r p = from_same (f file) (g file) o s of (Some (origin.Solved conflicts)) taken after r (same file) p
 
 with_same : (f g : List ℕ → Option (List ℕ)) → AreSame f g
     → (print : Print) (holidays : Option (Bor (List ℕ))) (taken after : Option (List ℕ)) (r : Result (Unit {0}) CliFault)
     → PrintsWith f print holidays taken after r → PrintsWith g print holidays taken after r
-with_same f g same print None taken after r p = named_same f g same print.sheet print.subject print.origin print.file.now taken after r p
+with_same f g same print None taken after r p = named_same f g same print.options print.sheet print.subject print.origin print.file.now taken after r p
 with_same f g same print (Some name) taken after r p =
     does_as (f name.now) (g name.now) r
-    (λ text. PrintsNamed f (sheet_with print.sheet text) print.subject print.origin print.file.now taken after r)
-    (λ text. PrintsNamed g (sheet_with print.sheet text) print.subject print.origin print.file.now taken after r) (same name.now)
-    (λ text q. named_same f g same (sheet_with print.sheet text) print.subject print.origin print.file.now taken after r q) p
+    (λ text. PrintsNamed f print.options (sheet_with print.sheet text) print.subject print.origin print.file.now taken after r)
+    (λ text. PrintsNamed g print.options (sheet_with print.sheet text) print.subject print.origin print.file.now taken after r) (same name.now)
+    (λ text q. named_same f g same print.options (sheet_with print.sheet text) print.subject print.origin print.file.now taken after r q) p
 
 -- a print does the same for the same bytes
 pub prints_same : (f g : List ℕ → Option (List ℕ)) → AreSame f g

@@ -1,12 +1,13 @@
 -- The output of a command that prints a sheet, for the bytes that it reads (docs/definitions.md,
 -- "Runs").
-use Rattle.std.specs.Prelude.{◌≡◌, ◌⊎◌, ℕ, Bool, is_some, List, Option, Some, None, Result, codes}
+use Rattle.std.specs.Prelude.{◌≡◌, ◌⊎◌, ℕ, Bool, is_some, List, [], Option, Some, None, Result, codes}
 use denote.Ref.{Bor}
 use Rattle.plan_errors.specs.Faults.{IsUnread}
 use Rattle.plan_errors.specs.Output.{Writes}
 use Rattle.plan_errors.specs.declared.context.About.TheVariants as about
 use Rattle.plan_errors.specs.declared.fault.CliFault.{CliFault}
 use Rattle.plan_documents.specs.Documents.{IsOfSubject, RefusesSubject}
+use Rattle.plan_documents.specs.ListOptions.{OfPrepared, RefusesOfPrepared}
 use Rattle.plan_documents.specs.Lists.{ReadsAs, RefusesAs}
 use Rattle.plan_cli.specs.NamedTexts.{DoesWith, dates_with}
 use Rattle.plan_cli.specs.declared.calendars.Dates.{Dates}
@@ -14,6 +15,7 @@ use Rattle.plan_documents.specs.declared.documents.Subject.{Subject}
 use Rattle.plan_documents.specs.declared.documents.Subject.TheVariants as subject
 use Rattle.plan_cli.specs.declared.origins.Origin.{Origin}
 use Rattle.plan_cli.specs.declared.origins.Origin.TheVariants as origin
+use Rattle.plan_spreadsheet.specs.declared.options.Options.{Options}
 use Rattle.plan_print.specs.Sheets.{IsSheetFrom, TellsNoSheetFrom}
 use Rattle.plan_print.specs.declared.sheets.Sheet.{Sheet}
 use Rattle.plan_print.specs.declared.sheets.Sheet.TheVariants as sheet
@@ -62,6 +64,18 @@ IsSheetRead s of given file text = ReadsAs of file (λ kind a read. IsSheetBy (i
 abbrev pub RefusesSheetRead : Sheet → Subject → Option Origin → List ℕ → List ℕ → Type 0
 RefusesSheetRead s of given file = RefusesAs of file (λ a read. RefusesSheetBy s given a read)
 
+-- a text is a sheet for what a command reads of a file with options of its list, or of the file
+abbrev pub IsSheetPrepared : Option Options → Sheet → Subject → Option Origin → List ℕ → List ℕ
+    → Type 0
+IsSheetPrepared o s of given file text =
+    OfPrepared o [] file (λ list. IsSheetRead s of given list text)
+
+-- a line refuses a file with options of its list, or else the sheet for what a command reads of it
+abbrev pub RefusesSheetPrepared : Option Options → Sheet → Subject → Option Origin → List ℕ
+    → List ℕ → Type 0
+RefusesSheetPrepared o s of given file line =
+    RefusesOfPrepared o [] (RefusesSheetRead s of given) file line
+
 -- dates with the holidays in a text, if there are dates
 abbrev pub some_with : Option Dates → Bor (List ℕ) → Option Dates
 some_with None text = None
@@ -75,33 +89,35 @@ sheet_with (sheet.Report title dates style by_job) text = sheet.Report title (so
 
 -- Unless the input fails or memory runs out, the sheet is written for the bytes that were read, or
 -- the line that refuses it is the error.
-abbrev pub PrintsFrom : Option (List ℕ) → Sheet → Subject → Option Origin → Option (List ℕ)
-    → Option (List ℕ) → Result (Unit {0}) CliFault → Type 0
-PrintsFrom bytes s of given taken after result = DoesWith bytes result (λ file. Writes
-    (IsSheetRead s of given file.now) (RefusesSheetRead s of given file.now) taken after result)
+abbrev pub PrintsFrom : Option (List ℕ) → Option Options → Sheet → Subject → Option Origin
+    → Option (List ℕ) → Option (List ℕ) → Result (Unit {0}) CliFault → Type 0
+PrintsFrom bytes o s of given taken after result = DoesWith bytes result (λ file. Writes
+    (IsSheetPrepared o s of given file.now) (RefusesSheetPrepared o s of given file.now)
+    taken after result)
 
 -- the same by the rule with a name, by the default rule, for the starts in the file with a name,
 -- or by a search
-abbrev pub PrintsNamed : (List ℕ → Option (List ℕ)) → Sheet → Subject → NamedOrigin → List ℕ
-    → Option (List ℕ) → Option (List ℕ) → Result (Unit {0}) CliFault → Type 0
-PrintsNamed bytes_of s of (named.Rule name) file taken after result =
-    PrintsFrom (bytes_of file) s of (Some (origin.Rule name)) taken after result
-PrintsNamed bytes_of s of named.Default file taken after result =
-    PrintsFrom (bytes_of file) s of None taken after result
-PrintsNamed bytes_of s of (named.Starts name) file taken after result =
+abbrev pub PrintsNamed : (List ℕ → Option (List ℕ)) → Option Options → Sheet → Subject
+    → NamedOrigin → List ℕ → Option (List ℕ) → Option (List ℕ) → Result (Unit {0}) CliFault → Type 0
+PrintsNamed bytes_of o s of (named.Rule name) file taken after result =
+    PrintsFrom (bytes_of file) o s of (Some (origin.Rule name)) taken after result
+PrintsNamed bytes_of o s of named.Default file taken after result =
+    PrintsFrom (bytes_of file) o s of None taken after result
+PrintsNamed bytes_of o s of (named.Starts name) file taken after result =
     DoesWith (bytes_of name.now) result (λ starts.
-    PrintsFrom (bytes_of file) s of (Some (origin.Starts starts)) taken after result)
-PrintsNamed bytes_of s of (named.Solved conflicts) file taken after result =
-    PrintsFrom (bytes_of file) s of (Some (origin.Solved conflicts)) taken after result
+    PrintsFrom (bytes_of file) o s of (Some (origin.Starts starts)) taken after result)
+PrintsNamed bytes_of o s of (named.Solved conflicts) file taken after result =
+    PrintsFrom (bytes_of file) o s of (Some (origin.Solved conflicts)) taken after result
 
 -- the same with the holidays in the file with a name, if there is one
 abbrev pub PrintsWith : (List ℕ → Option (List ℕ)) → Print → Option (Bor (List ℕ))
     → Option (List ℕ) → Option (List ℕ) → Result (Unit {0}) CliFault → Type 0
 PrintsWith bytes_of print None taken after result =
-    PrintsNamed bytes_of print.sheet print.subject print.origin print.file.now taken after result
+    PrintsNamed bytes_of print.options print.sheet print.subject print.origin print.file.now
+    taken after result
 PrintsWith bytes_of print (Some name) taken after result =
-    DoesWith (bytes_of name.now) result (λ text. PrintsNamed bytes_of (sheet_with print.sheet text)
-    print.subject print.origin print.file.now taken after result)
+    DoesWith (bytes_of name.now) result (λ text. PrintsNamed bytes_of print.options
+    (sheet_with print.sheet text) print.subject print.origin print.file.now taken after result)
 
 -- The effect of a print, if these are the bytes of the files with a name, as far as they are known.
 -- At most one byte more than the longest text has is read of each file.

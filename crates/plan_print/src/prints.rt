@@ -3,15 +3,16 @@
 ghost use Rattle.std.specs.Prelude.{◌≡◌, ◌⊎◌, ◌+◌, ◌≤◌, None, IfErr, IsErrOf, OnOk};
 ghost use Rattle.plan_io.specs.Devices.{most_calls};
 ghost use Rattle.plan_errors.specs.Faults.{IsUnread};
-ghost use Rattle.plan_errors.specs.Output.{HasSinkFailed, Writes};
+ghost use Rattle.plan_errors.specs.Output.{HasSinkFailed, Refuses, Writes};
+ghost use Rattle.plan_documents.specs.Lines.{IfText};
 ghost use Rattle.plan_cli.specs.NamedTexts.{dates_with};
 ghost use Rattle.plan_cli.specs.Tasks.{bytes_behind};
 ghost use Rattle.plan_print.specs.Prints as spec;
 
 use crate::sheets::{Sheet, read_sheet};
 use plan_cli::{
-    CliFault, Dates, Inputs, NoteWatcher, Origin, ProofWatcher, SolveWatcher, Subject,
-    SystemInputs, notes_of, read_named,
+    CliFault, Dates, Inputs, NoteWatcher, Options, Origin, ProofWatcher, SolveWatcher, Subject,
+    SystemInputs, prepare, read_named,
 };
 use plan_errors::{About, write_text};
 use plan_io::Sink;
@@ -36,6 +37,8 @@ pub enum NamedOrigin<'a> {
 #[derive(Clone, Copy, Debug, Drop)]
 pub struct Print<'a> {
     pub sheet: Sheet<'a>,
+    /// The options of the list, if some are given.
+    pub options: Option<Options<'a>>,
     pub subject: Subject<'a>,
     pub origin: NamedOrigin<'a>,
     /// The name of the file of holidays, if there is one.
@@ -89,10 +92,36 @@ fn sheet_with<'a>(sheet: Sheet<'a>, holidays: &'a [u8]) -> Sheet<'a>
     }
 }
 
+// Returns a sheet of a file that was read, with options of its list. The watcher is told the notes on
+// the list.
+#[tactic(auto, using(plan_documents::proofs::ListOptionLemmas::prepared_told, plan_documents::proofs::ListOptionLemmas::unprepared_told))]
+fn prepared_sheet<V: ProofWatcher + SolveWatcher + NoteWatcher>(
+    alloc: Global,
+    options: Option<Options<'_>>,
+    sheet: Sheet<'_>,
+    subject: Subject<'_>,
+    origin: Option<Origin<'_>>,
+    file: &[u8],
+    watcher: &mut V,
+) -> Result<String, CliFault>
+    ensures made { IfText result (spec.IsSheetPrepared options.entry sheet.entry subject.entry
+        origin.entry file.now) }
+    ensures refused { IfErr result (Refuses (spec.RefusesSheetPrepared options.entry sheet.entry
+        subject.entry origin.entry file.now)) }
+{
+    let list = prepare(alloc, options, &[], file)?;
+    let text = read_sheet(alloc, sheet, subject, origin, list.text(file), watcher)?;
+    if let Ok(Some(line)) = list.notes(alloc, &[], file) {
+        watcher.note(line);
+    }
+    Ok(text)
+}
+
 // Prints a sheet of a file that was read.
 #[tactic(auto, using(plan_errors::proofs::RefusalLemmas::refuses_unread, plan_errors::proofs::RefusalLemmas::output_unread,))]
 fn print_read<W: Sink, V: ProofWatcher + SolveWatcher + NoteWatcher>(
     alloc: Global,
+    options: Option<Options<'_>>,
     sheet: Sheet<'_>,
     subject: Subject<'_>,
     origin: Option<Origin<'_>>,
@@ -101,8 +130,8 @@ fn print_read<W: Sink, V: ProofWatcher + SolveWatcher + NoteWatcher>(
     writer: &mut W,
 ) -> Result<(), CliFault>
     ensures does { Writes
-        (spec.IsSheetRead sheet.entry subject.entry origin.entry file.now)
-        (spec.RefusesSheetRead sheet.entry subject.entry origin.entry file.now)
+        (spec.IsSheetPrepared options.entry sheet.entry subject.entry origin.entry file.now)
+        (spec.RefusesSheetPrepared options.entry sheet.entry subject.entry origin.entry file.now)
         (W.taken writer.old) (W.taken writer.new) result }
     ensures writes { W.calls writer.new ≤ W.calls writer.old + most_calls }
     ensures unread { IfErr result (IsUnread About.Plan) }
@@ -110,10 +139,7 @@ fn print_read<W: Sink, V: ProofWatcher + SolveWatcher + NoteWatcher>(
     ensures fine { OnOk result (W.faults writer.new ≡ W.faults writer.old) }
     ensures output { IsErrOf result CliFault.Output → HasSinkFailed W.Sink writer.old writer.new }
 {
-    let text = read_sheet(alloc, sheet, subject, origin, file, watcher)?;
-    if let Ok(Some(line)) = notes_of(alloc, &[], file) {
-        watcher.note(line);
-    }
+    let text = prepared_sheet(alloc, options, sheet, subject, origin, file, watcher)?;
     write_text(writer, text.as_bytes())
 }
 
@@ -122,6 +148,7 @@ fn print_read<W: Sink, V: ProofWatcher + SolveWatcher + NoteWatcher>(
 fn print_from<I: Inputs, W: Sink, V: ProofWatcher + SolveWatcher + NoteWatcher>(
     alloc: Global,
     inputs: &I,
+    options: Option<Options<'_>>,
     sheet: Sheet<'_>,
     subject: Subject<'_>,
     origin: Option<Origin<'_>>,
@@ -129,7 +156,7 @@ fn print_from<I: Inputs, W: Sink, V: ProofWatcher + SolveWatcher + NoteWatcher>(
     watcher: &mut V,
     writer: &mut W,
 ) -> Result<(), CliFault>
-    ensures does { spec.PrintsFrom (bytes_behind I.Inputs inputs.now file.now)
+    ensures does { spec.PrintsFrom (bytes_behind I.Inputs inputs.now file.now) options.entry
         sheet.entry subject.entry origin.entry (W.taken writer.old) (W.taken writer.new) result }
     ensures writes { W.calls writer.new ≤ W.calls writer.old + most_calls }
     ensures unread { IfErr result (IsUnread About.Plan) }
@@ -138,7 +165,7 @@ fn print_from<I: Inputs, W: Sink, V: ProofWatcher + SolveWatcher + NoteWatcher>(
     ensures output { IsErrOf result CliFault.Output → HasSinkFailed W.Sink writer.old writer.new }
 {
     let bytes = read_named(alloc, inputs, About::Plan, file)?;
-    print_read(alloc, sheet, subject, origin, &bytes, watcher, writer)
+    print_read(alloc, options, sheet, subject, origin, &bytes, watcher, writer)
 }
 
 // Prints a sheet of the file with this name. If the schedule has its starts in a file, that one is
@@ -147,6 +174,7 @@ fn print_from<I: Inputs, W: Sink, V: ProofWatcher + SolveWatcher + NoteWatcher>(
 fn print_by<I: Inputs, W: Sink, V: ProofWatcher + SolveWatcher + NoteWatcher>(
     alloc: Global,
     inputs: &I,
+    options: Option<Options<'_>>,
     sheet: Sheet<'_>,
     subject: Subject<'_>,
     origin: NamedOrigin<'_>,
@@ -154,8 +182,8 @@ fn print_by<I: Inputs, W: Sink, V: ProofWatcher + SolveWatcher + NoteWatcher>(
     watcher: &mut V,
     writer: &mut W,
 ) -> Result<(), CliFault>
-    ensures does { spec.PrintsNamed (bytes_behind I.Inputs inputs.now) sheet.entry subject.entry
-        origin.entry file.now (W.taken writer.old) (W.taken writer.new) result }
+    ensures does { spec.PrintsNamed (bytes_behind I.Inputs inputs.now) options.entry sheet.entry
+        subject.entry origin.entry file.now (W.taken writer.old) (W.taken writer.new) result }
     ensures writes { W.calls writer.new ≤ W.calls writer.old + most_calls }
     ensures unread { IfErr result (spec.IsUnreadBy origin.entry) }
     ensures quiet { IfErr result (λ e. (e ≡ CliFault.Output) ⊎ (writer.new ≡ writer.old)) }
@@ -167,6 +195,7 @@ fn print_by<I: Inputs, W: Sink, V: ProofWatcher + SolveWatcher + NoteWatcher>(
             print_from(
                 alloc,
                 inputs,
+                options,
                 sheet,
                 subject,
                 Some(Origin::Rule(name)),
@@ -176,12 +205,13 @@ fn print_by<I: Inputs, W: Sink, V: ProofWatcher + SolveWatcher + NoteWatcher>(
             )
         }
         NamedOrigin::Default => {
-            print_from(alloc, inputs, sheet, subject, None, file, watcher, writer)
+            print_from(alloc, inputs, options, sheet, subject, None, file, watcher, writer)
         }
         NamedOrigin::Solved { conflicts } => {
             print_from(
                 alloc,
                 inputs,
+                options,
                 sheet,
                 subject,
                 Some(Origin::Solved { conflicts }),
@@ -193,15 +223,16 @@ fn print_by<I: Inputs, W: Sink, V: ProofWatcher + SolveWatcher + NoteWatcher>(
         NamedOrigin::Starts(name) => {
             let starts = read_named(alloc, inputs, About::Starts, name)?;
             let origin = Some(Origin::Starts(&starts));
-            print_from(alloc, inputs, sheet, subject, origin, file, watcher, writer)
+            print_from(alloc, inputs, options, sheet, subject, origin, file, watcher, writer)
         }
     }
 }
 
 /// Prints a sheet. The file of the holidays is read first, then that of the starts, then that of
-/// the project or the job shop. A list is read as the file that `plan import` makes of it. The
-/// watcher is called during a search, and can stop it; it is told the notes on a list. A file that
-/// can't be opened or read is [`CliFault::Input`] of its argument.
+/// the project or the job shop. A list is read as the file that `plan import` makes of it, or of the
+/// plain list that its options make of it. The watcher is called during a search, and can stop it; it
+/// is told the notes on a list. A file that can't be opened or read is [`CliFault::Input`] of its
+/// argument.
 ///
 /// Nothing is written unless the whole sheet was made. If several errors apply, that of the file
 /// comes first, then those of the capacities, of the schedule, of the calendar, and of a day after
@@ -227,18 +258,20 @@ pub fn print_on_named<I: Inputs, W: Sink, V: ProofWatcher + SolveWatcher + NoteW
 {
     let Print {
         sheet,
+        options,
         subject,
         origin,
         holidays,
         file,
     } = print;
     let Some(name) = holidays else {
-        return print_by(alloc, inputs, sheet, subject, origin, file, watcher, writer);
+        return print_by(alloc, inputs, options, sheet, subject, origin, file, watcher, writer);
     };
     let days = read_named(alloc, inputs, About::Holidays, name)?;
     print_by(
         alloc,
         inputs,
+        options,
         sheet_with(sheet, &days),
         subject,
         origin,

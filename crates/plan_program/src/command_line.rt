@@ -5,8 +5,8 @@ use crate::misuse::Misuse;
 use crate::status::Status;
 use clap::ArgMatches;
 use plan_orders::{
-    Lists, OfficeOrder, Order, capacities_of, command, help, order_of, overrides_of, texts_of,
-    version,
+    Lists, OfficeOrder, Order, capacities_of, command, help, list_options_of, order_of,
+    overrides_of, texts_of, version,
 };
 use std::alloc::Global;
 use std::env;
@@ -30,7 +30,7 @@ fn run_order<O: Offices>(
     offices: &O,
 ) -> Result<Status, Misuse> {
     match order {
-        Order::File(order, rows) => run_file_order(rt, order, rows),
+        Order::File(order, rows, options) => run_file_order(rt, order, rows, options),
         Order::Office(order) => offices.run(rt, order),
     }
 }
@@ -46,10 +46,13 @@ fn run_matches<O: Offices>(
     let capacities = capacities.map_err(|text| Misuse::of_capacity(alloc, text))?;
     let overrides = overrides_of(alloc, &matches)?;
     let overrides = overrides.map_err(|text| Misuse::of_capacity(alloc, text))?;
+    let options = list_options_of(alloc, &matches)?;
+    let options = options.map_err(|bad| Misuse::of_option(alloc, bad))?;
     let texts = texts_of(alloc, &matches)?;
     let lists = Lists {
         capacities: &capacities,
         overrides: &overrides,
+        options: options.options(),
         texts: &texts,
     };
     match order_of(&matches, lists) {

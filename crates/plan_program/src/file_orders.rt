@@ -7,8 +7,8 @@ use crate::progress::ProgressLine;
 use crate::status::Status;
 use crate::verification::do_verify;
 use plan_cli::{
-    CliFault, Log, NoteWatcher, ProofWatcher, Rows, SolveWatcher, Subject, SystemInputs, Task,
-    Unlogged, check_text, explain_run, explain_run_in, notes_of, read_named, run_on_file,
+    CliFault, Log, NoteWatcher, Options, ProofWatcher, Rows, SolveWatcher, Subject, SystemInputs,
+    Task, Unlogged, check_text, explain_run, explain_run_in, prepare, read_named, run_on_file,
     run_on_files, template_run,
 };
 use plan_errors::{About, write_text};
@@ -21,6 +21,7 @@ use std::io;
 // Runs a task on a file, and writes to standard output.
 fn do_task<V: ProofWatcher + SolveWatcher + NoteWatcher, L: Log>(
     rt: &HostRuntime,
+    options: Option<Options<'_>>,
     task: Task<'_>,
     rows: Rows,
     watcher: &mut V,
@@ -28,12 +29,13 @@ fn do_task<V: ProofWatcher + SolveWatcher + NoteWatcher, L: Log>(
     path: &str,
 ) -> Result<(), CliFault> {
     let mut writer = StdSink::new(io::writer(rt));
-    run_on_file(rt, task, rows, watcher, log, path, &mut writer)
+    run_on_file(rt, options, task, rows, watcher, log, path, &mut writer)
 }
 
 // Writes a verdict to standard output, and returns the status that it decides.
 fn do_check(
     rt: &HostRuntime,
+    options: Option<Options<'_>>,
     subject: Subject<'_>,
     rows: Rows,
     starts: &str,
@@ -42,9 +44,10 @@ fn do_check(
     let inputs = SystemInputs::new(rt);
     let starts = read_named(rt.alloc(), &inputs, About::Starts, starts)?;
     let file = read_named(rt.alloc(), &inputs, About::Plan, path)?;
-    let checked = check_text(rt.alloc(), rows, &starts, subject, &file)?;
+    let list = prepare(rt.alloc(), options, &[], &file)?;
+    let checked = check_text(rt.alloc(), rows, &starts, subject, list.text(&file))?;
     write_text(&mut StdSink::new(io::writer(rt)), &checked.text)?;
-    if let Ok(Some(line)) = notes_of(rt.alloc(), &[], &file) {
+    if let Ok(Some(line)) = list.notes(rt.alloc(), &[], &file) {
         let _ = eprintln!(rt; "{line}");
     }
     Ok(Status::of(checked.verdict))
@@ -62,6 +65,7 @@ fn explain<W: Sink>(alloc: Global, line: &str, rows: Rows, writer: &mut W) -> Re
 // written, the log is complete.
 fn do_solve(
     rt: &HostRuntime,
+    options: Option<Options<'_>>,
     task: Task<'_>,
     rows: Rows,
     seconds: Option<u32>,
@@ -70,7 +74,7 @@ fn do_solve(
 ) -> Result<(), FileFault> {
     let mut line = ProgressLine::within(rt, seconds);
     let mut log = FileLog::create(rt, log, path)?;
-    let done = do_task(rt, task, rows, &mut line, &mut log, path);
+    let done = do_task(rt, options, task, rows, &mut line, &mut log, path);
     let ended = log.end(rt, matches!(done, Ok(()) | Err(CliFault::Output)));
     done?;
     ended?;
@@ -79,12 +83,17 @@ fn do_solve(
 }
 
 // Runs an order on files, and writes to standard output. Returns the status.
-fn do_file_order(rt: &HostRuntime, order: FileOrder<'_>, rows: Rows) -> Result<Status, FileFault> {
+fn do_file_order(
+    rt: &HostRuntime,
+    order: FileOrder<'_>,
+    rows: Rows,
+    options: Option<Options<'_>>,
+) -> Result<Status, FileFault> {
     let mut writer = StdSink::new(io::writer(rt));
     match order {
         FileOrder::Task(task, path) | FileOrder::Watched(task, path) => {
             let mut line = ProgressLine::new(rt);
-            do_task(rt, task, rows, &mut line, &mut Unlogged, path)?;
+            do_task(rt, options, task, rows, &mut line, &mut Unlogged, path)?;
             line.print_notes();
         }
         FileOrder::Solve {
@@ -92,7 +101,7 @@ fn do_file_order(rt: &HostRuntime, order: FileOrder<'_>, rows: Rows) -> Result<S
             file,
             seconds,
             log,
-        } => do_solve(rt, task, rows, seconds, log, file)?,
+        } => do_solve(rt, options, task, rows, seconds, log, file)?,
         FileOrder::Texts {
             task,
             file,
@@ -100,14 +109,14 @@ fn do_file_order(rt: &HostRuntime, order: FileOrder<'_>, rows: Rows) -> Result<S
             seconds,
         } => {
             let mut line = ProgressLine::within(rt, seconds);
-            run_on_files(rt, task, rows, &mut line, texts, file, &mut writer)?;
+            run_on_files(rt, options, task, rows, &mut line, texts, file, &mut writer)?;
             line.print_notes();
         }
         FileOrder::Check {
             subject,
             file,
             starts,
-        } => return Ok(do_check(rt, subject, rows, starts, file)?),
+        } => return Ok(do_check(rt, options, subject, rows, starts, file)?),
         FileOrder::Verify {
             file,
             log,
@@ -132,11 +141,12 @@ pub(crate) fn run_file_order(
     rt: &HostRuntime,
     order: FileOrder<'_>,
     rows: Rows,
+    options: Option<Options<'_>>,
 ) -> Result<Status, Misuse> {
     if let Some((first, second)) = order.shared_input() {
         return Err(Misuse::OneInput(first, second));
     }
-    Ok(match do_file_order(rt, order, rows) {
+    Ok(match do_file_order(rt, order, rows, options) {
         Ok(status) => status,
         Err(fault) => print_fault(rt, &order, rows, fault),
     })

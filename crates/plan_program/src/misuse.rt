@@ -5,6 +5,7 @@ use crate::status::Status;
 use clap::Error;
 use clap::error::ErrorKind;
 use plan_errors::{CliFault, Context};
+use plan_orders::BadOption;
 use std::alloc::{AllocError, Global};
 use std::io;
 
@@ -23,6 +24,12 @@ pub enum Misuse {
     OneInput(&'static str, &'static str),
     /// A text that gives no capacity.
     BadCapacity(String),
+    /// A text that gives no header and word.
+    BadMap(String),
+    /// A text that gives no header.
+    BadIgnore(String),
+    /// A text that gives no unit.
+    BadUnit(String),
 }
 
 impl From<AllocError> for Misuse {
@@ -47,6 +54,16 @@ impl Misuse {
             .map_or(Misuse::NoMemory, Misuse::BadCapacity)
     }
 
+    /// Returns the misuse of an option of a list.
+    pub(crate) fn of_option(alloc: Global, bad: BadOption<'_>) -> Misuse {
+        let made = match bad {
+            BadOption::Map(text) => text.to_string(alloc).map(Misuse::BadMap),
+            BadOption::Ignore(text) => text.to_string(alloc).map(Misuse::BadIgnore),
+            BadOption::Unit(text) => text.to_string(alloc).map(Misuse::BadUnit),
+        };
+        made.unwrap_or(Misuse::NoMemory)
+    }
+
     /// Prints the reason, and returns the status.
     pub(crate) fn print(&self, rt: &HostRuntime) -> Status {
         match self {
@@ -57,7 +74,27 @@ impl Misuse {
             Misuse::NoOffice => {
                 print_misuse(rt, "the commands of an office need the program itself")
             }
-            Misuse::BadCapacity(text) => print_bad_capacity(rt, text),
+            Misuse::BadCapacity(text) => print_bad_value(
+                rt,
+                text,
+                "--capacity <NAME=N>",
+                "N is a number from 0 to 10000",
+            ),
+            Misuse::BadMap(text) => print_bad_value(
+                rt,
+                text,
+                "--map <HEADER=WORD>",
+                "it needs a header and a word",
+            ),
+            Misuse::BadIgnore(text) => {
+                print_bad_value(rt, text, "--ignore <HEADER>", "it needs a header")
+            }
+            Misuse::BadUnit(text) => print_bad_value(
+                rt,
+                text,
+                "--unit <U>",
+                "U is a number of days above 0, for example 0.5",
+            ),
             Misuse::OneInput(first, second) => print_one_input(rt, first, second),
         }
     }
@@ -93,10 +130,10 @@ fn print_one_input<R: Eprint>(rt: &R, first: &str, second: &str) -> Status {
     Status::Misused
 }
 
-// Prints the error of a text that gives no capacity, and returns the status of usage.
-fn print_bad_capacity(rt: &HostRuntime, text: &str) -> Status {
+// Prints the error of a text that is no value of an option, and returns the status of usage.
+fn print_bad_value(rt: &HostRuntime, text: &str, option: &str, rule: &str) -> Status {
     let _ = eprintln!(rt;
-        "error: invalid value '{text}' for '--capacity <NAME=N>': N is a number from 0 to 10000\n\n\
+        "error: invalid value '{text}' for '{option}': {rule}\n\n\
         For more information, try '--help'."
     );
     Status::Misused

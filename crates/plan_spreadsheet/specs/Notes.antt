@@ -18,7 +18,7 @@ is_text cell = not (length cell == 0) && is_none (number cell)
 abbrev pub has_text : List Row → ℕ → Bool
 has_text rows k = list_any (λ row. is_text (cell_of k row)) rows
 
--- the slack of activities, as `list_back` of plan_list_back writes it, is a note without text too
+-- a column of the slack of activities is a note without text too
 abbrev pub is_slack_word : List ℕ → Bool
 is_slack_word key = same_name (codes "slack") key
 

@@ -15,14 +15,14 @@ use std::alloc::{AllocError, Global};
 
 /// A header of the list, and the word that stands in its place, such as `duration`. The case of
 /// ASCII letters and blanks around the header don't matter.
-#[derive(Clone, Copy)]
+#[derive(Clone, Copy, Debug, Drop)]
 pub struct Rename<'a> {
     pub header: &'a [u8],
     pub word: &'a [u8],
 }
 
 /// How a list is read. With empty lists and `None` it is read as it is.
-#[derive(Clone, Copy)]
+#[derive(Clone, Copy, Debug, Drop)]
 pub struct Options<'a> {
     /// New words for headers.
     pub renames: &'a [Rename<'a>],
