@@ -12,6 +12,8 @@ mod explanations;
 mod files;
 mod inputs;
 mod links;
+mod list_texts;
+mod list_times;
 mod named_texts;
 mod names;
 mod origins;

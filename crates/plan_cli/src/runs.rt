@@ -30,7 +30,8 @@ fn list_capacities<'a>(task: Task<'a>) -> Option<&'a [Override<'a>]> {
         | Task::Check { .. }
         | Task::Slack { .. }
         | Task::Compare { .. }
-        | Task::Solve { .. } => Some(&[]),
+        | Task::Solve { .. }
+        | Task::List { options: None, .. } => Some(&[]),
         _ => None,
     }
 }

@@ -1,5 +1,5 @@
 -- Cells with a text in one column, and lists that are read as the same project.
-use Rattle.std.proofs.Common.{◌≡◌, ◌≤◌, ◌<◌, ℕ, ◌+◌, ◌-◌, List, [], ◌∷◌, ◌++◌, Ok, length, drop, take, replicate, refl, sym, ap, ◌∙◌, subst}
+use Rattle.std.proofs.Common.{◌≡◌, ◌≤◌, ◌<◌, ℕ, ◌+◌, ◌-◌, arith, List, [], ◌∷◌, ◌++◌, Ok, length, drop, take, replicate, refl, sym, ap, ◌∙◌, subst}
 use Rattle.std.proofs.lemmas.List.{append_assoc, append-nil, drop_all, length-append, length-replicate, take-append-le, take_all}
 use Rattle.plan_encoding.specs.declared.text.Decoded.{Decoded}
 use Rattle.plan_encoding.specs.Encodings.{utf8_of}

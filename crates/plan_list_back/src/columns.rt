@@ -1,6 +1,6 @@
 //! Columns of times behind those of a list, or in their place.
 
-ghost use Rattle.std.specs.Prelude.{◌≡◌, ◌++◌, ◌∷◌, ◌-◌, [], length, map, replicate, IfOk, OnOk};
+ghost use Rattle.std.specs.Prelude.{◌≡◌, ◌≤◌, ◌<◌, ◌++◌, [], length, map, replicate, IfOk, OnOk};
 ghost use Rattle.plan_table.specs.Csv.{row_of};
 ghost use Rattle.plan_list_back.specs.ListBack as spec;
 
@@ -45,24 +45,55 @@ fn push_empty(alloc: Global, all: &mut Vec<Vec<u8>>, count: usize) -> Result<(),
     Ok(())
 }
 
+// Cells with a text in the place of another one.
+#[tactic(auto, using(crate::proofs::ListBackLemmas::put_within))]
+fn put_within(
+    alloc: Global,
+    k: usize,
+    text: Vec<u8>,
+    cells: &[Vec<u8>],
+) -> Result<Vec<Vec<u8>>, AllocError>
+    requires { k < length cells.now }
+    ensures { IfOk result (λ v. map (λ cell. cell.items) v.items
+        ≡ spec.put k text.items (map (λ cell. cell.items) cells.now)) }
+{
+    let mut all = Vec::new(alloc);
+    push_cells(alloc, &mut all, &cells[..k])?;
+    all.push(text)?;
+    push_cells(alloc, &mut all, &cells[k + 1..])?;
+    Ok(all)
+}
+
+// Cells with a text behind them, in column `k`.
+#[tactic(auto, using(crate::proofs::ListBackLemmas::put_behind))]
+fn put_behind(
+    alloc: Global,
+    k: usize,
+    text: Vec<u8>,
+    cells: &[Vec<u8>],
+) -> Result<Vec<Vec<u8>>, AllocError>
+    requires { length cells.now ≤ k }
+    ensures { IfOk result (λ v. map (λ cell. cell.items) v.items
+        ≡ spec.put k text.items (map (λ cell. cell.items) cells.now)) }
+{
+    let mut all = Vec::new(alloc);
+    push_cells(alloc, &mut all, cells)?;
+    push_empty(alloc, &mut all, k - cells.len())?;
+    all.push(text)?;
+    Ok(all)
+}
+
 // Cells with a text in column `k`.
-#[tactic(auto, using(crate::proofs::ListBackLemmas::put_within, crate::proofs::ListBackLemmas::put_behind))]
 fn put(alloc: Global, k: usize, text: &[u8], cells: &[Vec<u8>]) -> Result<Vec<Vec<u8>>, AllocError>
     ensures { IfOk result (λ v. map (λ cell. cell.items) v.items
         ≡ spec.put k text.now (map (λ cell. cell.items) cells.now)) }
 {
     let text = Vec::from_slice(alloc, text)?;
-    let mut all = Vec::new(alloc);
     if k < cells.len() {
-        push_cells(alloc, &mut all, &cells[..k])?;
-        all.push(text)?;
-        push_cells(alloc, &mut all, &cells[k + 1..])?;
+        put_within(alloc, k, text, cells)
     } else {
-        push_cells(alloc, &mut all, cells)?;
-        push_empty(alloc, &mut all, k - cells.len())?;
-        all.push(text)?;
+        put_behind(alloc, k, text, cells)
     }
-    Ok(all)
 }
 
 // A header with a word behind its cells, unless it has it already.
@@ -91,6 +122,24 @@ fn place_of(field: Field, first: &Row) -> usize
     }
 }
 
+// A row with its text in column `k`.
+fn row_with(
+    alloc: Global,
+    field: Field,
+    times: &[Times<'_>],
+    k: usize,
+    row: &Row,
+) -> Result<Row, AllocError>
+    ensures { IfOk result (λ r. row_of r
+        ≡ spec.row_with field (map spec.times_of times.now) k (row_of row.now)) }
+{
+    let cells = put(alloc, k, text_for(field, times, row), &row.cells)?;
+    Ok(Row {
+        line: row.line,
+        cells,
+    })
+}
+
 // Adds rows with their texts in column `k`.
 fn push_rows(
     alloc: Global,
@@ -104,12 +153,8 @@ fn push_rows(
         ++ map (spec.row_with field (map spec.times_of times.now) k) (map row_of rows.now)) }
 {
     for row in rows {
-        let text = text_for(field, times, row);
-        let cells = put(alloc, k, text, &row.cells)?;
-        all.push(Row {
-            line: row.line,
-            cells,
-        })?;
+        let new = row_with(alloc, field, times, k, row)?;
+        all.push(new)?;
     }
     Ok(())
 }

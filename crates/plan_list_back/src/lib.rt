@@ -2,11 +2,13 @@
 #![tactic(auto)]
 
 mod columns;
+mod fault;
 mod lists;
 mod sameness;
 mod text;
 mod times;
 
-pub use lists::{ListBackFault, list_back};
+pub use fault::ListBackFault;
+pub use lists::list_back;
 pub use sameness::list_table;
 pub use times::Times;

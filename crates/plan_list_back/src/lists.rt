@@ -1,38 +1,38 @@
 //! A planner's own list with the times of its activities.
 
-ghost use Rattle.std.specs.Prelude.{◌≡◌, map, IfOk, IfErr, IfSome};
+ghost use Rattle.std.specs.Prelude.{map, IfOk};
 ghost use Rattle.plan_encoding.specs.Encodings.{utf8_of};
 ghost use Rattle.plan_table.specs.Csv.{row_of};
 ghost use Rattle.plan_table.specs.Overrides.{override_of};
 ghost use Rattle.plan_spreadsheet.specs.Options.{options_of};
-ghost use Rattle.plan_list_back.specs.declared.lists.ListBackFault.TheVariants as fault;
 ghost use Rattle.plan_list_back.specs.ListBack as spec;
 
 use crate::columns::with_times;
+use crate::fault::ListBackFault;
 use crate::sameness::project_of;
 use crate::text::{separator_of, text_of};
 use crate::times::Times;
 use plan_encoding::utf8_text;
+use plan_psplib::LONGEST_TEXT;
 use plan_spreadsheet::{Options, filled, spells};
 use plan_table::{Override, ReadError, Row, read_rows_of};
-use std::alloc::{AllocError, Global};
+use std::alloc::Global;
 
-/// Why a list isn't given back.
-#[derive(Clone, Copy, Debug, PartialEq, Eq)]
-pub enum ListBackFault {
-    /// Memory ran out.
-    Memory,
-    /// The file isn't read as a list of activities.
-    NoList,
-    /// With the times it isn't read as the same project: it is too long.
-    Changed,
+// Why a text isn't read as the rows of a list with times.
+fn too_long_or_changed(made: &[u8]) -> ListBackFault {
+    if made.len() > LONGEST_TEXT {
+        ListBackFault::TooLong
+    } else {
+        ListBackFault::Changed
+    }
 }
 
-impl From<AllocError> for ListBackFault {
-    ghost from_gives = { λ _ first. first ≡ fault.Memory };
-
-    fn from(_error: AllocError) -> Self {
-        ListBackFault::Memory
+// Why a list with times isn't read as a project.
+fn changed(fault: ListBackFault) -> ListBackFault {
+    match fault {
+        ListBackFault::Memory => ListBackFault::Memory,
+        ListBackFault::TooLong => ListBackFault::TooLong,
+        ListBackFault::NoList | ListBackFault::Changed => ListBackFault::Changed,
     }
 }
 
@@ -57,7 +57,7 @@ fn with_texts(
     let made = text_of(alloc, bytes, separator_of(text), &rows)?;
     let right = spells(alloc, &made, &rows)?;
     if !right {
-        return Err(ListBackFault::Changed);
+        return Err(too_long_or_changed(&made));
     }
     Ok(made)
 }
@@ -82,12 +82,11 @@ pub fn list_back(
     ensures same { IfOk result (λ made. spec.SameProject (options_of options.now)
         (map override_of overrides.now) bytes.now made.items) }
 {
-    let Some(before) = project_of(alloc, options, overrides, bytes)? else {
-        return Err(ListBackFault::NoList);
-    };
+    let before = project_of(alloc, options, overrides, bytes)?;
     let made = with_texts(alloc, bytes, times)?;
-    let Some(behind) = project_of(alloc, options, overrides, &made)? else {
-        return Err(ListBackFault::Changed);
+    let behind = match project_of(alloc, options, overrides, &made) {
+        Ok(behind) => behind,
+        Err(fault) => return Err(changed(fault)),
     };
     if before.as_slice() != behind.as_slice() {
         return Err(ListBackFault::Changed);
