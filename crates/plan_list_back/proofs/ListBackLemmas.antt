@@ -1,6 +1,7 @@
 -- Cells with a text in one column, and lists that are read as the same project.
-use Rattle.std.proofs.Common.{◌≡◌, ◌≤◌, ◌<◌, ℕ, ◌+◌, ◌-◌, arith, List, [], ◌∷◌, ◌++◌, Ok, length, drop, take, replicate, refl, sym, ap, ◌∙◌, subst}
-use Rattle.std.proofs.lemmas.List.{append_assoc, append-nil, drop_all, length-append, length-replicate, take-append-le, take_all}
+use Rattle.std.proofs.Common.{◌≡◌, ◌≤◌, ◌<◌, ℕ, ◌+◌, ◌-◌, arith, List, [], ◌∷◌, ◌++◌, Ok, Vec, length, map, drop, take, replicate, refl, sym, ap, ◌∙◌, subst}
+use Rattle.std.proofs.lemmas.List.{append_assoc, drop_all, length-append, length-map, length-replicate, map-append, take-append-le, take_all}
+use Rattle.std.specs.declared.alloc.Global.{Global}
 use Rattle.plan_encoding.specs.declared.text.Decoded.{Decoded}
 use Rattle.plan_encoding.specs.Encodings.{utf8_of}
 use Rattle.plan_encoding.specs.Texts as decoded
@@ -14,6 +15,7 @@ use Rattle.plan_spreadsheet.specs.Options.{Options}
 use Rattle.plan_spreadsheet.specs.PlainLists.{text_of}
 use Rattle.plan_spreadsheet.specs.PreparedLists.{IsPlainWith}
 use Rattle.plan_spreadsheet.specs.Rows.{Spells, filled}
+use Rattle.plan_spreadsheet.proofs.AssignmentLemmas.{spliced_cells}
 use Rattle.plan_list_back.specs.ListBack.{IsBack, IsProjectOf, IsReadAs, SameProject, Times, padded, put, with_times}
 
 -- a text in the place of another cell
@@ -21,6 +23,20 @@ pub put_within : (k : ℕ) (text : List ℕ) (cells : List (List ℕ)) → k < l
     → put k text cells ≡ take k cells ++ text ∷ drop (k + 1) cells
 put_within k text cells within =
     ap (λ front. front ++ text ∷ drop (k + 1) cells) (take-append-le k cells (replicate (k - length cells) []) (omega (arith, within)))
+
+abbrev items_of : Vec ℕ Global → List ℕ
+items_of cell = cell.items
+
+-- the same for cells that were added in three steps
+pub put_cells : (k : ℕ) (new : Vec ℕ Global) (cells none front both all : List (Vec ℕ Global)) → k < length cells → none ≡ []
+    → map items_of front ≡ map items_of none ++ map items_of (take k cells)
+    → both ≡ front ++ new ∷ []
+    → map items_of all ≡ map items_of both ++ map items_of (take (length cells - (k + 1)) (drop (k + 1) cells))
+    → map items_of all ≡ put k new.items (map items_of cells)
+put_cells k new cells none front both all within empty first second third =
+    spliced_cells k (new ∷ []) cells none front both all empty first (ap (map items_of) second ∙ map-append items_of front (new ∷ [])) third
+    ∙ append_assoc (take k (map items_of cells)) (new.items ∷ []) (drop (k + 1) (map items_of cells))
+    ∙ sym (put_within k new.items (map items_of cells) (subst (λ n. k < n) (sym (length-map items_of cells)) within))
 
 padded_length : (k : ℕ) (cells : List (List ℕ)) → length cells ≤ k → length (padded k cells) ≡ k
 padded_length k cells behind =

@@ -46,7 +46,6 @@ fn push_empty(alloc: Global, all: &mut Vec<Vec<u8>>, count: usize) -> Result<(),
 }
 
 // Cells with a text in the place of another one.
-#[tactic(auto, using(crate::proofs::ListBackLemmas::put_within))]
 fn put_within(
     alloc: Global,
     k: usize,
