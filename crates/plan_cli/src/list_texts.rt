@@ -1,7 +1,9 @@
 //! `plan solve` and `plan days` with `--format list`: the list of a file with the times of its
 //! activities.
 
-ghost use Rattle.std.specs.Prelude.{◌≡◌, ◌⊎◌, [], ◌≤◌, All, IfOk, IfErr, length, map};
+ghost use Rattle.std.specs.Prelude.{◌≡◌, ◌⊎◌, [], ◌≤◌, All, EachIndex, IfOk, IfErr};
+ghost use Rattle.std.specs.Prelude.{length, map, option_map, slice_index};
+ghost use Rattle.plan_gantt.specs.Limits.{latest_start};
 ghost use Rattle.plan_list_back.specs.ListBack.{IsReadAs, times_of};
 ghost use Rattle.plan_net.specs.Network as networks;
 ghost use Rattle.plan_profile.specs.Usage.{IsInTime};
@@ -15,6 +17,8 @@ ghost use Rattle.plan_documents.specs.Details.{NamesVerdict};
 ghost use Rattle.plan_documents.specs.Documents.{IsOfSubject, RefusesSubject};
 ghost use Rattle.plan_documents.specs.ListOptions.{RefusesOfPrepared};
 ghost use Rattle.plan_documents.specs.Lists.{RefusesReading};
+ghost use Rattle.plan_cli.specs.DaysRun.{TellsBeyond};
+ghost use Rattle.plan_cli.specs.ListTimes.{AreTimes, HasDayBeyond};
 ghost use Rattle.plan_cli.specs.ListRun as spec;
 
 use crate::calendar_refusals::days_refusal;
@@ -102,29 +106,21 @@ fn calendar_if(alloc: Global, dates: Option<Dates<'_>>) -> Result<Option<Calenda
     }
 }
 
-// Returns the times of the activities of a table in the schedule of its project.
-fn project_times<'a, V: ProofWatcher + SolveWatcher, L: Log>(
+// Returns the times of the activities of a table, or the error of a day after the last date.
+fn dated_times<'a>(
     alloc: Global,
-    origin: Origin<'_>,
-    dates: Option<Dates<'_>>,
+    calendar: Option<&Calendar>,
     table: &'a Table,
-    plan: &Plan<'_>,
-    instance: &Instance<'_>,
-    watcher: &mut V,
-    log: &mut L,
+    starts: &[u64],
+    slacks: &[u64],
 ) -> Result<Vec<Times<'a>>, CliFault>
-    ensures made { IfOk result (λ all. spec.AreTimesIn origin.entry dates.entry table.now plan.now
-        (map times_of all.items)) }
-    ensures refused { IfErr result (Refuses
-        (spec.TellsNoTimes origin.entry dates.entry table.now plan.now)) }
+    requires { EachIndex starts.now (λ k. slice_index starts.now k ≤ latest_start) }
+    ensures times { IfOk result (λ all. AreTimes (option_map (λ c. c.now) calendar) table.now
+        starts.now slacks.now (map times_of all.items)) }
+    ensures refused { IfErr result (Refuses (TellsBeyond
+        (HasDayBeyond (option_map (λ c. c.now) calendar) table.now starts.now))) }
 {
-    let made = schedule_from(alloc, origin, plan, watcher, log)?;
-    let starts = made.schedule.starts.as_slice();
-    let slacks = slacks_in(alloc, instance, starts)?;
-    let calendar = calendar_if(alloc, dates)?;
-    list_times(alloc, calendar.as_ref(), table, starts, &slacks).map_err(|fault| days_refusal(
-        alloc, fault,
-    ))
+    list_times(alloc, calendar, table, starts, slacks).map_err(|fault| days_refusal(alloc, fault))
 }
 
 // Returns the times of the activities of a table in a plan's schedule. A job shop has no activities.
@@ -142,12 +138,15 @@ fn plan_times<'a, V: ProofWatcher + SolveWatcher, L: Log>(
     ensures refused { IfErr result (Refuses
         (spec.TellsNoTimes origin.entry dates.entry table.now plan.now)) }
 {
-    match plan {
-        Plan::Project(instance, _) => {
-            project_times(alloc, origin, dates, table, plan, instance, watcher, log)
-        }
-        Plan::Shop(_) => Err(no_list_refusal(alloc)),
-    }
+    let Plan::Project(instance, _) = plan else {
+        return Err(no_list_refusal(alloc));
+    };
+    let made = schedule_from(alloc, origin, plan, watcher, log)?;
+    let starts = &made.schedule.starts;
+    let slacks = slacks_in(alloc, instance, starts)?;
+    let calendar = calendar_if(alloc, dates)?;
+    let all = dated_times(alloc, calendar.as_ref(), table, starts, &slacks)?;
+    Ok(all)
 }
 
 // Returns the same. Its error has the names in the project file.
