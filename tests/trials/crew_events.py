@@ -71,10 +71,14 @@ class Case:
         self.starts = pages.starts(self.rule)
         self.start, self.marks = draw.pick(STARTS), draw.pick(MARKS)
         self.word = draw.pick(WORDS) if draw.chance(0.7) else None
-        self.sequence = draw.pick((0, 0, 1, 2, 12, 4294967295))
+        self.sequence = draw.pick((0, 0, 1, 2, 12, 2147483647))
         self.per_day, self.opens = draw.pick(((1, 0), (1, 420), (8, 420), (3, 425), (24, 0), (2, 1320)))
         self.only = self.a_name(draw) if draw.chance(0.6) else None
         self.is_plain = self.word is None and self.only is None and not self.sequence
+
+    def title(self):
+        """The word of identifiers if none is given."""
+        return self.instance[0] if self.instance and self.instance[0] != "-" else FILE
 
     def a_name(self, draw):
         """A name of a resource, a machine or an order, at times of none."""
@@ -138,7 +142,7 @@ def wanted_event(case, calendar, bar):
     mark, tail = (f"-{step}", f", step {step}") if step else ("", "")
     key = name_or(case.ids, number)
     digest = digest_of(case.text, case.instance)
-    uid = f"{digest}-{number}{mark}@plan" if case.is_plain else escaped_back(f"{case.word or FILE}-{key}{mark}@plan")
+    uid = f"{digest}-{number}{mark}@plan" if case.is_plain else escaped_back(f"{case.word or case.title()}-{key}{mark}@plan")
     listed = ", ".join(f"{label} {amount}" if amount else label for label, amount in labels)
     summary = name + tail + (f" ({listed})" if listed else "")
     if case.is_plain:
@@ -187,7 +191,11 @@ def try_file(draw, folder):
     calendar = Calendar(case.start, case.marks, set())
     bars = [bar for bar in case.bars() if bar[2] < bar[3]]
     events = [wanted_event(case, calendar, bar) for bar in bars]
-    same(what, events_of(output, case.per_day > 1), [event for event in events if event])
+    found = events_of(output, case.per_day > 1)
+    same(what, found, [event for event in events if event])
+    keys = {(escaped_back(name_or(case.ids, number)), step) for number, step, *_ in bars}
+    if len(keys) == len(bars):
+        same(f"{what}: the number of identifiers", len({event[0] for event in found}), len(found))
     return "some" if any(events) else "none"
 
 

@@ -5,12 +5,14 @@ pub mod RuleLemmas
 pub mod PlanLemmas
 pub mod SlackLemmas
 pub mod CompareLemmas
+pub mod ListComparisonLemmas
 pub mod OriginLemmas
 pub mod ScheduledLemmas
 pub mod TurnLemmas
 pub mod CalendarLemmas
 pub mod DaysLemmas
 pub mod InputLemmas
+pub mod PreparedLemmas
 pub mod ViewTextLemmas
 pub mod CheckLemmas
 pub mod SearchLemmas

@@ -130,7 +130,9 @@ pub fn run_with_options<I: Inputs, W: Sink, V: ProofWatcher + SolveWatcher + Not
 {
     match options {
         Some(options) => {
-            run_prepared(alloc, inputs, options, task, rows, watcher, log, path, writer)
+            run_prepared(
+                alloc, inputs, options, task, rows, watcher, log, path, writer,
+            )
         }
         None => run_on_named(alloc, inputs, task, rows, watcher, log, path, writer),
     }
@@ -180,7 +182,9 @@ pub fn run_on_texts<I: Inputs, W: Sink, V: ProofWatcher + SolveWatcher + NoteWat
     };
     let text = read_named(alloc, inputs, first.role.about(), first.name)?;
     let task = with_text(task, first.role, &text);
-    run_on_texts(alloc, inputs, options, task, rows, watcher, rest, path, writer)
+    run_on_texts(
+        alloc, inputs, options, task, rows, watcher, rest, path, writer,
+    )
 }
 
 /// Calls [`run_with_options`] with the system's files and standard input.

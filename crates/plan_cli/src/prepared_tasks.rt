@@ -41,7 +41,7 @@ fn tell_prepared<V: NoteWatcher>(
 
 // Returns the text of a task for the bytes of a file, with the options of its list. The watcher is
 // told the notes on the list.
-#[tactic(auto, using(plan_documents::proofs::ListOptionLemmas::prepared_told, plan_documents::proofs::ListOptionLemmas::unprepared_told))]
+#[tactic(auto, using(crate::proofs::PreparedLemmas::read_prepared, crate::proofs::PreparedLemmas::refuse_prepared, crate::proofs::PreparedLemmas::refuse_unprepared))]
 fn prepared_text<V: ProofWatcher + SolveWatcher + NoteWatcher, L: Log>(
     alloc: Global,
     options: Options<'_>,

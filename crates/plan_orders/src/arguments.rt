@@ -87,6 +87,8 @@ enum Form {
     NameUnlessStarts,
     /// An option with the name of a file of starts.
     Starts,
+    /// An option with the name of an old list or project file, which a job shop doesn't have.
+    Old,
     /// An option without a value that asks for a search, in place of a rule.
     Solve,
     /// The same for a report, whose rule is an option.
@@ -119,6 +121,20 @@ enum Form {
     ListFormat,
     /// The same for working days, which can be a calendar file or a list.
     DayFormat,
+    /// An option with the number of time units of a working day.
+    PerDay,
+    /// The same for a report, which has it only with dates.
+    ReportPerDay,
+    /// An option with the time at which a working day begins.
+    Opens,
+    /// An option without a value for a report, which has it only with dates.
+    ReportFlag,
+    /// An option with the word of the identifiers of events.
+    Uid,
+    /// An option with the number of the revision of events.
+    Sequence,
+    /// An option with the name of the only resource, machine or order that has events.
+    Only,
     /// An option without a value.
     Flag,
     /// An option without a value and without effect, which the help doesn't list.
@@ -269,6 +285,13 @@ const STARTS_B: Argument = Argument {
     help: "the start times of schedule B",
 };
 
+const OLD: Argument = Argument {
+    name: "old",
+    form: Form::Old,
+    help: "compare by ids: schedule A is one of this old list or project file, B one of FILE; \
+        or - for standard input",
+};
+
 const STARTS: Argument = Argument {
     name: "starts",
     form: Form::Starts,
@@ -298,6 +321,62 @@ const HOLIDAYS: Argument = Argument {
     name: "holidays",
     form: Form::Holidays,
     help: "skip the days in this file, or - for standard input: on each line a date or DATE..DATE",
+};
+
+const WEEKDAYS_HELP: &str = "print the weekdays of days, for example Mon 2026-11-30";
+
+const PER_DAY_HELP: &str = "time units of a working day, an hour each, 1 to 24 [default: 1]";
+
+const OPENS_HELP: &str =
+    "the time at which a working day begins, for example 07:00 [default: 00:00]";
+
+const WEEKDAYS: Argument = Argument {
+    name: "weekdays",
+    form: Form::Flag,
+    help: WEEKDAYS_HELP,
+};
+
+const PER_DAY: Argument = Argument {
+    name: "per-day",
+    form: Form::PerDay,
+    help: PER_DAY_HELP,
+};
+
+const OPENS: Argument = Argument {
+    name: "opens",
+    form: Form::Opens,
+    help: OPENS_HELP,
+};
+
+// The same options of a report, which requires dates for them.
+const REPORT_WEEKDAYS: Argument = Argument {
+    name: "weekdays",
+    form: Form::ReportFlag,
+    help: WEEKDAYS_HELP,
+};
+
+const REPORT_PER_DAY: Argument = Argument {
+    name: "per-day",
+    form: Form::ReportPerDay,
+    help: PER_DAY_HELP,
+};
+
+const UID: Argument = Argument {
+    name: "uid",
+    form: Form::Uid,
+    help: "for ics: the start of the identifiers of events [default: INSTANCE, or the name of FILE]",
+};
+
+const SEQUENCE: Argument = Argument {
+    name: "sequence",
+    form: Form::Sequence,
+    help: "for ics: the number of the revision, 0 to 2147483647 [default: 0]",
+};
+
+const ONLY: Argument = Argument {
+    name: "only",
+    form: Form::Only,
+    help: "for ics: only the events of this resource, machine or order",
 };
 
 const INSTANCE: Argument = Argument {
@@ -467,12 +546,14 @@ const PROJECT_COMMANDS: [Entry; 6] = [
         examples: "Examples:\n  \
             plan compare examples/six.sm examples/starts.txt examples/late.txt\n  \
             plan schedule mts examples/six.sm | \
-            plan compare examples/six.sm examples/starts.txt -",
+            plan compare examples/six.sm examples/starts.txt -\n  \
+            plan compare --old monday.csv friday.csv monday.json friday.json",
         arguments: &[
             FILE_OR_LIST,
             STARTS_A,
             STARTS_B,
             INSTANCE_IF_SHOP,
+            OLD,
             CAPACITY_IF_PROJECT,
             MAP,
             IGNORE,
@@ -612,7 +693,9 @@ const SCHEDULE_COMMANDS: [Entry; 5] = [
             plan days --solve 2024-03-01 mon-fri examples/house.sm\n  \
             plan days --starts examples/starts.txt 2024-03-01 1111100 examples/six.sm\n  \
             plan days --holidays examples/holidays.txt lft 2024-03-01 mon-fri examples/house.sm\n  \
-            plan days --format ics lft 2024-03-01 mon-fri examples/house.sm",
+            plan days --format ics lft 2024-03-01 mon-fri examples/house.sm\n  \
+            plan days --format ics --only crew --sequence 2 lft 2024-03-01 mon-fri \
+            examples/house.csv",
         arguments: &[
             RULE,
             Argument {
@@ -632,12 +715,18 @@ const SCHEDULE_COMMANDS: [Entry; 5] = [
             SOLVE,
             SOLVE_SECONDS,
             HOLIDAYS,
+            WEEKDAYS,
+            PER_DAY,
+            OPENS,
             CAPACITY_IF_PROJECT,
             MAP,
             IGNORE,
             UNIT,
             NAMES,
             DAY_FORMAT,
+            UID,
+            SEQUENCE,
+            ONLY,
         ],
     },
     Entry {
@@ -680,6 +769,9 @@ const SCHEDULE_COMMANDS: [Entry; 5] = [
                 form: Form::ReportHolidays,
                 help: "skip the days in this file, or - for standard input",
             },
+            REPORT_WEEKDAYS,
+            REPORT_PER_DAY,
+            OPENS,
             Argument {
                 name: "by",
                 form: Form::Lines,
@@ -926,6 +1018,13 @@ fn arg_of<'a>(alloc: Global, argument: &Argument) -> Result<Arg<'a>, AllocError>
             .long(argument.name)
             .value_name("STARTS")
             .conflicts_with("INSTANCE")?,
+        Form::Old => arg
+            .long(argument.name)
+            .value_name("OLD")
+            .conflicts_with("INSTANCE")?
+            .conflicts_with("map")?
+            .conflicts_with("ignore")?
+            .conflicts_with("unit")?,
         Form::Solve => arg
             .long(argument.name)
             .action(ArgAction::SetTrue)
@@ -994,6 +1093,29 @@ fn arg_of<'a>(alloc: Global, argument: &Argument) -> Result<Arg<'a>, AllocError>
             .value_name("HEADER")
             .action(ArgAction::Append),
         Form::Unit => arg.long(argument.name).value_name("U"),
+        Form::PerDay => arg
+            .long(argument.name)
+            .value_name("N")
+            .value_parser(value_parser!(u32)),
+        Form::ReportPerDay => arg
+            .long(argument.name)
+            .value_name("N")
+            .value_parser(value_parser!(u32))
+            .requires_arg("start")?,
+        Form::Opens => arg
+            .long(argument.name)
+            .value_name("TIME")
+            .requires_arg("per-day")?,
+        Form::ReportFlag => arg
+            .long(argument.name)
+            .action(ArgAction::SetTrue)
+            .requires_arg("start")?,
+        Form::Uid => arg.long(argument.name).value_name("WORD"),
+        Form::Sequence => arg
+            .long(argument.name)
+            .value_name("N")
+            .value_parser(value_parser!(u32).range(0..=2147483647)),
+        Form::Only => arg.long(argument.name).value_name("NAME"),
         Form::Output => arg.long(argument.name).value_name("LOG"),
         Form::Flag => arg.long(argument.name).action(ArgAction::SetTrue),
         Form::OldFlag => arg

@@ -79,6 +79,7 @@ fn with_text<'a>(context: Context<'a>, text: NamedText<'a>) -> Context<'a> {
             holidays: name,
             ..context
         },
+        Role::Old => context,
     }
 }
 
@@ -137,7 +138,7 @@ impl<'a> FileOrder<'a> {
     fn rule_or_search(&self) -> Option<&'a str> {
         match *self {
             FileOrder::Texts { task, .. } => replaceable_rule(task),
-            FileOrder::Print(print, _) => match print.origin {
+            FileOrder::Print { print, .. } => match print.origin {
                 NamedOrigin::Rule(rule) => Some(rule),
                 NamedOrigin::Default | NamedOrigin::Starts(_) | NamedOrigin::Solved { .. } => None,
             },
@@ -174,7 +175,7 @@ impl<'a> FileOrder<'a> {
                 log: Some(log),
                 ..file_context(file)
             },
-            FileOrder::Print(print, _) => print_context(print),
+            FileOrder::Print { print, .. } => print_context(print),
             FileOrder::New(_) | FileOrder::Explain(_) => Context::NONE,
         }
     }

@@ -1,5 +1,6 @@
 //! The orders that the arguments of the command line spell.
 
+use crate::hours::{DayWords, HourWords, day_words, hour_words};
 use clap::ArgMatches;
 use plan_cli::{
     Capacity, Dates, NamedText, Options, Origin, Pair, Role, Rows, Subject, Task, Template,
@@ -34,11 +35,13 @@ pub enum FileOrder<'a> {
         seconds: Option<u32>,
         log: Option<&'a str>,
     },
-    /// A task on the file with this name, and on texts in other files.
+    /// A task on the file with this name, and on texts in other files. The words give the style of
+    /// its days.
     Texts {
         task: Task<'a>,
         file: &'a str,
         texts: &'a [NamedText<'a>],
+        days: DayWords<'a>,
         /// The time limit of a search for the schedule, in seconds.
         seconds: Option<u32>,
     },
@@ -55,8 +58,13 @@ pub enum FileOrder<'a> {
         log: &'a str,
         instance: Option<&'a str>,
     },
-    /// A sheet to print, with the time limit of a search for the schedule, in seconds.
-    Print(Print<'a>, Option<u32>),
+    /// A sheet to print. Its days have the hours that the words give.
+    Print {
+        print: Print<'a>,
+        hours: HourWords<'a>,
+        /// The time limit of a search for the schedule, in seconds.
+        seconds: Option<u32>,
+    },
     /// A table to start from.
     New(Template),
     /// The meaning of an error line, which is given as one argument or as several.
@@ -64,7 +72,8 @@ pub enum FileOrder<'a> {
 }
 
 // The roles of texts, and their arguments as messages name them.
-const ROLE_NAMES: [(Role, &str); 4] = [
+const ROLE_NAMES: [(Role, &str); 5] = [
+    (Role::Old, "OLD"),
     (Role::Starts, "STARTS"),
     (Role::StartsA, "STARTS_A"),
     (Role::StartsB, "STARTS_B"),
@@ -113,7 +122,7 @@ impl<'a> FileOrder<'a> {
     /// Returns the names of two arguments that are standard input, if there are two.
     pub fn shared_input(&self) -> Option<(&'static str, &'static str)> {
         match *self {
-            FileOrder::Print(print, _) => print_input(&print),
+            FileOrder::Print { print, .. } => print_input(&print),
             FileOrder::Texts { file, texts, .. } => texts_input(file, texts),
             FileOrder::Check {
                 file: "-",
@@ -460,7 +469,11 @@ pub fn overrides_of<'a>(
 fn text_arguments(command: &str) -> &'static [(&'static str, Role)] {
     match command {
         "check" | "slack" => &[("STARTS", Role::Starts)],
-        "compare" => &[("STARTS_A", Role::StartsA), ("STARTS_B", Role::StartsB)],
+        "compare" => &[
+            ("old", Role::Old),
+            ("STARTS_A", Role::StartsA),
+            ("STARTS_B", Role::StartsB),
+        ],
         "chart" => &[("starts", Role::Starts)],
         "days" => &[("holidays", Role::Holidays), ("starts", Role::Starts)],
         _ => &[],
@@ -516,6 +529,7 @@ fn texts_order<'a>(task: Task<'a>, file: &'a str, texts: &'a [NamedText<'a>]) ->
         task,
         file,
         texts,
+        days: DayWords::NONE,
         seconds: None,
     }
 }
@@ -584,11 +598,13 @@ fn searched_order<'a>(
     task: Task<'a>,
     file: &'a str,
     texts: &'a [NamedText<'a>],
+    days: DayWords<'a>,
 ) -> FileOrder<'a> {
     FileOrder::Texts {
         task,
         file,
         texts,
+        days,
         seconds: limit_of(arguments),
     }
 }
@@ -600,7 +616,8 @@ fn chart_order<'a>(arguments: &'a ArgMatches<'_>, lists: Lists<'a>) -> Option<Fi
         origin: origin_of(words.origin),
         subject: subject_of(words.instance, lists.capacities),
     };
-    Some(searched_order(arguments, task, words.file, lists.texts))
+    let days = DayWords::NONE;
+    Some(searched_order(arguments, task, words.file, lists.texts, days))
 }
 
 // Returns dates without holidays.
@@ -621,7 +638,7 @@ fn dates_behind_rule<'a>(arguments: &'a ArgMatches<'_>) -> Option<Dates<'a>> {
     Some(dates_of(arguments.get_str(start)?, arguments.get_str(marks)?))
 }
 
-// Returns the task of `days`.
+// Returns the task of `days` for a table. Its style follows from the words.
 fn days_task<'a>(
     arguments: &'a ArgMatches<'_>,
     words: ScheduleWords<'a>,
@@ -641,16 +658,18 @@ fn days_task<'a>(
         Task::Days {
             origin,
             dates,
+            style: None,
             subject,
         }
     })
 }
 
-// Returns the order of `days`.
+// Returns the order of `days` for a table or a list.
 fn days_order<'a>(arguments: &'a ArgMatches<'_>, lists: Lists<'a>) -> Option<FileOrder<'a>> {
     let words = schedule_words(arguments, "MARKS")?;
     let task = days_task(arguments, words, lists)?;
-    Some(searched_order(arguments, task, words.file, lists.texts))
+    let days = day_words(arguments);
+    Some(searched_order(arguments, task, words.file, lists.texts, days))
 }
 
 // Returns the order of `check`, which has no capacities.
@@ -687,12 +706,24 @@ fn slack_order<'a>(arguments: &'a ArgMatches<'_>, lists: Lists<'a>) -> Option<Fi
     Some(texts_order(task, arguments.get_str("FILE")?, lists.texts))
 }
 
+// Returns the task of `compare`: by ids if an old list is given.
+fn compare_task<'a>(is_by_ids: bool, subject: Subject<'a>) -> Task<'a> {
+    let starts = Pair { a: &[], b: &[] };
+    if is_by_ids {
+        Task::CompareLists {
+            old: &[],
+            starts,
+            subject,
+        }
+    } else {
+        Task::Compare { starts, subject }
+    }
+}
+
 // Returns the order of `compare`.
 fn compare_order<'a>(arguments: &'a ArgMatches<'_>, lists: Lists<'a>) -> Option<FileOrder<'a>> {
-    let task = Task::Compare {
-        starts: Pair { a: &[], b: &[] },
-        subject: subject_of(arguments.get_str("INSTANCE"), lists.capacities),
-    };
+    let subject = subject_of(arguments.get_str("INSTANCE"), lists.capacities);
+    let task = compare_task(arguments.get_str("old").is_some(), subject);
     Some(texts_order(task, arguments.get_str("FILE")?, lists.texts))
 }
 
@@ -704,13 +735,38 @@ fn subject_of<'a>(instance: Option<&'a str>, capacities: &'a [Capacity<'a>]) -> 
     }
 }
 
+// Returns the style of days that the arguments give, without hours.
+fn day_style(arguments: &ArgMatches<'_>) -> DayStyle {
+    DayStyle {
+        weekdays: arguments.get_flag("weekdays"),
+        ..DayStyle::plain()
+    }
+}
+
+// Returns the choice of events that the arguments give, without hours. With a choice the identifiers
+// have a word, which is that of the option or else this title.
+fn events_of<'a>(arguments: &'a ArgMatches<'_>, title: &'a str) -> Events<'a> {
+    let (uid, only) = (arguments.get_str("uid"), arguments.get_str("only"));
+    let sequence: Option<u32> = arguments.get_one("sequence");
+    if uid.is_none() && only.is_none() && sequence.is_none() {
+        return Events::plain();
+    }
+    Events {
+        uid: Some(uid.unwrap_or(title)),
+        sequence: sequence.unwrap_or(0),
+        only,
+        resources: true,
+        ..Events::plain()
+    }
+}
+
 // Returns the order of `days` for a calendar file.
 fn events_order<'a>(arguments: &'a ArgMatches<'_>, lists: Lists<'a>) -> Option<Print<'a>> {
     let words = schedule_words(arguments, "MARKS")?;
     Some(Print {
         sheet: Sheet::Events {
             dates: dates_behind_rule(arguments)?,
-            events: Events::plain(),
+            events: events_of(arguments, title_of(words.instance, words.file)),
         },
         options: lists.options,
         subject: subject_of(words.instance, lists.capacities),
@@ -770,7 +826,7 @@ fn report_order<'a>(arguments: &'a ArgMatches<'_>, lists: Lists<'a>) -> Option<P
         sheet: Sheet::Report {
             title: title.unwrap_or(title_of(instance, file)),
             dates: report_dates(arguments),
-            style: DayStyle::plain(),
+            style: day_style(arguments),
             by_job: arguments.get_str("by") == Some("job"),
         },
         options: lists.options,
@@ -781,6 +837,14 @@ fn report_order<'a>(arguments: &'a ArgMatches<'_>, lists: Lists<'a>) -> Option<P
     })
 }
 
+// Returns the hours of a command that prints a sheet.
+fn print_hours<'a>(name: &str, arguments: &'a ArgMatches<'_>) -> HourWords<'a> {
+    match name {
+        "days" | "report" => hour_words(arguments),
+        _ => HourWords::NONE,
+    }
+}
+
 // Returns the order of a command that prints a sheet.
 fn print_order<'a>(
     name: &str,
@@ -788,9 +852,7 @@ fn print_order<'a>(
     lists: Lists<'a>,
 ) -> Option<Print<'a>> {
     match name {
-        "days" if arguments.get_str("format") == Some("ics") => {
-            events_order(arguments, lists)
-        }
+        "days" if arguments.get_str("format") == Some("ics") => { events_order(arguments, lists) }
         "chart" if arguments.get_flag("svg") => image_order(arguments, lists),
         "report" => report_order(arguments, lists),
         _ => None,
@@ -814,7 +876,11 @@ fn file_order<'a>(
     lists: Lists<'a>,
 ) -> Option<FileOrder<'a>> {
     if let Some(print) = print_order(name, arguments, lists) {
-        return Some(FileOrder::Print(print, limit_of(arguments)));
+        return Some(FileOrder::Print {
+            print,
+            hours: print_hours(name, arguments),
+            seconds: limit_of(arguments),
+        });
     }
     match name {
         "import" => import_order(arguments, lists.overrides),
@@ -840,6 +906,23 @@ fn options_for<'a>(
     options: Option<Options<'a>>,
 ) -> Option<Options<'a>> {
     if has_formats(name) && prints_list(arguments) { None } else { options }
+}
+
+/// Returns the name of an option for calendar files that the arguments give for another output, if
+/// they give one.
+pub fn misplaced_option(matches: &ArgMatches<'_>) -> Option<&'static str> {
+    let ("days", arguments) = matches.subcommand()? else {
+        return None;
+    };
+    if arguments.get_str("format") == Some("ics") {
+        return None;
+    }
+    for name in ["uid", "sequence", "only"] {
+        if arguments.get_str(name).is_some() {
+            return Some(name);
+        }
+    }
+    None
 }
 
 /// Returns the order that the arguments and their lists spell. The parser has checked that the

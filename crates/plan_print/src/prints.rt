@@ -94,7 +94,7 @@ fn sheet_with<'a>(sheet: Sheet<'a>, holidays: &'a [u8]) -> Sheet<'a>
 
 // Returns a sheet of a file that was read, with options of its list. The watcher is told the notes on
 // the list.
-#[tactic(auto, using(plan_documents::proofs::ListOptionLemmas::prepared_told, plan_documents::proofs::ListOptionLemmas::unprepared_told))]
+#[tactic(auto, using(plan_cli::proofs::PreparedLemmas::read_prepared, plan_cli::proofs::PreparedLemmas::refuse_prepared, plan_cli::proofs::PreparedLemmas::refuse_unprepared))]
 fn prepared_sheet<V: ProofWatcher + SolveWatcher + NoteWatcher>(
     alloc: Global,
     options: Option<Options<'_>>,
@@ -165,7 +165,9 @@ fn print_from<I: Inputs, W: Sink, V: ProofWatcher + SolveWatcher + NoteWatcher>(
     ensures output { IsErrOf result CliFault.Output → HasSinkFailed W.Sink writer.old writer.new }
 {
     let bytes = read_named(alloc, inputs, About::Plan, file)?;
-    print_read(alloc, options, sheet, subject, origin, &bytes, watcher, writer)
+    print_read(
+        alloc, options, sheet, subject, origin, &bytes, watcher, writer,
+    )
 }
 
 // Prints a sheet of the file with this name. If the schedule has its starts in a file, that one is
@@ -205,7 +207,9 @@ fn print_by<I: Inputs, W: Sink, V: ProofWatcher + SolveWatcher + NoteWatcher>(
             )
         }
         NamedOrigin::Default => {
-            print_from(alloc, inputs, options, sheet, subject, None, file, watcher, writer)
+            print_from(
+                alloc, inputs, options, sheet, subject, None, file, watcher, writer,
+            )
         }
         NamedOrigin::Solved { conflicts } => {
             print_from(
@@ -223,7 +227,9 @@ fn print_by<I: Inputs, W: Sink, V: ProofWatcher + SolveWatcher + NoteWatcher>(
         NamedOrigin::Starts(name) => {
             let starts = read_named(alloc, inputs, About::Starts, name)?;
             let origin = Some(Origin::Starts(&starts));
-            print_from(alloc, inputs, options, sheet, subject, origin, file, watcher, writer)
+            print_from(
+                alloc, inputs, options, sheet, subject, origin, file, watcher, writer,
+            )
         }
     }
 }
@@ -265,7 +271,9 @@ pub fn print_on_named<I: Inputs, W: Sink, V: ProofWatcher + SolveWatcher + NoteW
         file,
     } = print;
     let Some(name) = holidays else {
-        return print_by(alloc, inputs, options, sheet, subject, origin, file, watcher, writer);
+        return print_by(
+            alloc, inputs, options, sheet, subject, origin, file, watcher, writer,
+        );
     };
     let days = read_named(alloc, inputs, About::Holidays, name)?;
     print_by(

@@ -5,8 +5,8 @@ use crate::misuse::Misuse;
 use crate::status::Status;
 use clap::ArgMatches;
 use plan_orders::{
-    Lists, OfficeOrder, Order, capacities_of, command, help, list_options_of, order_of,
-    overrides_of, texts_of, version,
+    Lists, OfficeOrder, Order, capacities_of, command, help, list_options_of, misplaced_option,
+    order_of, overrides_of, texts_of, version,
 };
 use std::alloc::Global;
 use std::env;
@@ -48,6 +48,9 @@ fn run_matches<O: Offices>(
     let overrides = overrides.map_err(|text| Misuse::of_capacity(alloc, text))?;
     let options = list_options_of(alloc, &matches)?;
     let options = options.map_err(|bad| Misuse::of_option(alloc, bad))?;
+    if let Some(option) = misplaced_option(&matches) {
+        return Err(Misuse::NeedsCalendarFile(option));
+    }
     let texts = texts_of(alloc, &matches)?;
     let lists = Lists {
         capacities: &capacities,

@@ -30,6 +30,8 @@ pub enum Misuse {
     BadIgnore(String),
     /// A text that gives no unit.
     BadUnit(String),
+    /// The option with this name is given, and the output isn't a calendar file.
+    NeedsCalendarFile(&'static str),
 }
 
 impl From<AllocError> for Misuse {
@@ -95,6 +97,7 @@ impl Misuse {
                 "--unit <U>",
                 "U is a number of days above 0, for example 0.5",
             ),
+            Misuse::NeedsCalendarFile(option) => print_misplaced(rt, option),
             Misuse::OneInput(first, second) => print_one_input(rt, first, second),
         }
     }
@@ -135,6 +138,14 @@ fn print_bad_value(rt: &HostRuntime, text: &str, option: &str, rule: &str) -> St
     let _ = eprintln!(rt;
         "error: invalid value '{text}' for '{option}': {rule}\n\n\
         For more information, try '--help'."
+    );
+    Status::Misused
+}
+
+// Prints the error of an option for calendar files, and returns the status of usage.
+fn print_misplaced<R: Eprint>(rt: &R, option: &str) -> Status {
+    let _ = eprintln!(rt;
+        "error: --{option} requires --format ics\n\nFor more information, try '--help'."
     );
     Status::Misused
 }

@@ -1,7 +1,8 @@
 -- The rows of a table or a chart, one after another.
 use Rattle.std.proofs.Common.{◌≡◌, ℕ, zero, suc, ◌+◌, List, [], ◌∷◌, ◌++◌, Vec, map, fold, sym, ap, ◌∙◌, arith}
-use Rattle.std.specs.List.{range_with_len}
-use Rattle.std.proofs.lemmas.List.{map-append}
+use Rattle.std.specs.List.{range_with_len, flat_map}
+use Rattle.std.proofs.lemmas.List.{append-nil, map-append}
+use Rattle.std.proofs.lemmas.List.Concat.{flat_map-append}
 use Rattle.std.proofs.lemmas.List.Sums.{fold-append}
 use Rattle.std.specs.Global.{Global}
 use Rattle.plan_formats.specs.Cells.{Cell}
@@ -75,3 +76,16 @@ pub next_from_zero : (row : ℕ → List Cell) (k : ℕ) (old new : List (Vec de
     → rows_of new ≡ rows_from row 0 (k + 1)
 next_from_zero row k old new v so_far is step =
     next_item_from_zero (λ (r : Vec declared.Cell Global). cells_of r.items) row k old new v so_far is step
+
+-- the items of lists one after another, with those of the next one
+pub next_flat : {X Y : Type 0} (g : X → Y) (f : ℕ → List Y) (k : ℕ) (old new : List X) (more : List Y)
+    → map g old ≡ flat_map f (range_with_len 0 k) → more ≡ f k → map g new ≡ map g old ++ more
+    → map g new ≡ flat_map f (range_with_len 0 (k + 1))
+next_flat g f k old new more so_far is step =
+    let e : k + 1 ≡ suc k = omega arith in
+    let place : 0 + k ≡ k = omega arith in
+    step ∙ ap (λ items. items ++ more) so_far
+    ∙ ap (λ items. flat_map f (range_with_len 0 k) ++ items) (is ∙ sym (append-nil (f k)))
+    ∙ sym (ap (λ n. flat_map f (range_with_len 0 n)) e
+    ∙ ap (flat_map f) (range_more 0 k ∙ ap (λ n. range_with_len 0 k ++ n ∷ []) place)
+    ∙ flat_map-append f (range_with_len 0 k) (k ∷ []))

@@ -23,13 +23,17 @@ abbrev pub id_start_of : declared.IdStart → IdStart
 id_start_of s = record { id = s.id.now; start = s.start }
 
 -- an activity with its start, if it has an id
-abbrev pub started : Option Name → ℕ → List IdStart
+abbrev pub started : Option (List ℕ) → ℕ → List IdStart
 started None start = []
-started (Some id) start = record { id = id.name; start = start } ∷ []
+started (Some id) start = record { id = id; start = start } ∷ []
+
+-- the id of an activity
+abbrev pub id_at : List Name → ℕ → Option (List ℕ)
+id_at ids n = option_map (λ id. id.name) (first_name n ids)
 
 -- the activities with an id, in the order of their numbers; index k is activity k + 1
 abbrev pub id_start_at : List Name → List ℕ → ℕ → List IdStart
-id_start_at ids starts k = started (first_name (k + 1) ids) (slice_index starts k)
+id_start_at ids starts k = started (id_at ids (k + 1)) (slice_index starts k)
 
 abbrev pub id_starts : List Name → List ℕ → List IdStart
 id_starts ids starts = flat_map (id_start_at ids starts) (range_with_len 0 (length starts))

@@ -31,6 +31,25 @@ pub struct IdStart<'a> {
     pub start: u64,
 }
 
+// Appends an activity with its start, if it has an id.
+fn push_start<'a>(
+    list: &mut Vec<IdStart<'a>>,
+    id: Option<&'a [u8]>,
+    start: u64,
+) -> Result<(), AllocError>
+    requires start { start ≤ latest_start }
+    requires limit { All (λ s. s.start ≤ latest_start) list.old.items }
+    ensures list { OnOk result (map spec.id_start_of list.new.items
+        ≡ map spec.id_start_of list.old.items
+        ++ spec.started (option_map (λ id. id.now) id.entry) start) }
+    ensures limit { OnOk result (All (λ s. s.start ≤ latest_start) list.new.items) }
+{
+    if let Some(id) = id {
+        list.push(IdStart { id, start })?;
+    }
+    Ok(())
+}
+
 // Returns the activities with an id.
 fn id_starts<'a>(
     alloc: Global,
@@ -44,10 +63,8 @@ fn id_starts<'a>(
 {
     let mut list = Vec::new(alloc);
     for k in 0..starts.len() {
-        if let Some(id) = first_name(ids, k as u64 + 1) {
-            let start = starts[k];
-            list.push(IdStart { id, start })?;
-        }
+        let id = first_name(ids, k as u64 + 1);
+        push_start(&mut list, id, starts[k])?;
     }
     Ok(list)
 }
@@ -66,18 +83,18 @@ fn start_of(list: &[IdStart<'_>], id: &[u8]) -> Option<u64>
     None
 }
 
-// Returns the row of an activity of the new list.
-fn new_row<'a>(
+// Returns the row of an activity of the new list with its old start.
+fn row_with<'a>(
     alloc: Global,
-    before: &[IdStart<'_>],
+    before: Option<u64>,
     s: IdStart<'a>,
 ) -> Result<Vec<Cell<'a>>, AllocError>
-    requires before { All (λ s. s.start ≤ latest_start) before.now }
+    requires before { IfSome before (λ start. start ≤ latest_start) }
     requires after { s.start ≤ latest_start }
     ensures { IfOk result (λ row. cells_of row.items
-        ≡ spec.new_row (map spec.id_start_of before.now) (spec.id_start_of s.entry)) }
+        ≡ spec.row_with before (spec.id_start_of s.entry)) }
 {
-    match start_of(before, s.id) {
+    match before {
         Some(start) => Ok(Vec::from_array(
             alloc,
             [
@@ -97,6 +114,21 @@ fn new_row<'a>(
             ],
         )?),
     }
+}
+
+// Returns the row of an activity of the new list.
+fn new_row<'a>(
+    alloc: Global,
+    before: &[IdStart<'_>],
+    s: IdStart<'a>,
+) -> Result<Vec<Cell<'a>>, AllocError>
+    requires before { All (λ s. s.start ≤ latest_start) before.now }
+    requires after { s.start ≤ latest_start }
+    ensures { IfOk result (λ row. cells_of row.items
+        ≡ spec.new_row (map spec.id_start_of before.now) (spec.id_start_of s.entry)) }
+{
+    let start = start_of(before, s.id);
+    row_with(alloc, start, s)
 }
 
 // Returns the row of an activity that was removed.

@@ -22,7 +22,7 @@ use plan_gantt::DaysFault;
 use std::alloc::{AllocError, Global};
 
 /// How the moments of a plan are shown.
-#[derive(Clone, Copy)]
+#[derive(Clone, Copy, Debug)]
 pub struct MomentStyle {
     /// Whether the weekday precedes the date, as in `Mon 2026-11-30`.
     pub weekdays: bool,
