@@ -20,6 +20,10 @@ use Rattle.plan_cli.specs.ListComparisons.{AreListsCompared, TellsNoLists}
 use Rattle.plan_cli.specs.CheckRun.{TellsVerdictOn, TellsBadStarts}
 use Rattle.plan_cli.specs.BestRun.{IsBestOf, TellsNoBestOf}
 use Rattle.plan_cli.specs.SolveRun.{IsSolvedBy, TellsNoSolution}
+use Rattle.plan_cli.specs.ListRun.{IsTimedList, RefusesShort, RefusesTimedList}
+use Rattle.plan_cli.specs.declared.calendars.Dates.{Dates}
+use Rattle.plan_cli.specs.declared.origins.Origin.{Origin}
+use Rattle.plan_spreadsheet.specs.declared.options.Options.{Options}
 use Rattle.plan_documents.specs.declared.documents.Plan.{Plan}
 use Rattle.plan_documents.specs.declared.documents.Subject.{Subject}
 use Rattle.plan_documents.specs.declared.documents.Subject.TheVariants as subject
@@ -258,6 +262,15 @@ shop_front = of_list_front [] IsShopImportOf shop_import_front
 no_shop_front : HoldsByFront TellsNoShop
 no_shop_front = refuses_list_front [] TellsNoShopImport no_shop_import_front
 
+-- the list with its times in the front of a file is that of the file
+timed_front : (from : Origin) (dates : Option Dates) (of : Subject) (o : Option Options) → HoldsByFront (IsTimedList from dates of o)
+timed_front from dates of o file text is = subst (λ (bytes : List ℕ). IsTimedList from dates of o bytes text) (whole_front file is.short) is
+
+untimed_front : (from : Origin) (dates : Option Dates) (of : Subject) (o : Option Options) → HoldsByFront (RefusesTimedList from dates of o)
+untimed_front from dates of o file line (inl tells) = inl tells
+untimed_front from dates of o file line (inr is) =
+    inr (subst (λ (bytes : List ℕ). (length bytes ≤ longest_text) × RefusesShort from dates of o bytes line) (whole_front file is.0) is)
+
 -- the text of a task for the front of a file is that for the file
 task_front : (task : Task) → HoldsByFront (IsTextOf task)
 task_front task.Dates = table_front
@@ -274,6 +287,7 @@ task_front (task.Prove nodes instance) = proof_front nodes.now instance.now
 task_front (task.Solve conflicts subject) = of_subject_front subject IsSolvedBy
 task_front (task.Import given) = imported_front (map override_of given.now)
 task_front task.ImportShop = shop_front
+task_front (task.List from dates subject options) = timed_front from dates subject options
 
 pub task_line_front : (task : Task) → HoldsByFront (IsLineOf task)
 task_line_front task.Dates = line_front
@@ -290,6 +304,7 @@ task_line_front (task.Prove nodes instance) = no_proof_front nodes.now instance.
 task_line_front (task.Solve conflicts subject) = refuses_subject_front subject TellsNoSolution
 task_line_front (task.Import given) = unimported_front (map override_of given.now)
 task_line_front task.ImportShop = no_shop_front
+task_line_front (task.List from dates subject options) = untimed_front from dates subject options
 
 -- a file that says a job shop isn't too long
 shop_short : (instance file : List ℕ) (doc : docs.Shop) → ShopSays instance file doc → length file ≤ longest_text
@@ -349,6 +364,7 @@ file_short (task.Prove nodes instance) file text (doc, says, rest) = shop_short 
 file_short (task.Solve conflicts subject) file text is = subject_short subject IsSolvedBy file text is
 file_short (task.Import given) file text is = import_short (map override_of given.now) file text is
 file_short task.ImportShop file text is = of_list_short [] file (λ list. IsShopImportOf list text) is (λ list made. orders_short list text made)
+file_short (task.List from dates subject options) file text is = is.short
 
 -- a file for which a task shows something isn't too long
 view_short : (task : Task) (file : List ℕ) (view : View) → IsViewOf task file view → length file ≤ longest_text

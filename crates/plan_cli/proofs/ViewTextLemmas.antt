@@ -47,6 +47,7 @@ use Rattle.plan_cli.specs.Tables.{IsTableBy}
 use Rattle.plan_cli.specs.Tables as tables
 use Rattle.plan_cli.specs.Tasks.{IsTextOf}
 use Rattle.plan_cli.specs.TaskViews.{IsDateView, IsTableViewBy, IsChartViewFrom, IsDaysViewFrom, IsVerdictView, IsSlackViewOf, IsComparedView, ComparesIn, AreDaysOf, ShowsDaysOf, IsBestProjectViewBy, IsBestShopViewBy, IsBestViewOf, IsSolvedViewBy, IsProvedViewOf, IsViewOf, schedule_of, chart_of, bounded_of}
+use Rattle.plan_cli.specs.ListRun.{IsTimedList}
 use Rattle.plan_cli.specs.Views.{View, table, chart, text, plain_text}
 use Rattle.plan_documents.specs.declared.documents.Plan.{Plan}
 use Rattle.plan_documents.specs.declared.documents.Plan.TheVariants as plan
@@ -244,3 +245,5 @@ view_text (task.Prove nodes instance) file v (doc, said, (limit, spelled, is)) =
 view_text (task.Solve conflicts who) file v is = of_subject who IsSolvedViewBy IsSolvedBy file v (λ p. by_solver p v) is
 view_text (task.Import given) file v (bytes, is, shown) = subst (IsImport (map override_of given.now) file) (sym (ap plain_text shown)) is
 view_text task.ImportShop file v (bytes, is, shown) = subst (IsShopImport file) (sym (ap plain_text shown)) is
+view_text (task.List from dates who options) file v (bytes, is, shown) =
+    subst (IsTimedList from dates who options file) (sym (ap plain_text shown)) is

@@ -1,5 +1,7 @@
 pub mod Run
 pub mod Links
+pub mod ListTimes
+pub mod ListRun
 pub mod PlanRefs
 pub mod ShopRun
 pub mod Tasks
@@ -68,3 +70,4 @@ pub use Rattle.plan_documents.specs.Spreadsheets
 pub use Rattle.plan_documents.specs.Notes
 pub use Rattle.plan_documents.specs.ListOptions
 pub use Rattle.plan_documents.specs.TableFaultText
+pub use Rattle.plan_list_back.specs.ListBack

@@ -28,6 +28,8 @@ with_starts (task.Slack starts given) text = task.Slack text given
 with_starts (task.Chart from subject) text = task.Chart (origin.Starts text) subject
 with_starts (task.Days from dates style subject) text =
     task.Days (origin.Starts text) dates style subject
+with_starts (task.List from dates subject options) text =
+    task.List (origin.Starts text) dates subject options
 with_starts t text = t
 
 -- the pair with other starts of A, and of B
@@ -55,10 +57,17 @@ with_starts_b t text = t
 abbrev pub dates_with : Dates → Bor (List ℕ) → Dates
 dates_with dates text = record { start = dates.start; marks = dates.marks; holidays = text }
 
+-- the same, if there are dates
+abbrev pub dates_if : Option Dates → Bor (List ℕ) → Option Dates
+dates_if None text = None
+dates_if (Some dates) text = Some (dates_with dates text)
+
 -- the task with other holidays, if it has dates
 abbrev pub with_holidays : Task → Bor (List ℕ) → Task
 with_holidays (task.Days from dates style subject) text =
     task.Days from (dates_with dates text) style subject
+with_holidays (task.List from dates subject options) text =
+    task.List from (dates_if dates text) subject options
 with_holidays t text = t
 
 -- the comparison of lists with another old file

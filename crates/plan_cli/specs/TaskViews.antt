@@ -47,6 +47,7 @@ use Rattle.plan_cli.specs.ListComparisons.{IsListsView}
 use Rattle.plan_documents.specs.Documents.{IsOfSubject, ids_in, problem_of, sheet_of}
 use Rattle.plan_cli.specs.CheckRun.{sentence_of}
 use Rattle.plan_documents.specs.ImportRun.{IsImport, IsShopImport}
+use Rattle.plan_cli.specs.ListRun.{IsTimedList}
 use Rattle.plan_cli.specs.PlanRefs.{viewed}
 use Rattle.plan_documents.specs.Plans.{IsOfProject, IsOfShop}
 use Rattle.plan_cli.specs.Scheduled.{IsByRule, IsScheduleFrom}
@@ -228,3 +229,5 @@ IsViewOf (task.Prove nodes instance) = IsProofViewOf nodes.now instance.now
 IsViewOf (task.Solve conflicts subject) = IsOfSubject subject IsSolvedViewBy
 IsViewOf (task.Import given) = IsTextView (IsImport (map override_of given.now))
 IsViewOf task.ImportShop = IsTextView IsShopImport
+IsViewOf (task.List from dates subject options) =
+    IsTextView (IsTimedList from dates subject options)

@@ -22,6 +22,7 @@ use Rattle.plan_cli.specs.CheckRun.{TellsVerdictOn, TellsBadStarts}
 use Rattle.plan_cli.specs.BestRun.{IsBestOf, TellsNoBestOf}
 use Rattle.plan_cli.specs.ProveRun.{IsProofTableOf, TellsWhyNoProof}
 use Rattle.plan_cli.specs.SolveRun.{IsSolvedBy, TellsNoSolution}
+use Rattle.plan_cli.specs.ListRun.{IsTimedList, RefusesTimedList}
 use Rattle.plan_documents.specs.ImportRun.{IsImport, TellsUnimported, IsShopImport, TellsNoShop}
 use Rattle.plan_documents.specs.Lists.{ReadsAs, RefusesAs}
 use Rattle.plan_views.specs.LinkColumns.{Links}
@@ -59,6 +60,7 @@ IsTextOf (task.Prove nodes instance) = IsProofTableOf nodes.now instance.now
 IsTextOf (task.Solve conflicts subject) = IsOfSubject subject IsSolvedBy
 IsTextOf (task.Import given) = IsImport (map override_of given.now)
 IsTextOf task.ImportShop = IsShopImport
+IsTextOf (task.List from dates subject options) = IsTimedList from dates subject options
 
 -- the lines with which a task refuses a file
 abbrev pub IsLineOf : Task → List ℕ → List ℕ → Type 0
@@ -79,6 +81,7 @@ IsLineOf (task.Prove nodes instance) = TellsWhyNoProof nodes.now instance.now
 IsLineOf (task.Solve conflicts subject) = RefusesSubject subject TellsNoSolution
 IsLineOf (task.Import given) = TellsUnimported (map override_of given.now)
 IsLineOf task.ImportShop = TellsNoShop
+IsLineOf (task.List from dates subject options) = RefusesTimedList from dates subject options
 
 -- The names of the rows that a task writes for a file. The rows are those of activities in a
 -- project, of orders in a job shop, and of machines in its chart. Other rows have no names.

@@ -13,6 +13,8 @@ mod files;
 mod inputs;
 mod links;
 mod list_comparisons;
+mod list_texts;
+mod list_times;
 mod moments;
 mod named_texts;
 mod names;

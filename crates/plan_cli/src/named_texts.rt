@@ -72,6 +72,17 @@ fn with_starts<'a>(task: Task<'a>, text: &'a [u8]) -> Task<'a>
             style,
             subject,
         },
+        Task::List {
+            dates,
+            subject,
+            options,
+            ..
+        } => Task::List {
+            origin,
+            dates,
+            subject,
+            options,
+        },
         _ => task,
     }
 }
@@ -145,6 +156,16 @@ fn dates_with<'a>(dates: Dates<'a>, holidays: &'a [u8]) -> Dates<'a>
     }
 }
 
+// Returns the dates with these holidays, if there are dates.
+fn dates_if<'a>(dates: Option<Dates<'a>>, holidays: &'a [u8]) -> Option<Dates<'a>>
+    ensures { result ≡ spec.dates_if dates.entry holidays.entry }
+{
+    match dates {
+        Some(dates) => Some(dates_with(dates, holidays)),
+        None => None,
+    }
+}
+
 // Returns the task with these holidays. A task without a calendar stays as it is.
 fn with_holidays<'a>(task: Task<'a>, holidays: &'a [u8]) -> Task<'a>
     ensures { result ≡ spec.with_holidays task.entry holidays.entry }
@@ -176,6 +197,17 @@ fn with_old<'a>(task: Task<'a>, text: &'a [u8]) -> Task<'a>
             old: text,
             starts,
             subject,
+        },
+        Task::List {
+            origin,
+            dates,
+            subject,
+            options,
+        } => Task::List {
+            origin,
+            dates: dates_if(dates, holidays),
+            subject,
+            options,
         },
         _ => task,
     }

@@ -31,7 +31,8 @@ fn list_capacities<'a>(task: Task<'a>) -> Option<&'a [Override<'a>]> {
         | Task::Slack { .. }
         | Task::Compare { .. }
         | Task::CompareLists { .. }
-        | Task::Solve { .. } => Some(&[]),
+        | Task::Solve { .. }
+        | Task::List { options: None, .. } => Some(&[]),
         _ => None,
     }
 }

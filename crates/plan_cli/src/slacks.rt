@@ -24,8 +24,8 @@ use plan_table::{NameLine, resource_names};
 use plan_views::slack_view;
 use std::alloc::Global;
 
-// Returns the error of starts that have no slack.
-fn slack_refusal(alloc: Global, fault: SlackFault) -> CliFault
+/// Returns the error of starts that have no slack.
+pub(crate) fn slack_refusal(alloc: Global, fault: SlackFault) -> CliFault
     ensures { Refuses (spec.TellsSlackFault fault) result }
 {
     match fault {

@@ -14,6 +14,7 @@ use crate::calendars::Dates;
 use crate::commands::{Command, subject_view};
 use crate::comparisons::Pair;
 use crate::links::{project_links_in, subject_links};
+use crate::list_texts::timed_list;
 use crate::names::names_in;
 use crate::origins::Origin;
 use crate::proof::proof_view;
@@ -22,7 +23,7 @@ use crate::tables::dates_of;
 use crate::views::{View, named_text, plain_text, text_in};
 use crate::watchers::{Log, ProofWatcher, SolveWatcher};
 use plan_documents::{
-    Capacity, Subject, file_import_text, file_shop_text, ids_of_rows, names_of_lines,
+    Capacity, Options, Subject, file_import_text, file_shop_text, ids_of_rows, names_of_lines,
     names_of_rows, readable,
 };
 use plan_errors::CliFault;
@@ -131,6 +132,16 @@ pub enum Task<'a> {
         conflicts: u64,
         subject: Subject<'a>,
     },
+    /// The planner's own list of activities, read with these options, with the start, the finish
+    /// and the slack of each activity in a schedule. With dates the start and the finish are
+    /// working days. Errors: those of the list, `T3` (no list of activities), those of the schedule
+    /// and of the calendar, then `T1` and `T4` (a list that can't have these columns).
+    List {
+        origin: Origin<'a>,
+        dates: Option<Dates<'a>>,
+        subject: Subject<'a>,
+        options: Option<Options<'a>>,
+    },
     /// The project file of a planner's list, a CSV table of activities with names, with capacities
     /// that are given; or the job shop file of a list of orders. Errors: `T1` to `T19`.
     Import {
@@ -175,6 +186,15 @@ fn view_of<V: ProofWatcher + SolveWatcher, L: Log>(
             Ok(View::Text(text.into_bytes()))
         }
         Task::ImportShop => Ok(View::Text(file_shop_text(alloc, file)?.into_bytes())),
+        Task::List {
+            origin,
+            dates,
+            subject,
+            options,
+        } => {
+            let text = timed_list(alloc, origin, dates, subject, options, file, watcher, log)?;
+            Ok(View::Text(text))
+        }
         Task::Schedule { rule, subject } => {
             let command = Command::Schedule(rule);
             subject_view(alloc, command, subject, file, watcher, log)

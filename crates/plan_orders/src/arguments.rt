@@ -34,11 +34,14 @@ const KINDS: &[&str] = &["project", "shop"];
 // The formats of tables.
 const FORMATS: &[&str] = &["text", "json", "csv"];
 
+// The formats of a schedule of a list.
+const LIST_FORMATS: &[&str] = &["text", "json", "csv", "list"];
+
 // The lines of the chart of a job shop's report.
 const LINES: &[&str] = &["machine", "job"];
 
 // The formats of working days.
-const DAY_FORMATS: &[&str] = &["text", "json", "csv", "ics"];
+const DAY_FORMATS: &[&str] = &["text", "json", "csv", "ics", "list"];
 
 // The column in which the help describes a command.
 const ABOUT_COLUMN: usize = 14;
@@ -114,7 +117,9 @@ enum Form {
     Title,
     /// An option with the format of the output.
     Format,
-    /// The same for working days, which can be a calendar file.
+    /// The same for a schedule, which can be a list.
+    ListFormat,
+    /// The same for working days, which can be a calendar file or a list.
     DayFormat,
     /// An option with the number of time units of a working day.
     PerDay,
@@ -413,11 +418,18 @@ const FORMAT: Argument = Argument {
     help: "print text, JSON or CSV",
 };
 
+// The option of the command that prints a schedule of a list.
+const LIST_FORMAT: Argument = Argument {
+    name: "format",
+    form: Form::ListFormat,
+    help: "print text, JSON, CSV or the list with its times (list)",
+};
+
 // The option of the command that prints working days.
 const DAY_FORMAT: Argument = Argument {
     name: "format",
     form: Form::DayFormat,
-    help: "print text, JSON, CSV or a calendar file (ics)",
+    help: "print text, JSON, CSV, a calendar file (ics) or the list with its days (list)",
 };
 
 const SVG: Argument = Argument {
@@ -621,7 +633,7 @@ const SCHEDULE_COMMANDS: [Entry; 5] = [
             IGNORE,
             UNIT,
             NAMES,
-            FORMAT,
+            LIST_FORMAT,
             Argument {
                 name: "log",
                 form: Form::Output,
@@ -1061,6 +1073,11 @@ fn arg_of<'a>(alloc: Global, argument: &Argument) -> Result<Arg<'a>, AllocError>
             .long(argument.name)
             .value_name("FORMAT")
             .value_parser(FORMATS)
+            .default_value("text"),
+        Form::ListFormat => arg
+            .long(argument.name)
+            .value_name("FORMAT")
+            .value_parser(LIST_FORMATS)
             .default_value("text"),
         Form::DayFormat => arg
             .long(argument.name)

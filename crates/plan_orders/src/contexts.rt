@@ -51,6 +51,10 @@ fn task_context<'a>(task: Task<'a>, file: &'a str) -> Context<'a> {
         },
         Task::Chart { origin, .. } => with_origin(context, origin),
         Task::Days { origin, dates, .. } => { with_dates(with_origin(context, origin), dates) }
+        Task::List { origin, dates, .. } => match dates {
+            Some(dates) => with_dates(with_origin(context, origin), dates),
+            None => with_origin(context, origin),
+        },
         _ => context,
     }
 }
@@ -115,6 +119,10 @@ fn replaceable_rule(task: Task<'_>) -> Option<&str> {
             ..
         }
         | Task::Days {
+            origin: Origin::Rule(rule),
+            ..
+        }
+        | Task::List {
             origin: Origin::Rule(rule),
             ..
         } => Some(rule),

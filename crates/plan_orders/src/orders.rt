@@ -324,21 +324,27 @@ pub fn capacities_of<'a>(
     values_of(alloc, planning(matches), capacity_of)
 }
 
+// Whether a command prints the list of its file.
+fn prints_list(arguments: &ArgMatches<'_>) -> bool {
+    arguments.get_str("format") == Some("list")
+}
+
 // Returns the task of `solve`: that of a job shop if an instance is given, else of a project.
-fn solve_task<'a>(
-    arguments: &'a ArgMatches<'_>,
-    conflicts: u64,
-    capacities: &'a [Capacity<'a>],
-) -> Task<'a> {
-    let subject = subject_of(arguments.get_str("INSTANCE"), capacities);
+fn solve_task<'a>(arguments: &'a ArgMatches<'_>, conflicts: u64, lists: Lists<'a>) -> Task<'a> {
+    let subject = subject_of(arguments.get_str("INSTANCE"), lists.capacities);
+    if prints_list(arguments) {
+        return Task::List {
+            origin: Origin::Solved { conflicts },
+            dates: None,
+            subject,
+            options: lists.options,
+        };
+    }
     Task::Solve { conflicts, subject }
 }
 
 // Returns the order of `solve`. A conflict limit replaces the default time limit.
-fn solve_order<'a>(
-    arguments: &'a ArgMatches<'_>,
-    capacities: &'a [Capacity<'a>],
-) -> Option<FileOrder<'a>> {
+fn solve_order<'a>(arguments: &'a ArgMatches<'_>, lists: Lists<'a>) -> Option<FileOrder<'a>> {
     let conflicts: Option<u32> = arguments.get_one("conflicts");
     let seconds: Option<u32> = arguments.get_one("seconds");
     let limit = match conflicts {
@@ -347,7 +353,7 @@ fn solve_order<'a>(
     };
     let most = conflicts.map_or(MOST_CONFLICTS, u64::from);
     Some(FileOrder::Solve {
-        task: solve_task(arguments, most, capacities),
+        task: solve_task(arguments, most, lists),
         file: arguments.get_str("FILE")?,
         seconds: limit,
         log: arguments.get_str("log"),
@@ -627,15 +633,36 @@ fn dates_behind_rule<'a>(arguments: &'a ArgMatches<'_>) -> Option<Dates<'a>> {
     Some(dates_of(arguments.get_str(start)?, arguments.get_str(marks)?))
 }
 
-// Returns the order of `days` for a table.
+// Returns the task of `days` for a table.
+fn days_task<'a>(
+    arguments: &'a ArgMatches<'_>,
+    words: ScheduleWords<'a>,
+    lists: Lists<'a>,
+) -> Option<Task<'a>> {
+    let origin = origin_of(words.origin);
+    let dates = dates_behind_rule(arguments)?;
+    let subject = subject_of(words.instance, lists.capacities);
+    Some(if prints_list(arguments) {
+        Task::List {
+            origin,
+            dates: Some(dates),
+            subject,
+            options: lists.options,
+        }
+    } else {
+        Task::Days {
+            origin,
+            dates,
+            style: lists.moments,
+            subject,
+        }
+    })
+}
+
+// Returns the order of `days` for a table or a list.
 fn days_order<'a>(arguments: &'a ArgMatches<'_>, lists: Lists<'a>) -> Option<FileOrder<'a>> {
     let words = schedule_words(arguments, "MARKS")?;
-    let task = Task::Days {
-        origin: origin_of(words.origin),
-        dates: dates_behind_rule(arguments)?,
-        style: lists.moments,
-        subject: subject_of(words.instance, lists.capacities),
-    };
+    let task = days_task(arguments, words, lists)?;
     Some(searched_order(arguments, task, words.file, lists.texts))
 }
 
@@ -850,7 +877,7 @@ fn file_order<'a>(
         "new" => Some(FileOrder::New(template_of(arguments)?)),
         "explain" => Some(FileOrder::Explain(arguments.get_strs("CODE")?)),
         "prove" => proof_order(arguments),
-        "solve" => solve_order(arguments, lists.capacities),
+        "solve" => solve_order(arguments, lists),
         "check" => check_order(arguments, lists),
         "verify" => verify_order(arguments),
         "slack" => slack_order(arguments, lists),
@@ -859,6 +886,16 @@ fn file_order<'a>(
         "days" => days_order(arguments, lists),
         _ => plain_order(name, arguments, lists.capacities),
     }
+}
+
+// Returns the options with which the file of a command is read before its task. A task that prints a
+// list has the options itself, because it needs the list as it is.
+fn options_for<'a>(
+    name: &str,
+    arguments: &ArgMatches<'_>,
+    options: Option<Options<'a>>,
+) -> Option<Options<'a>> {
+    if has_formats(name) && prints_list(arguments) { None } else { options }
 }
 
 /// Returns the rows that the command prints.
@@ -897,7 +934,7 @@ pub fn order_of<'a>(matches: &'a ArgMatches<'_>, lists: Lists<'a>) -> Option<Ord
         _ => Some(Order::File(
             file_order(name, arguments, lists)?,
             command_rows(name, arguments),
-            lists.options,
+            options_for(name, arguments, lists.options),
         )),
     }
 }

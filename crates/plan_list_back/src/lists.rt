@@ -1,0 +1,95 @@
+//! A planner's own list with the times of its activities.
+
+ghost use Rattle.std.specs.Prelude.{map, IfOk};
+ghost use Rattle.plan_encoding.specs.Encodings.{utf8_of};
+ghost use Rattle.plan_table.specs.Csv.{row_of};
+ghost use Rattle.plan_table.specs.Overrides.{override_of};
+ghost use Rattle.plan_spreadsheet.specs.Options.{options_of};
+ghost use Rattle.plan_list_back.specs.ListBack as spec;
+
+use crate::columns::with_times;
+use crate::fault::ListBackFault;
+use crate::sameness::project_of;
+use crate::text::{separator_of, text_of};
+use crate::times::Times;
+use plan_encoding::utf8_text;
+use plan_psplib::LONGEST_TEXT;
+use plan_spreadsheet::{Options, filled, spells};
+use plan_table::{Override, ReadError, Row, read_rows_of};
+use std::alloc::Global;
+
+// Why a text isn't read as the rows of a list with times.
+fn too_long_or_changed(made: &[u8]) -> ListBackFault {
+    if made.len() > LONGEST_TEXT {
+        ListBackFault::TooLong
+    } else {
+        ListBackFault::Changed
+    }
+}
+
+// Why a list with times isn't read as a project.
+fn changed(fault: ListBackFault) -> ListBackFault {
+    match fault {
+        ListBackFault::Memory => ListBackFault::Memory,
+        ListBackFault::TooLong => ListBackFault::TooLong,
+        ListBackFault::NoList | ListBackFault::Changed => ListBackFault::Changed,
+    }
+}
+
+// A list with the times of its activities, which are no part of the project.
+#[tactic(auto, using(crate::proofs::ListBackLemmas::back))]
+fn with_texts(
+    alloc: Global,
+    bytes: &[u8],
+    times: &[Times<'_>],
+) -> Result<Vec<u8>, ListBackFault>
+    ensures { IfOk result (λ made. spec.IsBack (map spec.times_of times.now) bytes.now
+        made.items) }
+{
+    let decoded = utf8_text(alloc, bytes)?;
+    let text = decoded.utf8(bytes);
+    let rows = match read_rows_of(alloc, text) {
+        Ok(rows) => filled(alloc, &rows)?,
+        Err(ReadError::Memory) => return Err(ListBackFault::Memory),
+        Err(ReadError::Fault(_)) => return Err(ListBackFault::NoList),
+    };
+    let rows = with_times(alloc, times, &rows)?;
+    let made = text_of(alloc, bytes, separator_of(text), &rows)?;
+    let right = spells(alloc, &made, &rows)?;
+    if !right {
+        return Err(too_long_or_changed(&made));
+    }
+    Ok(made)
+}
+
+/// Returns a list of activities as it is, with columns `start`, `finish` and `slack`.
+///
+/// The texts of a row are those of the first times for its line; without times they are empty. A
+/// column that the list has already gets new texts, and the others stand behind the last header. The
+/// text is in UTF-8 with the separator of the list. The file is read with `options` and `overrides`.
+#[tactic(auto, using(crate::proofs::ListBackLemmas::same))]
+pub fn list_back(
+    alloc: Global,
+    options: &Options<'_>,
+    overrides: &[Override<'_>],
+    bytes: &[u8],
+    times: &[Times<'_>],
+) -> Result<Vec<u8>, ListBackFault>
+    // The rows are those of the list with the times.
+    ensures rows { IfOk result (λ made. spec.IsBack (map spec.times_of times.now) bytes.now
+        made.items) }
+    // The list means the same.
+    ensures same { IfOk result (λ made. spec.SameProject (options_of options.now)
+        (map override_of overrides.now) bytes.now made.items) }
+{
+    let before = project_of(alloc, options, overrides, bytes)?;
+    let made = with_texts(alloc, bytes, times)?;
+    let behind = match project_of(alloc, options, overrides, &made) {
+        Ok(behind) => behind,
+        Err(fault) => return Err(changed(fault)),
+    };
+    if before.as_slice() != behind.as_slice() {
+        return Err(ListBackFault::Changed);
+    }
+    Ok(made)
+}
