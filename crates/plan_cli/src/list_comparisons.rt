@@ -28,12 +28,21 @@ fn ids_of<'p>(plan: &'p Plan<'p>) -> &'p [NameLine<'p>]
     }
 }
 
+// Tests whether there are ids.
+fn are_some(ids: &[NameLine<'_>]) -> bool
+    ensures { result ≡ spec.are_some (map name_of ids.now) }
+{
+    match ids {
+        [] => false,
+        [_, ..] => true,
+    }
+}
+
 // Tests whether a plan has ids.
-#[tactic(auto, using(crate::proofs::ListComparisonLemmas::some_ids))]
 fn has_ids(plan: &Plan<'_>) -> bool
     ensures { result ≡ spec.are_some (spec.ids_of plan.now) }
 {
-    !ids_of(plan).is_empty()
+    are_some(ids_of(plan))
 }
 
 // Refuses a plan without ids. The words are those of the error line.
