@@ -115,11 +115,7 @@ fn old_document(alloc: Global, subject: Subject<'_>, text: &[u8]) -> Result<Docu
 }
 
 // Returns the plan of the document in the old file.
-fn old_plan<'a>(
-    alloc: Global,
-    document: &'a Document,
-    text: &'a [u8],
-) -> Result<Plan<'a>, CliFault>
+fn old_plan<'a>(alloc: Global, document: &'a Document, text: &'a [u8]) -> Result<Plan<'a>, CliFault>
     requires { documents.IsWhole document.now }
     ensures plan { IfOk result (λ plan.
         plan ≡ documents.plan_in document.now (documents.ids_in text.now)) }
@@ -153,11 +149,7 @@ fn compared_text(
 }
 
 // Reads the old file, which may be a list.
-fn old_reading<'a>(
-    alloc: Global,
-    subject: Subject<'a>,
-    old: &[u8],
-) -> Result<Reading<'a>, CliFault>
+fn old_reading<'a>(alloc: Global, subject: Subject<'a>, old: &[u8]) -> Result<Reading<'a>, CliFault>
     ensures read { IfOk result (λ read. IsReadAs subject.entry old.now read.kind
         read.subject (text_of read.made old.now)) }
     ensures refused { IfErr result (Refuses
