@@ -297,7 +297,8 @@ const WEEKDAYS_HELP: &str = "print the weekdays of days, for example Mon 2026-11
 
 const PER_DAY_HELP: &str = "time units of a working day, an hour each, 1 to 24 [default: 1]";
 
-const OPENS_HELP: &str = "the time at which a working day begins, for example 07:00 [default: 00:00]";
+const OPENS_HELP: &str =
+    "the time at which a working day begins, for example 07:00 [default: 00:00]";
 
 const WEEKDAYS: Argument = Argument {
     name: "weekdays",

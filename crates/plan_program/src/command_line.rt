@@ -6,8 +6,8 @@ use crate::misuse::Misuse;
 use crate::status::Status;
 use clap::ArgMatches;
 use plan_orders::{
-    Lists, OfficeOrder, Order, capacities_of, command, events_of, help, misplaced_option, moments_of,
-    order_of, overrides_of, rows_of, style_of, texts_of, version,
+    Lists, OfficeOrder, Order, capacities_of, command, events_of, help, misplaced_option,
+    moments_of, order_of, overrides_of, rows_of, style_of, texts_of, version,
 };
 use std::alloc::Global;
 use std::env;
