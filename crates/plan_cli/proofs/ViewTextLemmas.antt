@@ -217,12 +217,12 @@ by_plans first second after before v (t, is, shown) = (t, is, ap plain_text show
 
 by_lists : (who : Subject) (old first second : List ℕ) (after : Plan) (v : View) → IsListsView who old first second after v
     → AreListsCompared who old first second after (plain_text v)
-by_lists who old first second after v (kind, s, text, is, made) = (
+by_lists who old first second after v (kind, s, bytes, is, made) = (
   kind,
   s,
-  text,
+  bytes,
   is,
-  of_subject s (IsPlansView first second after) (ArePlansCompared first second after) text v (λ before. by_plans first second after before v) made,
+  of_subject s (IsPlansView first second after) (ArePlansCompared first second after) bytes v (λ before. by_plans first second after before v) made,
 )
 
 -- the text of what a task shows is its text

@@ -48,9 +48,9 @@ pub use plan_documents::{
     readable, replaced, with_names,
 };
 pub use plan_errors::{CliFault, Code, Context, code_hint, error_json, explain_run, hint, masked};
+pub use plan_views::MomentStyle;
 pub use runs::{best_project_run, best_run, cpm_run, run_task, schedule_run, shop_run};
 pub use schedules::{Scheduled, schedule_from};
 pub use tasks::{Rows, Task};
-pub use plan_views::MomentStyle;
 pub use templates::{Template, template_run};
 pub use watchers::{Log, NoteWatcher, ProofWatcher, SolveWatcher, Unlogged, Unwatched};
