@@ -534,8 +534,7 @@ const PROJECT_COMMANDS: [Entry; 6] = [
         examples: "Examples:\n  \
             plan compare examples/six.sm examples/starts.txt examples/late.txt\n  \
             plan schedule mts examples/six.sm | \
-            plan compare examples/six.sm examples/starts.txt -\n  \
-            plan compare --old monday.csv friday.csv monday.json friday.json",
+            plan compare examples/six.sm examples/starts.txt -",
         arguments: &[
             FILE_OR_LIST,
             STARTS_A,
