@@ -6,6 +6,7 @@ import {
   freeDays, heightOfRows, labelFor, marksOn, pagesOf, placeOfDate, scaleOf, shortened, today,
   widthOf,
 } from "./layout.js";
+import { resourceLabel } from "./labels.js";
 import { isAlone } from "./local.js";
 import { page, WORDS_OF_KIND } from "./state.js";
 import { paperTable } from "./table.js";
@@ -98,7 +99,8 @@ function showLinks(view, chart, index) {
   const { scale, places, row } = chart;
   const bars = new Map(view.bars.map((bar) => [bar.index, bar]));
   const middle = (bar) => row * places.get(bar.line) + row / 2;
-  const nodes = linksOf(view, index).map(([from, to]) => {
+  const links = linksOf(view, index).filter((pair) => pair.every((place) => bars.has(place)));
+  const nodes = links.map(([from, to]) => {
     const a = bars.get(from), b = bars.get(to);
     const x = a.start < a.end ? scale.endOf(a.end) : scale.startOf(a.start, a.end);
     const end = scale.startOf(b.start, b.end);
@@ -153,10 +155,10 @@ function useSvg(steps, resource, capacity, name, scale, width, total) {
 function useNodes(view, scale, width) {
   const { plan: { kind, model, ...plan }, starts, total } = view;
   if (kind !== "project" || !model) return [];
-  const { resources } = namesIn(plan);
+  const labels = namesIn(plan);
   const steps = useOf(model, starts);
   return model.capacities.map((capacity, at) => useSvg(steps, at, capacity,
-    resources[at + 1] ?? `resource ${at + 1}`, scale, width, total));
+    resourceLabel(labels, at + 1), scale, width, total));
 }
 
 export function showChart(view) {
@@ -171,7 +173,10 @@ export function showChart(view) {
   fill("legend", ...legendNodes(view));
   fill("use", ...useNodes(view, chart.scale, width));
   const tell = letTell(view, chart);
-  return (index) => tell(chart.bars.findIndex((bar) => bar.index === index));
+  return (index) => {
+    const place = chart.bars.findIndex((bar) => bar.index === index);
+    if (place >= 0) tell(place);
+  };
 }
 
 // -- paper

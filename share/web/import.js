@@ -5,6 +5,7 @@ import { command, deskPath, Refusal, shopPath, tableOf } from "./api.js";
 import {
   byId, faultNodes, fill, make, onSubmit, put, refusalNode, tableNode, tell, wideNode,
 } from "./dom.js";
+import { rowWords } from "./cells.js";
 import { noteList, openSaved, replacedFile, showEdit } from "./edit.js";
 import { isAlone } from "./local.js";
 import { showPlace } from "./place.js";
@@ -26,10 +27,10 @@ async function bytesOf(file) {
   const content = isLarge ? null : await file.arrayBuffer().catch(() => null);
   const isWorkbook = content && new TextDecoder().decode(content.slice(0, 4)) === "PK\x03\x04";
   if (content && !isWorkbook) return new Uint8Array(content);
-  const words = isLarge ? "It has more than 1,048,576 bytes"
-    : isWorkbook ? "It is a workbook. Save its sheet as CSV (UTF-8), and drop that"
-      : "It can't be read";
-  fill("import-answer", refusalNode(`${file.name} was not sent. ${words}.`));
+  const words = isLarge ? [`Split ${file.name}, or delete rows.`, "It has more than 1,048,576 bytes."]
+    : isWorkbook ? [`Save the sheet of ${file.name} as CSV (UTF-8), and drop that.`, "It is a workbook."]
+      : [`Choose ${file.name} again.`, "It can't be read."];
+  fill("import-answer", refusalNode("", { meaning: [words[0], `${words[1]} Nothing was sent.`] }));
   return null;
 }
 
@@ -100,7 +101,7 @@ export async function takeBytes({ name, bytes, text, given = new Map(), replaces
   try {
     Object.assign(taken, await recognized(taken));
   } catch (fault) {
-    fill("import-answer", refusalNode(`${name} was not sent. ${fault.message}`));
+    fill("import-answer", ...faultNodes(fault));
     return null;
   }
   const { isProject, list, instances, isStarts } = taken;
@@ -169,18 +170,19 @@ const previewNodes = (name, kind, parts, table) => [
 ];
 
 // the first and the last activity of the project aren't rows of the list
-function projectNodes({ name }, { durations, arcs, needs, names, resources, capacities }) {
+function projectNodes({ name }, { durations, arcs, needs, ids, names, resources, capacities }) {
   const last = durations.length - 1;
   const inner = arcs.filter(({ from, to }) => from > 0 && to < last);
-  const before = (at) => inner.filter(({ to }) => to === at).map(({ from }) => from + 1);
+  const idOf = (number) => ids.get(number) ?? number;
+  const before = (at) => inner.filter(({ to }) => to === at).map(({ from }) => idOf(from + 1));
   const caps = [...resources].map(([number, words]) => `${words} ${capacities[number - 1]}`);
-  const rows = durations.map((duration, at) => [at + 1, names.get(at + 1) ?? "", duration,
+  const rows = durations.map((duration, at) => [idOf(at + 1), names.get(at + 1) ?? "", duration,
     before(at).join(" "), ...[...resources.keys()].map((number) => needs[at][number - 1])]);
   return previewNodes(name, "project", `${counted(last - 1, "activity", "activities")}, with a `
     + `start and an end around them, ${counted(inner.length, "arc")} and ${
       counted(resources.size, "resource")}`, {
     caption: caps.length && `Capacities: ${caps.join(", ")}`,
-    heads: ["number", "name", "duration", "predecessors", ...resources.values()],
+    heads: [ids.size ? "id" : "number", "name", "duration", "predecessors", ...resources.values()],
     rows: rows.slice(1, -1),
   });
 }
@@ -197,8 +199,14 @@ async function shopNodes({ name }, text) {
   });
 }
 
+const lineIn = (message) => Number(message.match(/\bline (\d+)/)?.[1] ?? 0);
+
+const rowLabels = (text, message) =>
+  ({ rows: { [lineIn(message)]: rowWords(text, lineIn(message)) } });
+
 const faultyNodes = ({ name, text }, message) => [
-  refusalNode(message), partNode(name, text, Number(message.match(/\bline (\d+)/)?.[1] ?? 0)),
+  refusalNode(message, { labels: rowLabels(text, message) }),
+  partNode(name, text, lineIn(message)),
 ];
 
 // the lines around one of a file, which is marked
@@ -224,8 +232,7 @@ async function importFile(fields) {
   const instance = list && !isProject ? "shop" : fields.instance || "-";
   const path = isProject ? deskPath("projects") : shopPath(instance);
   if (!path) {
-    throw new Refusal("This name can't be sent: a name in an address has no blank, no / and no %. "
-      + "Rename the instance in the file.");
+    throw new Refusal("Rename the instance in the file: a name that is sent has no blank, no / and no %.");
   }
   const bytes = list ? new TextEncoder().encode(list.text) : file.bytes;
   let made;
@@ -233,6 +240,7 @@ async function importFile(fields) {
     made = replacedFile(file.replaces, { kind: isProject ? "project" : "shop", instance, bytes })
       ?? await command(path, "POST", new Blob([bytes]));
   } catch (fault) {
+    fault.labels = labelsOf(isProject, bytes);
     const named = fault.message.match(/^(?:E10|F\d+) (?:.*? )?line (\d+)/);
     if (named) fault.more = [partNode(file.name, file.text, Number(named[1]))];
     throw fault;
@@ -244,6 +252,13 @@ async function importFile(fields) {
   if (file.instances.length < 2) forgetFile();
   await openPlan(made.n);
   return `${file.name} is plan ${made.n}.`;
+}
+
+// the ids and names in a file that is refused
+function labelsOf(isProject, bytes) {
+  const found = isProject && readProject(new TextDecoder().decode(bytes));
+  return found ? { ids: Object.fromEntries(found.ids), names: Object.fromEntries(found.names),
+    resources: Object.fromEntries(found.resources), count: found.durations.length } : undefined;
 }
 
 function noteMade(made, name, bytes, instance) {
@@ -291,12 +306,15 @@ export async function takeNames(file) {
   if (!bytes) return null;
   const taken = { name: file.name, bytes, text: new TextDecoder().decode(bytes), given: new Map() };
   const { list, instances } = await recognized(taken);
-  if (list?.fault) return fill("names-answer", refusalNode(list.fault.message));
+  if (list?.fault) {
+    const labels = rowLabels(taken.text, list.fault.message);
+    return fill("names-answer", refusalNode(list.fault.message, { labels }));
+  }
   const own = list ? new TextEncoder().encode(list.text) : bytes;
   const instance = await instanceIn(own, plan, list ? ["shop"] : instances);
   if (instance === undefined) {
     return fill("names-answer",
-      refusalNode(`${file.name} isn't the file of plan ${plan.n}: its durations differ.`));
+      refusalNode(`Choose the file of plan ${plan.n}: the durations of ${file.name} are others.`));
   }
   noteFile(plan.n, plan.kind === "project", file.name, own, instance);
   await showPlan();

@@ -28,7 +28,7 @@ function showView(name) {
 }
 
 const trying = (words, action) => action().catch((fault) => {
-  if (fault instanceof Refusal && fault.message === "E01 key") fault.lead = words;
+  if (fault instanceof Refusal && fault.message === "E01 key") fault.why = words;
   throw fault;
 });
 

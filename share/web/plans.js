@@ -121,7 +121,11 @@ async function openDesk(fields) {
 }
 
 async function setKey({ desk, key }) {
-  await command(`/office/desks/${encodeURIComponent(desk)}/key`, "POST", { key });
+  await command(`/office/desks/${encodeURIComponent(desk)}/key`, "POST", { key }).catch((fault) => {
+    fault.meaning = fault.message === "E02 not found"
+      ? ["Check the name of the desk.", "There is no such desk."] : undefined;
+    throw fault;
+  });
   return `Desk ${desk} has another key.`;
 }
 
@@ -140,7 +144,7 @@ export function noteLost(words, method) {
     ? "A command was on its way, and it isn't known whether it was carried out. "
       + "Nothing is sent again before the office has been asked."
     : "Nothing has changed. The page shows what was answered before.";
-  put("lost-words", `The connection is lost. ${words} ${meaning}`);
+  put("lost-words", `Ask again, once the network is back: the connection is lost. ${words} ${meaning}`);
   byId("lost").hidden = false;
   put("news", "");
 }

@@ -33,21 +33,14 @@ def printed(*words, given=b""):
     return out.decode().splitlines()
 
 
-def explained(line):
-    """What `plan explain` says of the code of an error, but for its form and for which line N is; with
-    the line and the activities of the error in the place of letters."""
-    code, _, number, *rest = line.split()
-    texts = [re.sub(r"(?<=\.) N is .*", "", text) for text in printed("explain", code)[1:]]
-    texts = [re.sub(r"\b([Ll]ine) N\b", rf"\1 {number}", text) for text in texts]
-    if rest[:1] == ["cycle"]:
-        texts = [text.replace("A, B, ..", ", ".join(rest[1:])).replace("precedes A", f"precedes {rest[1]}")
-                 for text in texts]
-    return texts
-
-
 def rows_of(lines):
     """The rows of a table as words, without its heading and the lines below it."""
     return [line.split() for line in lines if line.split()[0].isdigit()]
+
+
+def id_rows(lines):
+    """The rows of a table whose first column has ids, as words."""
+    return [line.split() for line in lines[1:-1]]
 
 
 def makespan_of(lines):
