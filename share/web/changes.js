@@ -13,6 +13,10 @@ import { CODE_KINDS, page, recordOf, rememberChange } from "./state.js";
 import { namesIn } from "./view.js";
 
 const NOT_HERE = "Not set on this computer; the office doesn't tell it.";
+const DAYS = ["Mo", "Tu", "We", "Th", "Fr", "Sa", "Su"];
+
+const daysIn = (marks) => DAYS.filter((_, at) => marks[at] === "1").join(", ");
+
 const boxes = () => all("#marks input");
 
 // the form leaves one reason for E03: the plan has no such place or arc
@@ -53,7 +57,7 @@ async function setCalendar({ start, holidays: lines }) {
   if (holidays && start && days.includes("1")) await daysFrom(start, days, holidays, 0);
   return changePlan("calendar", { start, days, ...(holidays && isAlone() && { holidays }) },
     (made) => ({ ...made, holidays }),
-    (made) => `From ${made.start} on; working days ${made.days}, Monday first.`);
+    (made) => `From ${made.start} on; working days ${daysIn(made.days)}.`);
 }
 
 function setLag({ from, to, lag }) {
@@ -144,7 +148,7 @@ export function showChanges(plan) {
 }
 
 export function letChange() {
-  byId("marks").append(...["Mo", "Tu", "We", "Th", "Fr", "Sa", "Su"].map((day) =>
+  byId("marks").append(...DAYS.map((day) =>
     make("label", {}, make("input", { type: "checkbox" }), ` ${day}`)));
   onSubmit("bind", bind);
   onSubmit("calendar", setCalendar);

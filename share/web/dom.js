@@ -31,10 +31,10 @@ export const tell = (words) => say(words, { role: "status" });
 export const wideNode = (name, child) =>
   make("div", { class: "wide", tabindex: 0, role: "region", "aria-label": name }, child);
 
-export function tableNode({ caption, heads, rows, foot, marks = [] }) {
+export function tableNode({ label, caption, heads, rows, foot, marks = [] }) {
   const row = ([first, ...cells], index) => make("tr", { class: marks[index] && "critical" },
     make("th", { scope: "row" }, first), ...cells.map((cell) => make("td", {}, cell)));
-  return make("table", {},
+  return make("table", { "aria-label": caption ? undefined : label },
     ...(caption ? [make("caption", {}, caption)] : []),
     make("thead", {}, make("tr", {}, ...heads.map((head) => make("th", { scope: "col" }, head)))),
     make("tbody", {}, ...rows.map(row)),

@@ -166,7 +166,7 @@ function capacityNode(name, value) {
 const previewNodes = (name, kind, parts, table) => [
   tell(`${name} becomes a ${kind} of ${parts}. Look at it, then import it.`),
   make("details", {}, make("summary", {}, "As the program reads it"),
-    wideNode(`The ${kind}`, tableNode(table))),
+    wideNode(`The ${kind}`, tableNode({ label: `The ${kind}`, ...table }))),
 ];
 
 // the first and the last activity of the project aren't rows of the list
@@ -206,7 +206,9 @@ const rowLabels = (text, message) =>
 
 const faultyNodes = ({ name, text }, message) => [
   refusalNode(message, { labels: rowLabels(text, message) }),
-  partNode(name, text, lineIn(message)),
+  ...(byId("grid-part").hidden ? [partNode(name, text, lineIn(message))]
+    : [make("details", {}, make("summary", {}, "The lines of the file"),
+      partNode(name, text, lineIn(message)))]),
 ];
 
 // the lines around one of a file, which is marked

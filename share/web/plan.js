@@ -205,7 +205,7 @@ function showRules(plan) {
     ...tables.map(({ rows: ends }) => `${ends[index].start}–${ends[index].end}`),
   ]);
   const names = rules.map((rule) =>
-    (rule === "best" ? `best (${schedules.get(rule).verdict})` : titled(rule)));
+    (rule === "best" ? `search (${schedules.get(rule).verdict})` : titled(rule)));
   const foot = ["makespan", ...fixed.slice(1).map(() => ""), ...tables.map(({ total }) => total)];
   fill("rules", tableNode({
     caption: "Schedules by rule: start–end", heads: [...fixed.map(titled), ...names], rows, foot,

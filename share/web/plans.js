@@ -35,7 +35,7 @@ export function showPlans() {
     return [button, title, WORDS_OF_KIND[kind], makespan];
   });
   const heads = ["Number", "Title", "Kind", "Makespan"];
-  fill("plans", rows.length ? tableNode({ heads, rows })
+  fill("plans", rows.length ? tableNode({ label: "Plans", heads, rows })
     : say("No plans yet. Drop a file, or start with an example."));
   byId("start").classList.toggle("alone", rows.length > 0);
   if (value) byId("plans").querySelector(`[value="${value}"]`)?.focus();
@@ -52,7 +52,7 @@ export function markOpen() {
 function codesTable(codes, none) {
   if (!codes.length) return say(none);
   const rows = codes.map(({ code, kind, capacity }) => [code, kind, capacity]);
-  return tableNode({ heads: ["Code", "Kind", "Capacity"], rows });
+  return tableNode({ label: "Capacities", heads: ["Code", "Kind", "Capacity"], rows });
 }
 
 export async function askMakespans() {

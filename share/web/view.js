@@ -14,6 +14,7 @@ import {
   agrees, daysOf, describedBy, projectModel, shopModel, slackOf, subjectOf,
 } from "./subject.js";
 
+const SEARCHED = { optimal: "shortest, proved" };
 const STARRED = "critical by dates alone (crews not counted)";
 
 export const startsOf = (table) => table.rows.map(({ start }) => start);
@@ -120,8 +121,8 @@ function datesIn(plan, rule) {
 
 export function nameOf(plan, rule) {
   const { verdict, total } = plan.schedules.get(rule);
-  return rule === "best" ? `best ${verdict} ${total}`
-    : `${RULE_NAMES[rule] ?? rule} ${total}${verdict}`;
+  if (rule === "best") return `${SEARCHED[verdict] ?? "shortest found"} ${total}`;
+  return `${RULE_NAMES[rule] ?? rule} ${total}${verdict}`;
 }
 
 /** Returns the title, the ids and the names of a plan; none if they were remembered of other rows. */

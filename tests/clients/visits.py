@@ -15,11 +15,12 @@ from page_units import as_model, brute_slack, read_sm, shop_model, worked_days
 from pages import (
     RULE_NAMES, RULES, drop, example, focus_window, makespan_of, open_plan, open_tab, pick,
     printed, rows_of,
-    same_bars, same_project, same_senses, same_table, seen, seen_axis, seen_plans, seen_table,
+    same_bars, same_project, same_table, seen, seen_axis, seen_plans, seen_table,
     set_date, submit, texts, wait_idle, wait_plan, wait_text,
 )
 from pictures import smaller
 from programs import Wrong, plan, same, talk
+from senses import same_order, same_senses
 
 DESK, KEY, FIRST_KEY = "trial", "trial-key-2", "trial-key-1"
 SHOP_RULES = ["mwkr", "spt", "fcfs"]
@@ -355,7 +356,7 @@ def visit_calendar(browser):
     same("no calendar yet", "Not set on this computer" in seen(browser, "#calendar-set"), True)
     set_date(browser, "#calendar [name=start]", start)
     submit(browser, "calendar")
-    wait_text(browser, "#calendar .answer", "From 2024-03-01 on; working days 1111100")
+    wait_text(browser, "#calendar .answer", "From 2024-03-01 on; working days Mo, Tu, We, Th, Fr.")
     same("set here", f"Set here on {datetime.date.today()}; the office doesn't"
          in seen(browser, "#calendar-set"), True)
     for rule in RULES:
@@ -412,7 +413,7 @@ def visit_today(browser):
     for box in range(1, 6):
         browser.run("document.querySelectorAll('#marks input')[arguments[0]].click()", box - 1)
     submit(browser, "calendar")
-    wait_text(browser, "#calendar .answer", "From 2024-03-01 on; working days 1111100")
+    wait_text(browser, "#calendar .answer", "From 2024-03-01 on; working days Mo, Tu, We, Th, Fr.")
 
 
 def house_of_four():
@@ -516,12 +517,12 @@ def visit_best(browser):
     submit(browser, "best")
     lines = printed("solve", example("five.sm"))
     wait_text(browser, "#best-answer", f"{lines[0]}: no schedule of this plan is shorter.")
-    wait_text(browser, "#drawn label:last-child", f"best {lines[0]}")
+    wait_text(browser, "#drawn label:last-child", f"shortest, proved {makespan_of(lines)}")
     last = int(makespan_of(lines))
     same_choice(browser, last)
     bars = [[row[0], row[2], row[3]] for row in rows_of(lines)]
     same_bars("a best schedule", browser, bars, last, places_in("2024-03-01", "1111100", last))
-    same("its column", seen_table(browser, "#rules")[0][-1], "best (optimal)")
+    same("its column", seen_table(browser, "#rules")[0][-1], "search (optimal)")
     ends = [row[-1] for row in seen_table(browser, "#rules")[1:-1]]
     same("its ends", ends, [f"{row[2]}–{row[3]}" for row in rows_of(lines)])
     days = [str(day) for day in worked_days(datetime.date(2024, 3, 1), "1111100", last)]
@@ -625,12 +626,17 @@ def visit_check(browser):
 
 
 def downloaded(browser, office, button):
-    """The name and the text of a file that the page saves."""
-    room = os.path.join(os.path.dirname(office.database), "saved-" + button)
+    """The name and the text of a file that the page saves by a button."""
+    open_tab(browser, "handin")
+    return downloaded_by(browser, office, button, lambda: browser.click(f"#saves [value^={button}]"))
+
+
+def downloaded_by(browser, office, kind, act):
+    """The name and the text of a file that the page saves after an action."""
+    room = os.path.join(os.path.dirname(office.database), "saved-" + kind)
     os.makedirs(room, exist_ok=True)
     browser.devtools("Browser.setDownloadBehavior", behavior="allow", downloadPath=room)
-    open_tab(browser, "handin")
-    browser.click(f"#saves [value^={button}]")
+    act()
     for _ in range(300):
         names = [name for name in os.listdir(room) if not name.endswith(".crdownload")]
         if names:
@@ -640,7 +646,7 @@ def downloaded(browser, office, button):
                 os.remove(os.path.join(room, names[0]))
                 return names[0], text
         browser.wait("a moment", "return true")
-    raise Wrong(f"nothing was saved by {button}")
+    raise Wrong(f"nothing was saved by {kind}")
 
 
 def one_line(value):
@@ -1226,11 +1232,17 @@ def visit_sizes(browser):
 
 def visit_senses(browser):
     """Texts have a contrast of 4.5, in the light and in the dark; fields, buttons, regions and
-    pictures have names."""
+    pictures have names; the accessibility tree is read in the order that docs/browser.md tells."""
     for n, tab in ((1, "table"), (6, "changes"), (8, "handin")):
         open_plan(browser, n)
         open_tab(browser, tab)
         same_senses(f"plan {n}", browser)
+    open_plan(browser, 6)
+    open_tab(browser, "table")
+    same_order("a plan", browser, "The order of a plan, at 960 pixels and more:")
+    browser.resize(360, 740)
+    same_order("a plan on a phone", browser, "The order of a plan below 960 pixels:")
+    browser.resize(1120, 720)
     browser.click("#help-button")
     same_senses("the help panel", browser)
     browser.press(ESCAPE)
@@ -1369,7 +1381,7 @@ def visit_cancel(browser):
     same("its button", browser.run("return document.getElementById('cancel').hidden"), True)
     same("the schedules", len(texts(browser, "#drawn label")), len(RULES) + 1)
     words = seen(browser, "#best-answer").split("kept. ")[1].split(":")[0].split()
-    same("the schedule that is kept", (words[0], f"best between {words[1]}" in " ".join(
+    same("the schedule that is kept", (words[0], f"shortest found {words[1]}" in " ".join(
         texts(browser, "#drawn label"))), ("between", True))
     browser.type("#best [name=seconds]", "2")
     began = browser.run("return performance.now()")
@@ -1406,7 +1418,7 @@ def visit_whole(browser, office):
     submit(browser, "lag")
     wait_text(browser, "#lag-set", "2 to 3: 5 (set here on")
     submit(browser, "best")
-    wait_text(browser, "#drawn label:last-child", "best optimal")
+    wait_text(browser, "#drawn label:last-child", "shortest, proved ")
     browser.click("#drawn [value=best]")
     before = seen_table(browser, "#table")
     name, text = downloaded(browser, office, "all")
