@@ -89,7 +89,7 @@ const legendNodes = (view) => legendOf(view).map(([name, words]) => make("li", {
     draw("g", { class: name }, shapeNode(1, 1, 18, 10)))] : []), ` ${words}`));
 
 function captionOf({ plan, dates, calendar }) {
-  const unit = !dates ? "working time from 0"
+  const unit = !dates ? "working time from 0 (for dates set a calendar under Changes)"
     : `weeks begin on Monday${calendar ? ", free days are shaded" : ""}`;
   const rows = plan.kind === "project" ? "Activities" : "Steps";
   return `${rows} by ${nameOf(plan, plan.drawn)}; ${unit}`;

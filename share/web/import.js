@@ -3,7 +3,7 @@
 
 import { command, deskPath, Refusal, shopPath, tableOf } from "./api.js";
 import {
-  byId, faultNodes, fill, make, onSubmit, put, refusalNode, tableNode, tell, wideNode,
+  byId, faultNodes, fill, make, onSubmit, put, refusalNode, say, tableNode, tell, wideNode,
 } from "./dom.js";
 import { rowWords } from "./cells.js";
 import { noteList, openSaved, replacedFile, showEdit } from "./edit.js";
@@ -11,7 +11,7 @@ import { isAlone } from "./local.js";
 import { showPlace } from "./place.js";
 import { openPlan, showPlan, takeStarts } from "./plan.js";
 import { showPlans } from "./plans.js";
-import { printed } from "./program.js";
+import { printed, printedWith } from "./program.js";
 import { readProject, readShop } from "./project.js";
 import { page, remember } from "./state.js";
 import { counted } from "./words.js";
@@ -21,6 +21,9 @@ const CONTEXT = 12;
 // the name of a file for the program
 const FILE = "file";
 const importButton = () => byId("import").querySelector("button");
+
+const noneOf = (name) => ["Drop a list (CSV), a project or a job shop, or start times of the open plan.",
+  `${name} is none of them: a list has a header with duration, or with order and machine.`];
 
 async function bytesOf(file) {
   const isLarge = file.size > LARGEST_FILE;
@@ -37,7 +40,7 @@ async function bytesOf(file) {
 // what a command prints, or its error
 async function triedTo(words, bytes) {
   try {
-    return { text: await printed([...words, FILE], { [FILE]: bytes }) };
+    return await printedWith([...words, FILE], { [FILE]: bytes });
   } catch (fault) {
     if (!(fault instanceof Refusal)) throw fault;
     return { fault };
@@ -67,6 +70,10 @@ async function isShop(bytes) {
   return printed(words, { [FILE]: bytes }).then(() => true, () => false);
 }
 
+// the first word of start times, or of a table or JSON that has them; and the two sizes of a job shop
+const STARTS = /^\s*(\d|\{|"?(act|job|id|optimal|between|budget|makespan)\b)/;
+const SIZES = /^[ \t]*\d+[ \t]+\d+[ \t]*\r?$/m;
+
 // what a file is: `list` is set for a list, `instances` for a job shop
 async function recognized({ name, bytes, text, given }) {
   const isProject = /^\s*PRECEDENCE RELATIONS/m.test(text) || /\.sm$/i.test(name);
@@ -74,9 +81,9 @@ async function recognized({ name, bytes, text, given }) {
   // a schedule that was saved as CSV
   const isSaved = page.plan && list?.fault && /^[^\n]*\bstart\b/.test(text);
   const instances = isProject || list ? [] : await instancesOf(bytes);
-  const isStarts = isSaved
-    || (page.plan && !isProject && !list && !instances.length && !(await isShop(bytes)));
-  return { isProject, list, instances, isStarts };
+  const isOther = !isProject && !list && !instances.length && !(await isShop(bytes));
+  const isStarts = isSaved || (page.plan && isOther && STARTS.test(text));
+  return { isProject, list, instances, isStarts, isNothing: isOther && !isStarts && !SIZES.test(text) };
 }
 
 /** Takes a file, and sends it at once if it is plain what it is. */
@@ -104,8 +111,9 @@ export async function takeBytes({ name, bytes, text, given = new Map(), replaces
     fill("import-answer", ...faultNodes(fault));
     return null;
   }
-  const { isProject, list, instances, isStarts } = taken;
+  const { isProject, list, instances, isStarts, isNothing } = taken;
   if (isStarts) return takeStarts(text);
+  if (isNothing) return fill("import-answer", refusalNode("", { meaning: noneOf(name) }));
   page.file = taken;
   const { instance } = byId("import").elements;
   put("chosen-name", `${name}, ${bytes.length.toLocaleString("en")} bytes`);
@@ -120,6 +128,7 @@ export async function takeBytes({ name, bytes, text, given = new Map(), replaces
 
 export function forgetFile() {
   page.file = null;
+  byId("desk").removeAttribute("data-list");
   byId("chosen").hidden = byId("preview").hidden = byId("edit").hidden = true;
   fill("preview");
   fill("capacities");
@@ -131,6 +140,7 @@ export function forgetFile() {
 async function showList() {
   const { file } = page, { fault, text, isProject } = file.list;
   byId("preview").hidden = false;
+  byId("desk").toggleAttribute("data-list", true);
   await showEdit(file);
   importButton().hidden = Boolean(fault);
   fill("preview", ...(fault ? faultyNodes(file, fault.message)
@@ -163,14 +173,19 @@ function capacityNode(name, value) {
   return make("label", {}, `Capacity of ${name}`, input);
 }
 
-const previewNodes = (name, kind, parts, table) => [
-  tell(`${name} becomes a ${kind} of ${parts}. Look at it, then import it.`),
+// the program's note on columns that it ignores, or on the letters of the file
+const noteNodes = (note) => (note ? [say(note.replace(/^ignored columns:/,
+  "These columns are no crews, because no capacity is given, and are ignored:"), { class: "hint" })] : []);
+
+const previewNodes = (name, kind, parts, table, note) => [
+  tell(`${name} becomes a ${kind} of ${parts}. Change the list, or make the plan.`),
+  ...noteNodes(note),
   make("details", {}, make("summary", {}, "As the program reads it"),
     wideNode(`The ${kind}`, tableNode({ label: `The ${kind}`, ...table }))),
 ];
 
 // the first and the last activity of the project aren't rows of the list
-function projectNodes({ name }, { durations, arcs, needs, ids, names, resources, capacities }) {
+function projectNodes({ name, list: { note } }, { durations, arcs, needs, ids, names, resources, capacities }) {
   const last = durations.length - 1;
   const inner = arcs.filter(({ from, to }) => from > 0 && to < last);
   const idOf = (number) => ids.get(number) ?? number;
@@ -178,16 +193,15 @@ function projectNodes({ name }, { durations, arcs, needs, ids, names, resources,
   const caps = [...resources].map(([number, words]) => `${words} ${capacities[number - 1]}`);
   const rows = durations.map((duration, at) => [idOf(at + 1), names.get(at + 1) ?? "", duration,
     before(at).join(" "), ...[...resources.keys()].map((number) => needs[at][number - 1])]);
-  return previewNodes(name, "project", `${counted(last - 1, "activity", "activities")}, with a `
-    + `start and an end around them, ${counted(inner.length, "arc")} and ${
-      counted(resources.size, "resource")}`, {
+  return previewNodes(name, "project", `${counted(last - 1, "activity", "activities")}, with ${
+    counted(inner.length, "link")} between them and ${counted(resources.size, "resource")}`, {
     caption: caps.length && `Capacities: ${caps.join(", ")}`,
     heads: [ids.size ? "id" : "number", "name", "duration", "predecessors", ...resources.values()],
     rows: rows.slice(1, -1),
-  });
+  }, note);
 }
 
-async function shopNodes({ name }, text) {
+async function shopNodes({ name, list: { note } }, text) {
   const { rows } = tableOf(await printed(["shop", "spt", FILE, "shop"], { [FILE]: text }));
   const { names, resources } = readShop(text, "shop");
   const wordsOf = ({ mach, d }) => `${resources.get(mach)} ${d}`;
@@ -196,7 +210,7 @@ async function shopNodes({ name }, text) {
     heads: ["job", "order", "steps"],
     rows: [...names].map(([job, order]) => [job, order,
       rows.filter((row) => row.job === job).map(wordsOf).join(", ")]),
-  });
+  }, note);
 }
 
 const lineIn = (message) => Number(message.match(/\bline (\d+)/)?.[1] ?? 0);
@@ -340,4 +354,10 @@ async function instanceIn(bytes, { kind, schedules }, instances) {
   return undefined;
 }
 
-export const letImport = () => onSubmit("import", importFile);
+export function letImport() {
+  onSubmit("import", importFile);
+  byId("close-list").onclick = () => {
+    forgetFile();
+    byId(page.plan ? "plan-head" : "plans-head").focus();
+  };
+}

@@ -47,8 +47,10 @@ const MESSAGES = {
     + "a list of orders has order, and then pairs of machine and time."],
   T4: ({ word }) => [`Rename or delete one of the two columns ${word}.`,
     "They have the same header, or two words for one column."],
-  T5: ({ row }) => [`Write a whole number as the duration of ${row}.`,
-    `${CELL} For fractions use a finer time unit, for example hours.`],
+  T5: ({ row }) => (/^capacit/i.test(row)
+    ? ["Add a column with the header id, and write capacity there.", "A row of capacities has no duration."]
+    : [`Write a whole number as the duration of ${row}.`,
+      `${CELL} For fractions use a finer time unit, for example hours.`]),
   T6: ({ row }) => [`Give ${row} an id of at most 32 characters.`,
     "An id has no blank, comma or semicolon. An order and a machine need a name."],
   T7: ({ row, word }) => [`Give ${row} another id.`, `An earlier row has the id ${word} too.`],

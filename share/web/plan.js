@@ -31,6 +31,7 @@ export async function openPlan(n) {
   const drawn = !isNew && RULES[kind].includes(page.plan.drawn) ? page.plan.drawn : RULES[kind][0];
   const plan = { n, kind, drawn, schedules: new Map(), days: new Map() };
   page.plan = plan;
+  byId("desk").removeAttribute("data-list");
   visitPlace(n);
   markOpen();
   awaitPlan(isNew);

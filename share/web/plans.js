@@ -38,6 +38,7 @@ export function showPlans() {
   fill("plans", rows.length ? tableNode({ label: "Plans", heads, rows })
     : say("No plans yet. Drop a file, or start with an example."));
   byId("start").classList.toggle("alone", rows.length > 0);
+  byId("save-all").hidden = !rows.length;
   if (value) byId("plans").querySelector(`[value="${value}"]`)?.focus();
   markOpen();
 }

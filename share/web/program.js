@@ -82,16 +82,20 @@ function outputOf({ status, output, errors }) {
 let common = null;
 let waiting = Promise.resolve();
 
-/** Runs a command with named files, after all earlier ones. Returns what it prints; its error is a
- * refusal. */
-export async function printed(words, files = {}) {
+/** Runs a command with named files, after all earlier ones. Returns what it prints, and its line on
+ * standard error; its error is a refusal. */
+export async function printedWith(words, files = {}) {
   const answer = waiting.then(() => called(common ??= newWorker(), words, files));
   waiting = answer.catch(() => {
     common?.terminate();
     common = null;
   });
-  return outputOf(await answer);
+  const done = await answer;
+  return { text: outputOf(done), note: lineOf(done.errors) };
 }
+
+/** Runs a command with named files. Returns what it prints; its error is a refusal. */
+export const printed = async (words, files) => (await printedWith(words, files)).text;
 
 /** Runs a command that takes long, in a worker of its own. `told` gets its lines of progress.
  * Returns null if `signal` ends it. */

@@ -723,8 +723,7 @@ def visit_table(browser):
     same("a button", browser.run("return document.querySelector('#chosen button').checkVisibility()"),
          False)
     drop(browser, "list.csv", text)
-    wait_text(browser, "#preview", "a project of 4 activities, with a start and an end around them, "
-              "4 arcs and 2 resources")
+    wait_text(browser, "#preview", "a project of 4 activities, with 4 links between them and 2 resources")
     wanted = [["id", "name", "duration", "predecessors", "crew", "digger"],
               ["A", "Excavation", "4", "", "3", "1"], ["B", "Foundation", "6", "A", "5", "0"],
               ["C", "Drains", "3", "A", "2", "1"], ["D", "Walls, north", "10", "B C", "4", "0"]]
