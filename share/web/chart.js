@@ -147,7 +147,7 @@ function useSvg(steps, resource, capacity, name, scale, width, total) {
   });
   return draw("svg", { viewBox: `0 0 ${width} ${USE}`, role: "img",
     "aria-label": `Use of ${name}, capacity ${capacity}` },
-  textNode("name", 4, 16, shortened(name, left - 12)), textNode("time", 4, 32, `of ${capacity}`),
+  textNode("name", 4, 16, shortened(name, left - 12)), textNode("time", 4, 37, `of ${capacity}`),
   lineNode("thread", left, y(0), right, y(0)), ...blocks,
   lineNode("most", left, y(capacity), right, y(capacity)));
 }

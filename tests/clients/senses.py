@@ -117,7 +117,9 @@ def same_senses(what, browser):
     same(f"what is missing in {what}", browser.run(FORMS), [])
     found = tree(browser)
     same(f"roles without a name in {what}", [role for role, name in found if role in NAMED and not name], [])
-    same(f"landmarks of {what}", [role for role, _ in found if role in ("banner", "main")], ["banner", "main"])
+    # behind an open panel nothing is read
+    wanted = [] if any(role == "dialog" for role, _ in found) else ["banner", "main"]
+    same(f"landmarks of {what}", [role for role, _ in found if role in ("banner", "main")], wanted)
 
 
 def same_order(what, browser, title):

@@ -1252,6 +1252,8 @@ def printed_texts(browser):
     texts is on the sheet."""
     browser.devtools("Emulation.setEmulatedMedia", media="print", features=[])
     browser.run("dispatchEvent(new Event('beforeprint'))")
+    same("what can't be pressed on paper", browser.run("return [...document.querySelectorAll('button, input, select')]"
+         ".filter((node) => node.checkVisibility()).map((node) => node.textContent || node.name)"), [])
     value = browser.run("""
         return [...document.querySelectorAll("#paper .sheet")].map((sheet) => [
             sheet.querySelectorAll(".bar[data-line]").length, sheet.querySelectorAll("tbody tr").length,
