@@ -5,7 +5,7 @@ import { page } from "./state.js";
 
 const MOST_MILLISECONDS = 90000;
 const WORDS_IN_FRONT = {
-  403: "Open this page from a computer that the office admits: this address isn't open from here (403).",
+  403: "Open this page from a computer that the office admits: it isn't open from here (403).",
   404: "Reload the page: there is no such address (404).",
   413: "Split the file: an office takes at most 1,048,576 bytes (413).",
   429: "Wait a moment, and try again: too many requests came in a short time (429).",
@@ -65,7 +65,7 @@ export async function ask(path, method = "GET", body = undefined) {
 export async function command(path, method, body) {
   if (page.isUnsure) {
     await hooks.unsure();
-    throw new Refusal("First look whether it has been done already: nothing was sent.");
+    throw new Refusal("Look first whether it has been done already: nothing was sent.");
   }
   return ask(path, method, body instanceof Blob ? body : body && JSON.stringify(body));
 }

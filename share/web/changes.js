@@ -117,8 +117,8 @@ function showLag(plan, lags) {
   const delayed = showSet("lag-set", lags,
     ({ at, lag }) => `${arcLabels(plan, ...at.split("-")).join(" to ")}: ${lag}`);
   const { from, to, lag } = byId("lag").elements;
-  const labels = namesIn(plan);
-  const options = () => optionNodes(lastOf(plan), 1, (at) => activityLabel(labels, at, lastOf(plan)));
+  const labels = namesIn(plan), last = lastOf(plan);
+  const options = () => optionNodes(last, 1, (at) => activityLabel(labels, at, last));
   const isAfter = ({ value }) => !plan.model || plan.model.arcs.some((arc) =>
     arc.from + 1 === Number(from.value) && arc.to + 1 === Number(value));
   from.onchange = () => to.replaceChildren(...options().filter(isAfter));

@@ -41,8 +41,8 @@ export function tableNode({ label, caption, heads, rows, foot, marks = [] }) {
     ...(foot ? [make("tfoot", {}, row(foot))] : []));
 }
 
-/** Returns an error: what to do, then what is wrong, and the line of the program. `meaning` and `why`
- * replace the sentences of its code, and `labels` name what the line numbers. */
+/** Returns an error: what to do, then what is wrong, and the line of the program. `meaning` and
+ * `why` replace the sentences of its code, and `labels` name what the line numbers. */
 export function refusalNode(line, { meaning, why, labels } = {}) {
   const isCoded = /^[A-Z]\d+\b/.test(line);
   const [first = line, second] = meaning ?? (isCoded ? sentencesOf(line, labels) : []);
@@ -56,7 +56,10 @@ export function faultNodes(fault) {
   const { message, more = [] } = fault;
   const labels = fault.labels ?? page.plan?.labels;
   if (fault instanceof Refusal) return [refusalNode(message, { ...fault, labels }), ...more];
-  if (fault instanceof Lost) return [make("div", { class: "unanswered" }, refusalNode(message))];
+  if (fault instanceof Lost) {
+    const meaning = ["Try again, once the network is back.", message];
+    return [make("div", { class: "unanswered" }, refusalNode("", { meaning }))];
+  }
   return [refusalNode(`Reload the page, and report this: ${fault}`)];
 }
 

@@ -27,7 +27,8 @@ const rowsFor = ({ rows, isNamed, dates }, nameOf, keysOf) => rows.map((row) => 
 
 const keysOf = ({ id, number: act, job, step, machine: mach }) =>
   (id ? { id } : act ? { act } : { job, step, mach });
-const allKeysOf = ({ id, number: act, ...row }) => (id ? { act, id } : keysOf({ number: act, ...row }));
+const allKeysOf = ({ id, number: act, ...row }) =>
+  (id ? { act, id } : keysOf({ number: act, ...row }));
 
 // a cell also has a name in words
 const WORDS = { act: "activity", mach: "machine", d: "duration", first: "first_day", last: "last_day" };

@@ -22,18 +22,22 @@ const CONTEXT = 12;
 const FILE = "file";
 const importButton = () => byId("import").querySelector("button");
 
-const noneOf = (name) => ["Drop a list (CSV), a project or a job shop, or start times of the open plan.",
-  `${name} is none of them: a list has a header with duration, or with order and machine.`];
+const noneOf = (name) => [
+  "Drop a list (CSV), a project or a job shop, or start times of the open plan.",
+  `${name} is none of them: a list has a header with duration, or with order and machine.`,
+];
 
 async function bytesOf(file) {
   const isLarge = file.size > LARGEST_FILE;
   const content = isLarge ? null : await file.arrayBuffer().catch(() => null);
   const isWorkbook = content && new TextDecoder().decode(content.slice(0, 4)) === "PK\x03\x04";
   if (content && !isWorkbook) return new Uint8Array(content);
-  const words = isLarge ? [`Split ${file.name}, or delete rows.`, "It has more than 1,048,576 bytes."]
-    : isWorkbook ? [`Save the sheet of ${file.name} as CSV (UTF-8), and drop that.`, "It is a workbook."]
-      : [`Choose ${file.name} again.`, "It can't be read."];
-  fill("import-answer", refusalNode("", { meaning: [words[0], `${words[1]} Nothing was sent.`] }));
+  const { name } = file;
+  const [first, second] = isLarge
+    ? [`Split ${name}, or delete rows.`, "It has more than 1,048,576 bytes."]
+    : isWorkbook ? [`Save the sheet of ${name} as CSV (UTF-8), and drop that.`, "It is a workbook."]
+      : [`Choose ${name} again.`, "It can't be read."];
+  fill("import-answer", refusalNode("", { meaning: [first, `${second} Nothing was sent.`] }));
   return null;
 }
 
@@ -70,7 +74,7 @@ async function isShop(bytes) {
   return printed(words, { [FILE]: bytes }).then(() => true, () => false);
 }
 
-// the first word of start times, or of a table or JSON that has them; and the two sizes of a job shop
+// the first word of start times, or of a table or JSON that has them; the two sizes of a job shop
 const STARTS = /^\s*(\d|\{|"?(act|job|id|optimal|between|budget|makespan)\b)/;
 const SIZES = /^[ \t]*\d+[ \t]+\d+[ \t]*\r?$/m;
 
@@ -83,7 +87,8 @@ async function recognized({ name, bytes, text, given }) {
   const instances = isProject || list ? [] : await instancesOf(bytes);
   const isOther = !isProject && !list && !instances.length && !(await isShop(bytes));
   const isStarts = isSaved || (page.plan && isOther && STARTS.test(text));
-  return { isProject, list, instances, isStarts, isNothing: isOther && !isStarts && !SIZES.test(text) };
+  const isNothing = isOther && !isStarts && !SIZES.test(text);
+  return { isProject, list, instances, isStarts, isNothing };
 }
 
 /** Takes a file, and sends it at once if it is plain what it is. */
@@ -174,8 +179,9 @@ function capacityNode(name, value) {
 }
 
 // the program's note on columns that it ignores, or on the letters of the file
-const noteNodes = (note) => (note ? [say(note.replace(/^ignored columns:/,
-  "These columns are no crews, because no capacity is given, and are ignored:"), { class: "hint" })] : []);
+const noteNodes = (note) => [note.replace(/^ignored columns:/,
+  "These columns are no crews, because no capacity is given, and are ignored:")]
+  .filter(Boolean).map((words) => say(words, { class: "hint" }));
 
 const previewNodes = (name, kind, parts, table, note) => [
   tell(`${name} becomes a ${kind} of ${parts}. Change the list, or make the plan.`),
@@ -185,7 +191,8 @@ const previewNodes = (name, kind, parts, table, note) => [
 ];
 
 // the first and the last activity of the project aren't rows of the list
-function projectNodes({ name, list: { note } }, { durations, arcs, needs, ids, names, resources, capacities }) {
+function projectNodes({ name, list: { note } }, project) {
+  const { durations, arcs, needs, ids, names, resources, capacities } = project;
   const last = durations.length - 1;
   const inner = arcs.filter(({ from, to }) => from > 0 && to < last);
   const idOf = (number) => ids.get(number) ?? number;
@@ -248,7 +255,8 @@ async function importFile(fields) {
   const instance = list && !isProject ? "shop" : fields.instance || "-";
   const path = isProject ? deskPath("projects") : shopPath(instance);
   if (!path) {
-    throw new Refusal("Rename the instance in the file: a name that is sent has no blank, no / and no %.");
+    throw new Refusal("Rename the instance in the file: a name that is sent has no blank, no / and "
+      + "no %.");
   }
   const bytes = list ? new TextEncoder().encode(list.text) : file.bytes;
   let made;

@@ -3,8 +3,8 @@
 
 export const named = (number, name) => (name ? `${number} ${name}` : `${number}`);
 
-/** Returns the label of an activity; `labels` has the ids and names by number. The start and the end
- * of a file with ids have none. */
+/** Returns the label of an activity; `labels` has the ids and names by number. The start and the
+ * end of a file with ids have none. */
 export function activityLabel({ ids, names }, number, last) {
   if (ids[number] || !Object.keys(ids).length) return named(ids[number] ?? number, names[number]);
   return { 1: "the start", [last]: "the end" }[number] ?? named(number, names[number]);

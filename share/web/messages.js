@@ -1,5 +1,5 @@
-// What the page says of an error: in the first sentence what to do, then what is wrong, with the ids
-// and names of the plan. share/web/explain compares the codes and the numbers with `plan explain`.
+// What the page says of an error: in the first sentence what to do, then what is wrong, with the
+// ids and names of the plan. share/web/explain compares codes and numbers with `plan explain`.
 
 import { activityLabel, machineLabel, resourceLabel } from "./labels.js";
 
@@ -22,14 +22,17 @@ const MESSAGES = {
     `Line ${line} has another number.`],
   F7s: ({ line }) => ["Give each activity one row, with its own id or number, duration and end.",
     `In line ${line} of the start times one of them is unknown, repeated or wrong.`],
-  F8: ({ line }) => ["Give each job one mode.", `Line ${line} has another number of modes, or mode.`],
+  F8: ({ line }) => ["Give each job one mode.",
+    `Line ${line} has another number of modes, or another mode.`],
   F9: ({ line }) => ["Compare the counts in the file with its rows.",
     `In line ${line} a word is missing or too many.`],
-  F9s: ({ line, count }) => [`Give one start time for each activity or step, ${count}in their order.`,
+  F9s: ({ line, count }) => [
+    `Give one start time for each activity or step, ${count}in their order.`,
     `In line ${line} of the start times one is missing or too many.`],
-  F10: ({ line }) => ["Choose a coarser time unit, or split the project.", `A number in line ${line} is `
-    + "out of range. Projects: 2 to 502 jobs, 1 to 16 resources. Shops: 1 to 50 jobs, 1 to 20 machines. "
-    + "Durations and amounts: up to 10,000; all durations together up to 1,000,000."],
+  F10: ({ line }) => ["Choose a coarser time unit, or split the project.",
+    `A number in line ${line} is out of range. Projects: 2 to 502 jobs, 1 to 16 resources. Shops: `
+    + "1 to 50 jobs, 1 to 20 machines. Durations and amounts: up to 10,000; all durations together "
+    + "up to 1,000,000."],
   F10s: ({ line }) => ["Choose a coarser time unit.",
     `A start time in line ${line} is above 10,000,000.`],
   F11: ({ line }) => [`Delete the successor that is twice in line ${line}.`,
@@ -43,12 +46,13 @@ const MESSAGES = {
   T1: () => ["Delete rows, or split the list.", "It is larger than 1,048,576 bytes."],
   T2: ({ line }) => ["Save the list as CSV UTF-8, and delete line breaks in names.",
     `Line ${line} isn't plain text.`],
-  T3: ({ word }) => [`Add a column with the header ${word}.`, "A list of activities needs duration; "
-    + "a list of orders has order, and then pairs of machine and time."],
+  T3: ({ word }) => [`Add a column with the header ${word}.`, "A list of activities needs "
+    + "duration; a list of orders has order, and then pairs of machine and time."],
   T4: ({ word }) => [`Rename or delete one of the two columns ${word}.`,
     "They have the same header, or two words for one column."],
   T5: ({ row }) => (/^capacit/i.test(row)
-    ? ["Add a column with the header id, and write capacity there.", "A row of capacities has no duration."]
+    ? ["Add a column with the header id, and write capacity there.",
+      "A row of capacities has no duration."]
     : [`Write a whole number as the duration of ${row}.`,
       `${CELL} For fractions use a finer time unit, for example hours.`]),
   T6: ({ row }) => [`Give ${row} an id of at most 32 characters.`,
@@ -62,10 +66,12 @@ const MESSAGES = {
     "If the column isn't a resource, delete it or its header."],
   T11: ({ cycle }) => [`Delete one predecessor of the cycle ${cycle}.`,
     "Each of these rows precedes the next, and the last precedes the first."],
-  T12: ({ place }) => ["Choose a coarser time unit, or split the project.", `In ${place} a limit is `
-    + "exceeded: 1 to 500 rows, 16 resources, durations and amounts up to 10,000, all durations together "
-    + "up to 1,000,000, names up to 200 bytes. In a list of orders: 1 to 50 orders, 1 to 20 machines."],
-  T13: ({ line }) => [`Delete the extra cells of line ${line}, or close the quote that opens there.`,
+  T12: ({ place }) => ["Choose a coarser time unit, or split the project.",
+    `In ${place} a limit is exceeded: 1 to 500 rows, 16 resources, durations and amounts up to `
+    + "10,000, all durations together up to 1,000,000, names up to 200 bytes. In a list of orders: 1 "
+    + "to 50 orders, 1 to 20 machines."],
+  T13: ({ line }) => [
+    `Delete the extra cells of line ${line}, or close the quote that opens there.`,
     "A cell with a separator needs quotes around it."],
   T14: ({ word }) => [`Give the column ${word} its name again, or enter the capacities again.`,
     "A capacity was entered for it, and the list has no such column."],
@@ -77,9 +83,11 @@ const MESSAGES = {
   T19: ({ row, word, capacity }) => [`Raise the capacity of ${word}, or lower what ${row} needs.`,
     `It needs more than the capacity ${capacity}, so it can never start.`],
 
-  S1: ({ activity, resource }) => [`Raise the capacity of ${resource}, or lower what ${activity} needs.`,
+  S1: ({ activity, resource }) => [
+    `Raise the capacity of ${resource}, or lower what ${activity} needs.`,
     `Activity ${activity} needs more of it than its capacity, so it can never start.`],
-  S4: ({ machine }) => [`Bind ${machine} to another code under Changes, or ask the office to open it.`,
+  S4: ({ machine }) => [
+    `Bind ${machine} to another code under Changes, or ask the office to open it.`,
     "Its code has the capacity 0, and a step that takes time needs it."],
   S5: () => ["Add the file of this plan below: then this page searches, for as long as you like.",
     "The office searches plans of at most 40 activities or 100 steps."],
@@ -113,8 +121,10 @@ const MESSAGES = {
 };
 
 const VERDICTS = [
-  [/^activity (\d+) starts before (\d+) ends$/, ({ activity }, first, second) =>
-    [`Start ${activity(first)} later.`, `It starts before ${activity(second)} ends.`]],
+  [/^activity (\d+) starts before (\d+) ends$/, ({ activity, lagOf }, first, second) =>
+    [`Start ${activity(first)} later.`, lagOf(second, first)
+      ? `It starts before the lag of ${lagOf(second, first)} behind ${activity(second)} is over.`
+      : `It starts before ${activity(second)} ends.`]],
   [/^at time (\d+) more of resource (\d+) is needed than there is$/, ({ resource }, time, number) =>
     [`Start an activity that needs ${resource(number)} at time ${time} later.`,
       "More of it is needed then than there is."]],
@@ -124,11 +134,11 @@ const VERDICTS = [
     [`Start a step on ${machine(number)} at time ${time} later.`, "More than one is on it then."]],
   [/^activity (\d+) can start earlier$/, ({ activity }, number) =>
     [`Start ${activity(number)} earlier, if you like.`,
-      "The schedule is feasible. All others fixed, it could start earlier."]],
+      "All others fixed, it could start earlier."]],
   [/^step (\d+) of job (\d+) can start earlier$/, ({ job }, step, number) =>
     [`Start step ${step} of ${job(number)} earlier, if you like.`,
-      "The schedule is feasible. All others fixed, it could start earlier."]],
-  [/^active$/, () => ["Keep it, if you like.", "Feasible, and nothing can start earlier by itself."]],
+      "All others fixed, it could start earlier."]],
+  [/^active$/, () => ["Keep it, if you like.", "Nothing can start earlier by itself."]],
 ];
 
 const NONE = { ids: {}, names: {}, resources: {} };
@@ -136,7 +146,8 @@ const NONE = { ids: {}, names: {}, resources: {} };
 function namersOf(labels) {
   const number = (name) => (words) => name(labels, Number(words), labels.count);
   return { activity: number(activityLabel), resource: number(resourceLabel),
-    machine: number(machineLabel), job: (job) => (labels.names[job] ? labels.names[job] : `job ${job}`) };
+    machine: number(machineLabel), lagOf: (from, to) => labels.lags?.[`${from}-${to}`],
+    job: (job) => (labels.names[job] ? labels.names[job] : `job ${job}`) };
 }
 
 /** Returns what to do about a verdict of `plan check`, and what it means. */
@@ -148,21 +159,25 @@ export function verdictWords(line, labels = NONE) {
   return ["Correct the start times.", line];
 }
 
-const WORD_PATTERNS = [/^T3 no column (.*)$/, /^T4 column (.*) twice$/, / id (.*) twice$/, / predecessor (.*)$/,
+const WORD_PATTERNS = [
+  /^T3 no column (.*)$/, /^T4 column (.*) twice$/, / id (.*) twice$/, / predecessor (.*)$/,
   / need (.*) above \d+$/, / need (.*)$/, /^T10 no capacity (.*)$/, /^T14 no resource (.*)$/,
-  /^T15 steps (.*)$/, /^T16 column (.*)$/];
+  /^T15 steps (.*)$/, /^T16 column (.*)$/,
+];
 
 // what an error line names
 function valuesIn(line, labels) {
   const { activity, resource, machine } = namersOf(labels);
   const word = (pattern) => line.match(pattern)?.[1];
   const named = (name, pattern) => (word(pattern) ? name(word(pattern)) : "");
-  const number = word(/\bline (\d+)/) ?? "0";
+  const number = word(/\bline (\d+)/) ?? "0", ownLine = `line ${number}`;
   const isList = /^T\d/.test(line);
   const cycle = word(/\bcycle (.*)$/)?.split(" ").map((one) => (isList ? one : activity(one)));
   return {
-    line: number, place: number === "0" ? "the list" : `line ${number}`, row: labels.rows?.[number] || `line ${number}`,
-    word: WORD_PATTERNS.map(word).find(Boolean), capacity: word(/ above (\d+)$/), cycle: cycle?.join(", "),
+    line: number, place: number === "0" ? "the list" : ownLine,
+    row: labels.rows?.[number] || ownLine,
+    word: WORD_PATTERNS.map(word).find(Boolean), capacity: word(/ above (\d+)$/),
+    cycle: cycle?.join(", "),
     activity: named(activity, /\bactivity (\d+)/), resource: named(resource, /\bresource (\d+)/),
     machine: named(machine, /\bmachine (\d+)/), count: labels.count ? `${labels.count} ` : "",
     verdict: verdictWords(word(/\bS10 (.*)$/) ?? "", labels),
@@ -172,7 +187,8 @@ function valuesIn(line, labels) {
 /** Returns the sentences on an error line, by its last code that has some: what to do, and what is
  * wrong. Returns none for a line without such a code. */
 export function sentencesOf(line, labels = NONE) {
-  const codes = (line.replace(/\bS10 .*$/, "S10").match(/\b[A-Z]\d+\b/g) ?? []).filter((code) => MESSAGES[code]);
+  const found = line.replace(/\bS10 .*$/, "S10").match(/\b[A-Z]\d+\b/g) ?? [];
+  const codes = found.filter((code) => MESSAGES[code]);
   const last = line.startsWith("T") ? codes[0] : codes.at(-1);
   if (!last) return [];
   const own = /of the starts\b/.test(line) && MESSAGES[`${last}s`] ? `${last}s` : last;

@@ -152,10 +152,10 @@ export const showPaper = () => view && fillPaper(view);
 
 function showDayNote(plan) {
   const refusal = [...plan.days.values()].find((days) => days instanceof Refusal);
-  const words = !refusal ? "Set the calendar under Changes to see dates of this schedule: it wasn't set "
-    + "on this computer."
+  const words = !refusal ? "Set the calendar under Changes to see dates of this schedule: it "
+    + "wasn't set on this computer."
     : refusal.message.endsWith("G4 no calendar")
-      && "Set a calendar under Changes to see dates: times are units of working time, counted from 0.";
+      && "Set a calendar under Changes to see dates: times are units of working time, from 0 on.";
   fill("days", ...(view.dates ? [] : words ? [say(words)] : faultNodes(refusal)));
 }
 

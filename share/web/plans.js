@@ -145,7 +145,8 @@ export function noteLost(words, method) {
     ? "A command was on its way, and it isn't known whether it was carried out. "
       + "Nothing is sent again before the office has been asked."
     : "Nothing has changed. The page shows what was answered before.";
-  put("lost-words", `Ask again, once the network is back: the connection is lost. ${words} ${meaning}`);
+  const advice = "Ask again, once the network is back: the connection is lost.";
+  put("lost-words", `${advice} ${words} ${meaning}`);
   byId("lost").hidden = false;
   put("news", "");
 }

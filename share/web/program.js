@@ -73,8 +73,10 @@ function lineOf(errors) {
 }
 
 function outputOf({ status, output, errors }) {
-  if (status === MODULE_STOPPED) throw new Refusal("Close other pages, and try again: the program was stopped, "
-    + "perhaps for want of memory.");
+  if (status === MODULE_STOPPED) {
+    throw new Refusal("Close other pages, and try again: the program was stopped, perhaps because "
+      + "memory ran out.");
+  }
   if (status !== 0) throw new Refusal(lineOf(errors));
   return textOf(output);
 }

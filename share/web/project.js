@@ -1,5 +1,5 @@
-// Project and job shop files as far as the page shows them: names, titles, and of a project its ids,
-// needs and arcs. The program is the judge of a file; it also reads lists and start times.
+// Project and job shop files as far as the page shows them: names, titles, and of a project its
+// ids, needs and arcs. The program is the judge of a file; it also reads lists and start times.
 
 // the program writes it in the place of a title
 const IMPORTED = "plan import";
@@ -29,7 +29,9 @@ function sectionsOf(text, title) {
 const wordsIn = (text, title) =>
   (sectionsOf(text, title)[0] ?? []).slice(1).flatMap((line) => line.split(/\s+/)).map(Number);
 
-const PLACES = { id: "ids", name: "names", job: "names", resource: "resources", machine: "resources" };
+const PLACES = {
+  id: "ids", name: "names", job: "names", resource: "resources", machine: "resources",
+};
 
 // the first line of a number counts
 function namesBy(pattern, lines) {

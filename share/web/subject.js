@@ -120,7 +120,8 @@ export async function slackOf({ model, subject: { files } }, starts) {
 
 // in JSON the activities without an id would be left out
 async function comparedTo({ words: [file, ...instance], files }, starts) {
-  const text = await printed(["compare", file, "starts", "starts", ...instance], { ...files, starts });
+  const words = ["compare", file, "starts", "starts", ...instance];
+  const text = await printed(words, { ...files, starts });
   const [, total, line] = text.match(/^A makespan (\d+): (.*)$/m);
   return { line, total: Number(total), starts: tableOf(text).rows.map(({ A }) => A) };
 }
@@ -128,13 +129,14 @@ async function comparedTo({ words: [file, ...instance], files }, starts) {
 const withoutLags = (model, names) =>
   projectText({ ...model, arcs: model.arcs.map((arc) => ({ ...arc, lag: 0 })) }, names);
 
-/** Returns by the number of an activity its resources and predecessors in the ids of its file, as the
- * program prints them; null without ids. */
+/** Returns by the number of an activity its resources and predecessors in the ids of its file, as
+ * the program prints them; null without ids. */
 export async function describedBy(model, names) {
   if (!Object.keys(names.ids).length) return null;
   const words = ["schedule", "num", "--format", "json", "plan.sm"];
   const { rows } = JSON.parse(await printed(words, { "plan.sm": withoutLags(model, names) }));
-  return new Map(rows.map(({ act, resources, predecessors }) => [act, { resources, predecessors }]));
+  return new Map(rows.map(({ act, resources, predecessors }) =>
+    [act, { resources, predecessors }]));
 }
 
 /** Returns a verdict with the activity before a lag in the place of the lag's own. */

@@ -30,7 +30,8 @@ export function compare(a, b) {
 
 function scheduleTable(view, rows, titleOf, words) {
   const columns = columnsOf(view);
-  const classOf = (head) => (head === "id" || view.isNamed) && /^(id|name|job|machine)$/.test(head) && "words";
+  const isText = (head) => head === "id" || (view.isNamed && /^(name|job|machine)$/.test(head));
+  const classOf = (head) => isText(head) && "words";
   const cells = (row) => columns.map((head, at) =>
     make(at ? "td" : "th", { class: classOf(head), scope: !at && "row" }, wordsOf(row, head)));
   return make("table", {}, make("caption", {}, words),

@@ -72,7 +72,10 @@ async function settleFile(plan) {
     return;
   }
   const { labels } = plan;
-  plan.subject = subjectOf(plan, table.rows, { ...labels, title: labels.title || `Plan ${plan.n}` });
+  labels.lags = Object.fromEntries(plan.model.arcs.map(({ from, to, lag }) =>
+    [`${from + 1}-${to + 1}`, lag]));
+  const title = labels.title || `Plan ${plan.n}`;
+  plan.subject = subjectOf(plan, table.rows, { ...labels, title });
   try {
     await settleModel(plan);
   } catch (fault) {
@@ -84,8 +87,8 @@ async function settleFile(plan) {
 async function settleModel(plan) {
   if (!(await agrees(plan))) {
     plan.model = null;
-    plan.note = "Bind or set the lag here too to see slack: the office's plan differs from the file, "
-      + "because somebody bound a resource or set a lag elsewhere.";
+    plan.note = "Bind or set the lag here too to see slack: the office's plan differs from the "
+      + "file, because somebody bound a resource or set a lag elsewhere.";
     return;
   }
   plan.described = await describedBy(plan.model, plan.labels);
@@ -125,7 +128,7 @@ export function nameOf(plan, rule) {
   return `${RULE_NAMES[rule] ?? rule} ${total}${verdict}`;
 }
 
-/** Returns the title, the ids and the names of a plan; none if they were remembered of other rows. */
+/** Returns the title, ids and names of a plan; none if they were remembered of other rows. */
 export function namesIn({ n, schedules }) {
   const { title = "", names = {}, resources = {}, shape } = recordOf(n);
   const [table] = schedules.values(), project = page.projects.get(n);

@@ -67,7 +67,8 @@ export async function bringBack(plans, imported) {
       list: record.list });
     const changes = changesIn(set);
     const lost = await setAgain(n, changes);
-    told.push(`${record.title} is plan ${n}, with ${counted(changes.length - lost.length, "change")}.`);
+    const count = counted(changes.length - lost.length, "change");
+    told.push(`${record.title} is plan ${n}, with ${count}.`);
     await openPlan(n);
     refused.push(...lost.map((change) => lostNode(n, change)));
     if (/^(best|own)$/.test(schedule?.name)) await takeStarts(schedule.starts);

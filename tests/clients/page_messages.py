@@ -4,7 +4,7 @@ share/web/messages.js."""
 
 # what the labels name: activity 3 has no name, resource 2 neither
 LABELS = {"ids": {"2": "A", "3": "B", "4": "C"}, "names": {"2": "Excavation", "4": "Drains"},
-          "resources": {"1": "crew"}, "count": 5}
+          "resources": {"1": "crew"}, "count": 5, "lags": {"2-4": 7, "2-3": 0}}
 SHOP = {"ids": {}, "names": {"1": "order 4711"}, "resources": {"0": "saw"}, "count": 9}
 # a list in whose lines 3 and 4 the errors are
 LIST = "id,name,duration,predecessors,crew\nA,Dig,2,,1\nB,\"Walls, north\",x,A,1\n7,,3,B,9\ncapacity,,,,2\n"
@@ -86,5 +86,5 @@ VERDICTS = [
 ]
 SHOP_VERDICTS = [("step 2 of job 2 can start earlier", "Start step 2 of job 2 earlier, if you like.")]
 # the words with which a first sentence begins
-VERBS = ("Add Ask Bind Check Choose Compare Correct Declare Delete Enter Give Keep Look Mark Merge Number Open "
-         "Raise Rename Save Start Tell Try Write").split()
+VERBS = ("Add Ask Bind Check Choose Close Compare Correct Declare Delete Drop Enter Give Keep Look Mark Mend Merge "
+         "Number Open Raise Reload Rename Save Search Set Split Start Tell Try Wait Write").split()

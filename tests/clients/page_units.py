@@ -465,6 +465,16 @@ def try_messages(modules, draw):
     told = {re.findall(r"\b[A-Z]\d+\b", line)[0 if line[0] in "TFGS" else -1] for line, _ in wanted
             if re.match(r"[A-Z]\d", line)}
     same("codes without a line here", codes - told, set())
+    late = [["messages", "verdictWords", [f"activity {n} starts before 2 ends", page_messages.LABELS]] for n in (3, 4)]
+    same("a lag that isn't over", [words[1] for words in modules.values(late)], [
+        "It starts before A Excavation ends.", "It starts before the lag of 7 behind A Excavation is over."])
+    for path in glob.glob(os.path.join(modules.room, "*.js")):
+        with open(path, encoding="utf-8") as file:
+            text = file.read()
+        first = re.findall(r"new Refusal\((?:note \|\| )?[\"`]([A-Z]\w*) ", text)
+        first += re.findall(r"meaning(?:: | = )\[[\"`](\w+)", text)
+        same(f"verbs of {os.path.basename(path)}", [word for word in first if word not in page_messages.VERBS
+             and word != "G4"], [])
     same("a line without a code", modules.values([["messages", "sentencesOf", ["C1 unknown code"]]]), [[]])
 
 

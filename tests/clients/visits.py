@@ -832,6 +832,11 @@ def visit_need(browser, office):
     publish(5)
     same("the error then", texts(browser, "#plan-answer code"), [])
     same("its schedule", column(browser, "start"), ["0", "4", "10", "13"])
+    # a file that the page makes of the plan and its bind has the ids too
+    publish(6)
+    drop(browser, *downloaded(browser, office, "csv"))
+    wait_text(browser, "#check-answer code", "active")
+    publish(5)
     browser.click("#tab-table")
 
 
