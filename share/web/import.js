@@ -41,6 +41,18 @@ async function bytesOf(file) {
   return null;
 }
 
+// the text of a file in the letters in which the program reads a list
+function lettersOf(bytes) {
+  const [first, second] = bytes;
+  const wide = first === 0xff && second === 0xfe ? "utf-16le"
+    : first === 0xfe && second === 0xff && "utf-16be";
+  try {
+    return new TextDecoder(wide || "utf-8", { fatal: !wide }).decode(bytes);
+  } catch {
+    return new TextDecoder("windows-1252").decode(bytes);
+  }
+}
+
 // what a command prints, or its error
 async function triedTo(words, bytes) {
   try {
@@ -97,7 +109,7 @@ export async function takeFile(file) {
   fill("import-answer");
   const bytes = await bytesOf(file);
   if (!bytes) return null;
-  const text = new TextDecoder().decode(bytes);
+  const text = lettersOf(bytes);
   try {
     if (await openSaved(text)) return null;
   } catch (fault) {
@@ -179,9 +191,10 @@ function capacityNode(name, value) {
 }
 
 // the program's note on columns that it ignores, or on the letters of the file
-const noteNodes = (note) => [note.replace(/^ignored columns:/,
-  "These columns are no crews, because no capacity is given, and are ignored:")]
-  .filter(Boolean).map((words) => say(words, { class: "hint" }));
+const noteNodes = (note) => note.split("; ").filter(Boolean).map((words) => say(words
+  .replace(/^ignored columns:/,
+    "These columns are no crews, because no capacity is given, and are ignored:")
+  .replace(/^read as (.*)$/, "The list isn't in UTF-8; it is read as $1."), { class: "hint" }));
 
 const previewNodes = (name, kind, parts, table, note) => [
   tell(`${name} becomes a ${kind} of ${parts}. Change the list, or make the plan.`),
@@ -328,7 +341,7 @@ export async function takeNames(file) {
   const { plan } = page;
   const bytes = await bytesOf(file);
   if (!bytes) return null;
-  const taken = { name: file.name, bytes, text: new TextDecoder().decode(bytes), given: new Map() };
+  const taken = { name: file.name, bytes, text: lettersOf(bytes), given: new Map() };
   const { list, instances } = await recognized(taken);
   if (list?.fault) {
     const labels = rowLabels(taken.text, list.fault.message);

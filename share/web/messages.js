@@ -68,8 +68,8 @@ const MESSAGES = {
     "Each of these rows precedes the next, and the last precedes the first."],
   T12: ({ place }) => ["Choose a coarser time unit, or split the project.",
     `In ${place} a limit is exceeded: 1 to 500 rows, 16 resources, durations and amounts up to `
-    + "10,000, all durations together up to 1,000,000, names up to 200 bytes. In a list of orders: 1 "
-    + "to 50 orders, 1 to 20 machines."],
+    + "10,000, all durations together up to 1,000,000, names up to 200 bytes. In a list of orders: "
+    + "1 to 50 orders, 1 to 20 machines."],
   T13: ({ line }) => [
     `Delete the extra cells of line ${line}, or close the quote that opens there.`,
     "A cell with a separator needs quotes around it."],

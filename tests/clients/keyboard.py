@@ -99,10 +99,15 @@ def starts_of(text):
 
 
 def plan_by_keys(browser, desk):
-    """An example list is changed and imported, solved and dated, in the table and on the bars."""
+    """The example becomes a plan at a desk."""
     enter(browser, desk)
     reach(browser, "#starters [value=example]")
     browser.press(ENTER)
+    plan_example(browser)
+
+
+def plan_example(browser):
+    """The example list is changed and imported, solved and dated, in the table and on the bars."""
     wait_text(browser, "#preview", "example.csv becomes a project of 8 activities")
     wait_idle(browser)
     same("the focus on a list", browser.run("return document.activeElement.textContent"), "Make the plan")
