@@ -191,7 +191,7 @@ function capacityNode(name, value) {
 }
 
 // the program's note on columns that it ignores, or on the letters of the file
-const noteNodes = (note) => note.split("; ").filter(Boolean).map((words) => say(words
+const noteNodes = (note) => (note.match(/[^;]+/g) ?? []).map((words) => say(words.trim()
   .replace(/^ignored columns:/,
     "These columns are no crews, because no capacity is given, and are ignored:")
   .replace(/^read as (.*)$/, "The list isn't in UTF-8; it is read as $1."), { class: "hint" }));
