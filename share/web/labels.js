@@ -12,5 +12,4 @@ export function activityLabel({ ids, names }, number, last) {
 
 export const resourceLabel = ({ resources }, number) => resources[number] ?? `resource ${number}`;
 
-export const machineLabel = ({ resources }, number) =>
-  (resources[number] ? `${number} ${resources[number]}` : `machine ${number}`);
+export const machineLabel = ({ resources }, number) => resources[number] ?? `machine ${number}`;

@@ -53,10 +53,10 @@ PROJECTS = [
     ("E91 store", "Tell the office."),
 ]
 SHOPS = [
-    ("E11 S4 machine 0 closed", "Bind 0 saw to another code under Changes, or ask the office to open it."),
+    ("E11 S4 machine 0 closed", "Bind saw to another code under Changes, or ask the office to open it."),
     ("E11 S4 machine 1 closed", "Bind machine 1 to another code under Changes, or ask the office to open it."),
     ("S10 step 2 of job 1 starts before step 1 ends", "Start step 2 of order 4711 later."),
-    ("S10 at time 3 more than one step is on machine 0", "Start a step on 0 saw at time 3 later."),
+    ("S10 at time 3 more than one step is on machine 0", "Start a step on saw at time 3 later."),
 ]
 LISTS = [
     ("T1 too long", "Delete rows, or split the list."),
