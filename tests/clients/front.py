@@ -130,7 +130,10 @@ class Front:
 
     def log(self):
         """The requests in the log, each with its fields."""
-        return [json.loads(line) for line in self.read("access.log").splitlines()]
+        try:
+            return [json.loads(line) for line in self.read("access.log").splitlines()]
+        except ValueError as fault:
+            raise Wrong(f"a line of nginx's log isn't JSON: {fault}") from None
 
 
 @contextlib.contextmanager
