@@ -1272,13 +1272,20 @@ def visit_senses(browser):
     browser.press(ESCAPE)
 
 
+def same_paper(browser):
+    """Nothing on paper is a button or a field, whatever the width of a sheet."""
+    for width in (900, 1120):
+        browser.resize(width, 720)
+        same(f"what can't be pressed on paper, at {width}", browser.run("return [...document.querySelectorAll("
+             "'button, input, select')].filter((node) => node.checkVisibility()).map(({ id }) => id)"), [])
+
+
 def printed_texts(browser):
     """The number of sheets, and for each chart and table on paper its width and whether each of its
     texts is on the sheet."""
     browser.devtools("Emulation.setEmulatedMedia", media="print", features=[])
     browser.run("dispatchEvent(new Event('beforeprint'))")
-    same("what can't be pressed on paper", browser.run("return [...document.querySelectorAll('button, input, select')]"
-         ".filter((node) => node.checkVisibility()).map((node) => node.textContent || node.name)"), [])
+    same_paper(browser)
     value = browser.run("""
         return [...document.querySelectorAll("#paper .sheet")].map((sheet) => [
             sheet.querySelectorAll(".bar[data-line]").length, sheet.querySelectorAll("tbody tr").length,
