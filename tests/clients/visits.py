@@ -890,8 +890,27 @@ def visit_names(browser):
     same("what is kept with the switch", [DESK, 6] in kept(browser)[0], True)
 
 
+def keep_record(browser, desk, n, record):
+    """Puts a record of a plan into the browser's memory."""
+    browser.run("""
+        const [desk, n, record] = arguments;
+        return new Promise((tell) => {
+            const request = indexedDB.open("plan", 1);
+            request.onsuccess = () => {
+                const transaction = request.result.transaction("plans", "readwrite");
+                transaction.objectStore("plans").put({ n, record }, [desk, n]);
+                transaction.oncomplete = () => {
+                    request.result.close();
+                    tell(true);
+                };
+            };
+        });
+    """, desk, n, record)
+
+
 def visit_other(browser, office):
     """A plan of another desk with the same number and the same file has no names of this desk."""
+    keep_record(browser, DESK, 1, {"title": "of this desk"})
     for path, key, body in (("/office/desks", OFFICE_KEY, b'{"desk":"other","key":"other-key-1"}'),
                             ("/desks/other/projects", "other-key-1", file_of(HOUSE))):
         sent(office.server.port, "POST", path, key, body)
@@ -901,6 +920,7 @@ def visit_other(browser, office):
     same("its list", seen_table(browser, "#plans")[1:], [["Plan 1", "", "project", "45"]])
     open_plan(browser, 1)
     same("its head", seen(browser, "#plan-head"), "Plan 1, a project")
+    keep_record(browser, DESK, 1, {})
     browser.click("#leave")
     sign_in(browser)
     wait_text(browser, "#plans", "list")
@@ -1252,13 +1272,20 @@ def visit_senses(browser):
     browser.press(ESCAPE)
 
 
+def same_paper(browser):
+    """Nothing on paper is a button or a field, whatever the width of a sheet."""
+    for width in (900, 1120):
+        browser.resize(width, 720)
+        same(f"what can't be pressed on paper, at {width}", browser.run("return [...document.querySelectorAll("
+             "'button, input, select')].filter((node) => node.checkVisibility()).map(({ id }) => id)"), [])
+
+
 def printed_texts(browser):
     """The number of sheets, and for each chart and table on paper its width and whether each of its
     texts is on the sheet."""
     browser.devtools("Emulation.setEmulatedMedia", media="print", features=[])
     browser.run("dispatchEvent(new Event('beforeprint'))")
-    same("what can't be pressed on paper", browser.run("return [...document.querySelectorAll('button, input, select')]"
-         ".filter((node) => node.checkVisibility()).map((node) => node.textContent || node.name)"), [])
+    same_paper(browser)
     value = browser.run("""
         return [...document.querySelectorAll("#paper .sheet")].map((sheet) => [
             sheet.querySelectorAll(".bar[data-line]").length, sheet.querySelectorAll("tbody tr").length,
