@@ -5,10 +5,10 @@ import { page } from "./state.js";
 
 const MOST_MILLISECONDS = 90000;
 const WORDS_IN_FRONT = {
-  403: "This address isn't open from where you are.",
-  404: "There is no such address.",
-  413: "The file is too large: an office takes at most 1,048,576 bytes.",
-  429: "Too many requests came in a short time. Wait a moment, and try again.",
+  403: "Open this page from a computer that the office admits: it isn't open from here (403).",
+  404: "Reload the page: there is no such address (404).",
+  413: "Split the file: an office takes at most 1,048,576 bytes (413).",
+  429: "Wait a moment, and try again: too many requests came in a short time (429).",
 };
 
 export class Refusal extends Error {}
@@ -27,7 +27,7 @@ function judged(response, text) {
   if (response.ok && type === "text/plain") return text;
   if (type === "text/plain") throw new Refusal(text.trim());
   const words = WORDS_IN_FRONT[response.status];
-  if (words) throw new Refusal(`${response.status}: ${words}`);
+  if (words) throw new Refusal(words);
   throw new Lost(`The server in front of the office answers ${response.status}.`);
 }
 
@@ -65,7 +65,7 @@ export async function ask(path, method = "GET", body = undefined) {
 export async function command(path, method, body) {
   if (page.isUnsure) {
     await hooks.unsure();
-    throw new Refusal("Nothing was sent: first look whether it has been done already.");
+    throw new Refusal("Look first whether it has been done already: nothing was sent.");
   }
   return ask(path, method, body instanceof Blob ? body : body && JSON.stringify(body));
 }

@@ -25,3 +25,12 @@ export function cellsOf(list) {
   }
   return rows;
 }
+
+const NAMED = /^(id|name|task|task name|activity|order|nr\.?|no\.?|number)$/i;
+
+/** Returns the id and the name in a line of a list, with the line; nothing if it has none. */
+export function rowWords(text, line) {
+  const [heads, ...rows] = cellsOf(text);
+  const cells = (rows[line - 2] ?? []).filter((cell, at) => cell && NAMED.test(heads[at]?.trim()));
+  return cells.length ? `${cells.slice(0, 2).join(" ")} (line ${line})` : "";
+}

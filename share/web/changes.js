@@ -4,21 +4,26 @@
 import { command, planPath } from "./api.js";
 import { daysFrom } from "./axis.js";
 import { all, byId, make, onSubmit, put } from "./dom.js";
+import { activityLabel, machineLabel, resourceLabel } from "./labels.js";
 import { isAlone } from "./local.js";
 import { visitPlace } from "./place.js";
 import { leavePlan, openPlan } from "./plan.js";
 import { dropPlan, showPlans } from "./plans.js";
 import { CODE_KINDS, page, recordOf, rememberChange } from "./state.js";
-import { named, namesIn } from "./view.js";
+import { namesIn } from "./view.js";
 
 const NOT_HERE = "Not set on this computer; the office doesn't tell it.";
+const DAYS = ["Mo", "Tu", "We", "Th", "Fr", "Sa", "Su"];
+
+const daysIn = (marks) => DAYS.filter((_, at) => marks[at] === "1").join(", ");
+
 const boxes = () => all("#marks input");
 
 // the form leaves one reason for E03: the plan has no such place or arc
 async function changePlan(part, body, valueOf, words, lacking) {
   const { n } = page.plan;
   const made = await command(planPath(n, part), "POST", body).catch((fault) => {
-    if (fault.message === "E03 body" && lacking) fault.meaning = [lacking];
+    if (fault.message === "E03 body" && lacking) fault.meaning = lacking;
     throw fault;
   });
   rememberChange(n, part, valueOf(made));
@@ -26,12 +31,24 @@ async function changePlan(part, body, valueOf, words, lacking) {
   return words(made);
 }
 
-const placeWord = () => byId("place-word").textContent;
+const isProject = (plan) => plan.kind === "project";
 
-const bind = ({ place, code }) => changePlan("bind", { place: Number(place), code },
-  (made) => ({ at: made.place, code: made.code }),
-  (made) => `${placeWord()} ${made.place} is ${made.code}.`,
-  `The plan has no ${placeWord().toLowerCase()} ${place}.`);
+const placeLabel = (plan, place) =>
+  (isProject(plan) ? resourceLabel : machineLabel)(namesIn(plan), place);
+
+const lastOf = ({ dates }) => dates?.rows?.length ?? 0;
+
+const arcLabels = (plan, from, to) =>
+  [from, to].map((number) => activityLabel(namesIn(plan), Number(number), lastOf(plan)));
+
+function bind({ place, code }) {
+  const { plan } = page;
+  const kind = isProject(plan) ? "resource" : "machine";
+  return changePlan("bind", { place: Number(place), code },
+    (made) => ({ at: made.place, code: made.code }),
+    (made) => `The capacity of ${placeLabel(plan, made.place)} is now that of ${made.code}.`,
+    [`Choose a ${kind} of this plan.`, `It has no ${kind} ${place}.`]);
+}
 
 // the office knows no holidays: at a desk they are kept in this browser
 async function setCalendar({ start, holidays: lines }) {
@@ -40,15 +57,16 @@ async function setCalendar({ start, holidays: lines }) {
   if (holidays && start && days.includes("1")) await daysFrom(start, days, holidays, 0);
   return changePlan("calendar", { start, days, ...(holidays && isAlone() && { holidays }) },
     (made) => ({ ...made, holidays }),
-    (made) => `From ${made.start} on; working days ${made.days}, Monday first.`);
+    (made) => `From ${made.start} on; working days ${daysIn(made.days)}.`);
 }
 
-const setLag = ({ from, to, lag }) => changePlan("lag",
-  { from: Number(from), to: Number(to), lag: Number(lag) },
-  (made) => ({ at: `${made.from}-${made.to}`, lag: made.lag }),
-  (made) => `At least ${made.lag} between ${made.from} and ${made.to}.`,
-  `The project has no arc from activity ${from} to activity ${to}. A lag is set between an `
-    + "activity and its direct successor.");
+function setLag({ from, to, lag }) {
+  const [first, second] = arcLabels(page.plan, from, to);
+  return changePlan("lag", { from: Number(from), to: Number(to), lag: Number(lag) },
+    (made) => ({ at: `${made.from}-${made.to}`, lag: made.lag }),
+    (made) => `At least ${made.lag} between ${first} and ${second}.`,
+    [`Choose a direct successor of ${first}.`, `The plan has no arc from it to ${second}.`]);
+}
 
 function isDeleteMeant() {
   const dialog = byId("question"), { desk, plan: { n } } = page;
@@ -77,29 +95,30 @@ function showSet(place, changes, words) {
   return made.at(-1) ?? {};
 }
 
-const optionNodes = (count, least, names) => Array.from({ length: count }, (_, at) =>
-  make("option", { value: at + least }, named(at + least, names[at + least])));
+const optionNodes = (count, least, wordsOf) => Array.from({ length: count }, (_, at) =>
+  make("option", { value: at + least }, wordsOf(at + least)));
 
 function showBind(plan, binds) {
-  const isProject = plan.kind === "project";
-  const word = isProject ? "Resource" : "Machine";
+  const isResource = isProject(plan);
   const { place, code } = byId("bind").elements;
-  const count = plan.model?.capacities.length ?? (isProject ? 16 : 20);
-  put("place-word", word);
-  place.replaceChildren(...optionNodes(count, isProject ? 1 : 0, namesIn(plan).resources));
+  const count = plan.model?.capacities.length ?? (isResource ? 16 : 20);
+  put("place-word", isResource ? "Resource" : "Machine");
+  place.replaceChildren(...optionNodes(count, isResource ? 1 : 0, (at) => placeLabel(plan, at)));
   code.replaceChildren(...page.codes.filter(({ kind }) => kind === CODE_KINDS[plan.kind])
     .map((found) => make("option", { value: found.code }, `${found.code} (${found.capacity})`)));
   const bound = showSet("bind-set", binds,
-    (made) => `${word.toLowerCase()} ${made.at} is ${made.code}`);
+    (made) => `${placeLabel(plan, made.at)} is ${made.code}`);
   place.value = bound.at ?? "";
   if (bound.code) code.value = bound.code;
 }
 
 // the successors of an activity are known from the plan's file
 function showLag(plan, lags) {
-  const delayed = showSet("lag-set", lags, ({ at, lag }) => `${at}: ${lag}`);
+  const delayed = showSet("lag-set", lags,
+    ({ at, lag }) => `${arcLabels(plan, ...at.split("-")).join(" to ")}: ${lag}`);
   const { from, to, lag } = byId("lag").elements;
-  const options = () => optionNodes(plan.dates?.rows?.length ?? 0, 1, namesIn(plan).names);
+  const labels = namesIn(plan), last = lastOf(plan);
+  const options = () => optionNodes(last, 1, (at) => activityLabel(labels, at, last));
   const isAfter = ({ value }) => !plan.model || plan.model.arcs.some((arc) =>
     arc.from + 1 === Number(from.value) && arc.to + 1 === Number(value));
   from.onchange = () => to.replaceChildren(...options().filter(isAfter));
@@ -122,14 +141,14 @@ function showCalendar(calendar) {
 
 export function showChanges(plan) {
   const { bind: binds, calendar, lag: lags } = recordOf(plan.n).set ?? {};
-  byId("lag").hidden = plan.kind !== "project";
+  byId("lag").hidden = !isProject(plan);
   showBind(plan, binds);
   showLag(plan, lags);
   showCalendar(calendar);
 }
 
 export function letChange() {
-  byId("marks").append(...["Mo", "Tu", "We", "Th", "Fr", "Sa", "Su"].map((day) =>
+  byId("marks").append(...DAYS.map((day) =>
     make("label", {}, make("input", { type: "checkbox" }), ` ${day}`)));
   onSubmit("bind", bind);
   onSubmit("calendar", setCalendar);

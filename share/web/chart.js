@@ -6,6 +6,7 @@ import {
   freeDays, heightOfRows, labelFor, marksOn, pagesOf, placeOfDate, scaleOf, shortened, today,
   widthOf,
 } from "./layout.js";
+import { resourceLabel } from "./labels.js";
 import { isAlone } from "./local.js";
 import { page, WORDS_OF_KIND } from "./state.js";
 import { paperTable } from "./table.js";
@@ -88,7 +89,7 @@ const legendNodes = (view) => legendOf(view).map(([name, words]) => make("li", {
     draw("g", { class: name }, shapeNode(1, 1, 18, 10)))] : []), ` ${words}`));
 
 function captionOf({ plan, dates, calendar }) {
-  const unit = !dates ? "working time from 0"
+  const unit = !dates ? "working time from 0 (for dates set a calendar under Changes)"
     : `weeks begin on Monday${calendar ? ", free days are shaded" : ""}`;
   const rows = plan.kind === "project" ? "Activities" : "Steps";
   return `${rows} by ${nameOf(plan, plan.drawn)}; ${unit}`;
@@ -98,7 +99,8 @@ function showLinks(view, chart, index) {
   const { scale, places, row } = chart;
   const bars = new Map(view.bars.map((bar) => [bar.index, bar]));
   const middle = (bar) => row * places.get(bar.line) + row / 2;
-  const nodes = linksOf(view, index).map(([from, to]) => {
+  const links = linksOf(view, index).filter((pair) => pair.every((place) => bars.has(place)));
+  const nodes = links.map(([from, to]) => {
     const a = bars.get(from), b = bars.get(to);
     const x = a.start < a.end ? scale.endOf(a.end) : scale.startOf(a.start, a.end);
     const end = scale.startOf(b.start, b.end);
@@ -145,7 +147,7 @@ function useSvg(steps, resource, capacity, name, scale, width, total) {
   });
   return draw("svg", { viewBox: `0 0 ${width} ${USE}`, role: "img",
     "aria-label": `Use of ${name}, capacity ${capacity}` },
-  textNode("name", 4, 16, shortened(name, left - 12)), textNode("time", 4, 32, `of ${capacity}`),
+  textNode("name", 4, 16, shortened(name, left - 12)), textNode("time", 4, 37, `of ${capacity}`),
   lineNode("thread", left, y(0), right, y(0)), ...blocks,
   lineNode("most", left, y(capacity), right, y(capacity)));
 }
@@ -153,10 +155,10 @@ function useSvg(steps, resource, capacity, name, scale, width, total) {
 function useNodes(view, scale, width) {
   const { plan: { kind, model, ...plan }, starts, total } = view;
   if (kind !== "project" || !model) return [];
-  const { resources } = namesIn(plan);
+  const labels = namesIn(plan);
   const steps = useOf(model, starts);
   return model.capacities.map((capacity, at) => useSvg(steps, at, capacity,
-    resources[at + 1] ?? `resource ${at + 1}`, scale, width, total));
+    resourceLabel(labels, at + 1), scale, width, total));
 }
 
 export function showChart(view) {
@@ -171,7 +173,10 @@ export function showChart(view) {
   fill("legend", ...legendNodes(view));
   fill("use", ...useNodes(view, chart.scale, width));
   const tell = letTell(view, chart);
-  return (index) => tell(chart.bars.findIndex((bar) => bar.index === index));
+  return (index) => {
+    const place = chart.bars.findIndex((bar) => bar.index === index);
+    if (place >= 0) tell(place);
+  };
 }
 
 // -- paper

@@ -2,8 +2,8 @@
 // answer. A text is never read as markup.
 
 import { Lost, Refusal } from "./api.js";
-import { FAULTS } from "./faults.js";
-import { LIST_FAULTS, PAGE_FAULTS } from "./words.js";
+import { sentencesOf } from "./messages.js";
+import { page } from "./state.js";
 
 export const byId = (name) => document.getElementById(name);
 export const fill = (name, ...nodes) => byId(name).replaceChildren(...nodes);
@@ -31,45 +31,36 @@ export const tell = (words) => say(words, { role: "status" });
 export const wideNode = (name, child) =>
   make("div", { class: "wide", tabindex: 0, role: "region", "aria-label": name }, child);
 
-export function tableNode({ caption, heads, rows, foot, marks = [] }) {
+export function tableNode({ label, caption, heads, rows, foot, marks = [] }) {
   const row = ([first, ...cells], index) => make("tr", { class: marks[index] && "critical" },
     make("th", { scope: "row" }, first), ...cells.map((cell) => make("td", {}, cell)));
-  return make("table", {},
+  return make("table", { "aria-label": caption ? undefined : label },
     ...(caption ? [make("caption", {}, caption)] : []),
     make("thead", {}, make("tr", {}, ...heads.map((head) => make("th", { scope: "col" }, head)))),
     make("tbody", {}, ...rows.map(row)),
     ...(foot ? [make("tfoot", {}, row(foot))] : []));
 }
 
-const MEANINGS = { ...FAULTS, ...LIST_FAULTS, ...PAGE_FAULTS };
-
-// a text of `plan explain` with what a line names in the place of A, B, R, M and N
-function filled(words, line) {
-  const cycle = line.match(/\bcycle ([\d ]+)/)?.[1].trim().split(" ");
-  let text = cycle
-    ? words.replace("A, B, ..", cycle.join(", ")).replace("precedes A", `precedes ${cycle[0]}`)
-    : words;
-  const letters = { activity: "A", resource: "R", machine: "M", line: "N" };
-  for (const [kind, letter] of Object.entries(letters)) {
-    const number = line.match(new RegExp(`\\b${kind} (\\d+)`))?.[1];
-    if (number) text = text.replace(new RegExp(`\\b(${kind}) ${letter}\\b`, "gi"), `$1 ${number}`);
-  }
-  return text;
-}
-
-/** Returns an error with its meaning, by default that of its last code. */
-export function refusalNode(line, lead = "", meaning = null) {
-  const code = (line.match(/\b[A-Z]\d+\b/g) ?? []).findLast((found) => MEANINGS[found]);
-  return make("div", { class: "refusal", role: "alert" },
-    ...(lead ? [say(lead, { class: "lead" })] : []), make("strong", {}, line),
-    ...(meaning ?? MEANINGS[code] ?? []).map((words) => say(filled(words, line))));
+/** Returns an error: what to do, then what is wrong, and the line of the program. `meaning` and
+ * `why` replace the sentences of its code, and `labels` name what the line numbers. */
+export function refusalNode(line, { meaning, why, labels } = {}) {
+  const isCoded = /^[A-Z]\d+\b/.test(line);
+  const [first = line, second] = meaning ?? (isCoded ? sentencesOf(line, labels) : []);
+  const rest = [why || second].filter(Boolean);
+  return make("div", { class: "refusal", role: "alert" }, make("strong", {}, first),
+    ...rest.map((words) => say(words)),
+    ...(isCoded ? [make("p", { class: "hint" }, make("code", {}, line))] : []));
 }
 
 export function faultNodes(fault) {
-  const { message, lead, meaning, more = [] } = fault;
-  if (fault instanceof Refusal) return [refusalNode(message, lead, meaning), ...more];
-  if (fault instanceof Lost) return [make("div", { class: "unanswered" }, refusalNode(message))];
-  return [refusalNode(`The page failed: ${fault}`)];
+  const { message, more = [] } = fault;
+  const labels = fault.labels ?? page.plan?.labels;
+  if (fault instanceof Refusal) return [refusalNode(message, { ...fault, labels }), ...more];
+  if (fault instanceof Lost) {
+    const meaning = ["Try again, once the network is back.", message];
+    return [make("div", { class: "unanswered" }, refusalNode("", { meaning }))];
+  }
+  return [refusalNode(`Reload the page, and report this: ${fault}`)];
 }
 
 export async function during(button, place, action) {

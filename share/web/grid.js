@@ -49,7 +49,7 @@ function rowNode(row, sizes) {
 function drawGrid() {
   const sizes = rows[0].map((_, column) =>
     Math.min(LONGEST, Math.max(3, ...rows.map((row) => (row[column] ?? "").length))));
-  fill("grid", make("table", {},
+  fill("grid", make("table", { "aria-label": "The list" },
     make("thead", {}, make("tr", {}, ...["row", ...rows[0], ""].map((head) =>
       make("th", { scope: "col" }, head)))),
     make("tbody", {}, ...rows.slice(1).map((_, at) => rowNode(at + 1, sizes)))));

@@ -14,13 +14,21 @@ export const csvText = (rows) =>
   [Object.keys(rows[0]), ...rows.map(Object.values)]
     .map((cells) => `${cells.map((cell) => cellOf(String(cell ?? ""))).join(",")}\n`).join("");
 
-export const startsText = (rows) => rows.map(({ start }) => `${start}\n`).join("");
+export const startsText = ({ starts }) => starts.map((start) => `${start}\n`).join("");
 
-const rowsFor = ({ rows, isNamed, dates }, nameOf) =>
-  rows.map(({ number: act, job, step, machine: mach, d, start, end, first, last, ...row }) => ({
-    ...(act ? { act } : { job, step, mach }), d, start, end,
-    ...(isNamed && { name: nameOf(row) }), ...(dates && { first, last }),
-  }));
+// with ids as `plan schedule` prints them, whose activities have resources and predecessors
+const rowsFor = ({ rows, isNamed, dates }, nameOf, keysOf) => rows.map((row) => {
+  const { d, start, end, first, last, resources, predecessors } = row;
+  return {
+    ...keysOf(row), d, start, end, ...(isNamed && { name: nameOf(row) }),
+    ...(resources !== undefined && { resources, predecessors }), ...(dates && { first, last }),
+  };
+});
+
+const keysOf = ({ id, number: act, job, step, machine: mach }) =>
+  (id ? { id } : act ? { act } : { job, step, mach });
+const allKeysOf = ({ id, number: act, ...row }) =>
+  (id ? { act, id } : keysOf({ number: act, ...row }));
 
 // a cell also has a name in words
 const WORDS = { act: "activity", mach: "machine", d: "duration", first: "first_day", last: "last_day" };
@@ -28,8 +36,8 @@ const inWords = (row) => ({ ...row, ...Object.fromEntries(
   Object.entries(row).filter(([head]) => WORDS[head]).map(([head, cell]) => [WORDS[head], cell])) });
 
 // the members of an object in the order of their bytes, and null for an empty cell
-function settled(_, value) {
-  if (value === "") return null;
+function settled(name, value) {
+  if (value === "") return /^(resources|predecessors)$/.test(name) ? "" : null;
   const isObject = value instanceof Object && !Array.isArray(value);
   return isObject ? Object.fromEntries(Object.entries(value).sort()) : value;
 }
@@ -45,14 +53,14 @@ function handedIn(view) {
     ...(drawn === "best" && { status: verdict, upper_bound: total }),
     ...(verdict === "optimal" && { lower_bound: total }),
     ...(drawn === "best" && lower && { lower_bound: lower }),
-    rows: rowsFor({ ...view, isNamed: rows.some(nameOf) }, nameOf).map(inWords),
+    rows: rowsFor({ ...view, isNamed: rows.some(nameOf) }, nameOf, allKeysOf).map(inWords),
   };
 }
 
 export const jsonText = (view) => `${JSON.stringify(handedIn(view), settled)}\n`;
 
 export const TEXTS = {
-  csv: (view) => csvText(rowsFor(view, ({ name }) => name)),
+  csv: (view) => csvText(rowsFor(view, ({ name }) => name, keysOf)),
   json: jsonText,
-  "starts.txt": ({ rows }) => startsText(rows),
+  "starts.txt": startsText,
 };

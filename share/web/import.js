@@ -3,14 +3,15 @@
 
 import { command, deskPath, Refusal, shopPath, tableOf } from "./api.js";
 import {
-  byId, faultNodes, fill, make, onSubmit, put, refusalNode, tableNode, tell, wideNode,
+  byId, faultNodes, fill, make, onSubmit, put, refusalNode, say, tableNode, tell, wideNode,
 } from "./dom.js";
+import { rowWords } from "./cells.js";
 import { noteList, openSaved, replacedFile, showEdit } from "./edit.js";
 import { isAlone } from "./local.js";
 import { showPlace } from "./place.js";
 import { openPlan, showPlan, takeStarts } from "./plan.js";
 import { showPlans } from "./plans.js";
-import { printed } from "./program.js";
+import { printed, printedWith } from "./program.js";
 import { readProject, readShop } from "./project.js";
 import { page, remember } from "./state.js";
 import { counted } from "./words.js";
@@ -21,22 +22,41 @@ const CONTEXT = 12;
 const FILE = "file";
 const importButton = () => byId("import").querySelector("button");
 
+const noneOf = (name) => [
+  "Drop a list (CSV), a project or a job shop, or start times of the open plan.",
+  `${name} is none of them: a list has a header with duration, or with order and machine.`,
+];
+
 async function bytesOf(file) {
   const isLarge = file.size > LARGEST_FILE;
   const content = isLarge ? null : await file.arrayBuffer().catch(() => null);
   const isWorkbook = content && new TextDecoder().decode(content.slice(0, 4)) === "PK\x03\x04";
   if (content && !isWorkbook) return new Uint8Array(content);
-  const words = isLarge ? "It has more than 1,048,576 bytes"
-    : isWorkbook ? "It is a workbook. Save its sheet as CSV (UTF-8), and drop that"
-      : "It can't be read";
-  fill("import-answer", refusalNode(`${file.name} was not sent. ${words}.`));
+  const { name } = file;
+  const [first, second] = isLarge
+    ? [`Split ${name}, or delete rows.`, "It has more than 1,048,576 bytes."]
+    : isWorkbook ? [`Save the sheet of ${name} as CSV (UTF-8), and drop that.`, "It is a workbook."]
+      : [`Choose ${name} again.`, "It can't be read."];
+  fill("import-answer", refusalNode("", { meaning: [first, `${second} Nothing was sent.`] }));
   return null;
+}
+
+// the text of a file in the letters in which the program reads a list
+function lettersOf(bytes) {
+  const [first, second] = bytes;
+  const wide = first === 0xff && second === 0xfe ? "utf-16le"
+    : first === 0xfe && second === 0xff && "utf-16be";
+  try {
+    return new TextDecoder(wide || "utf-8", { fatal: !wide }).decode(bytes);
+  } catch {
+    return new TextDecoder("windows-1252").decode(bytes);
+  }
 }
 
 // what a command prints, or its error
 async function triedTo(words, bytes) {
   try {
-    return { text: await printed([...words, FILE], { [FILE]: bytes }) };
+    return await printedWith([...words, FILE], { [FILE]: bytes });
   } catch (fault) {
     if (!(fault instanceof Refusal)) throw fault;
     return { fault };
@@ -66,6 +86,10 @@ async function isShop(bytes) {
   return printed(words, { [FILE]: bytes }).then(() => true, () => false);
 }
 
+// the first word of start times, or of a table or JSON that has them; the two sizes of a job shop
+const STARTS = /^\s*(\d|\{|"?(act|job|id|optimal|between|budget|makespan)\b)/;
+const SIZES = /^[ \t]*\d+[ \t]+\d+[ \t]*\r?$/m;
+
 // what a file is: `list` is set for a list, `instances` for a job shop
 async function recognized({ name, bytes, text, given }) {
   const isProject = /^\s*PRECEDENCE RELATIONS/m.test(text) || /\.sm$/i.test(name);
@@ -73,9 +97,10 @@ async function recognized({ name, bytes, text, given }) {
   // a schedule that was saved as CSV
   const isSaved = page.plan && list?.fault && /^[^\n]*\bstart\b/.test(text);
   const instances = isProject || list ? [] : await instancesOf(bytes);
-  const isStarts = isSaved
-    || (page.plan && !isProject && !list && !instances.length && !(await isShop(bytes)));
-  return { isProject, list, instances, isStarts };
+  const isOther = !isProject && !list && !instances.length && !(await isShop(bytes));
+  const isStarts = isSaved || (page.plan && isOther && STARTS.test(text));
+  const isNothing = isOther && !isStarts && !SIZES.test(text);
+  return { isProject, list, instances, isStarts, isNothing };
 }
 
 /** Takes a file, and sends it at once if it is plain what it is. */
@@ -84,7 +109,7 @@ export async function takeFile(file) {
   fill("import-answer");
   const bytes = await bytesOf(file);
   if (!bytes) return null;
-  const text = new TextDecoder().decode(bytes);
+  const text = lettersOf(bytes);
   try {
     if (await openSaved(text)) return null;
   } catch (fault) {
@@ -100,11 +125,12 @@ export async function takeBytes({ name, bytes, text, given = new Map(), replaces
   try {
     Object.assign(taken, await recognized(taken));
   } catch (fault) {
-    fill("import-answer", refusalNode(`${name} was not sent. ${fault.message}`));
+    fill("import-answer", ...faultNodes(fault));
     return null;
   }
-  const { isProject, list, instances, isStarts } = taken;
+  const { isProject, list, instances, isStarts, isNothing } = taken;
   if (isStarts) return takeStarts(text);
+  if (isNothing) return fill("import-answer", refusalNode("", { meaning: noneOf(name) }));
   page.file = taken;
   const { instance } = byId("import").elements;
   put("chosen-name", `${name}, ${bytes.length.toLocaleString("en")} bytes`);
@@ -119,6 +145,7 @@ export async function takeBytes({ name, bytes, text, given = new Map(), replaces
 
 export function forgetFile() {
   page.file = null;
+  byId("desk").removeAttribute("data-list");
   byId("chosen").hidden = byId("preview").hidden = byId("edit").hidden = true;
   fill("preview");
   fill("capacities");
@@ -130,6 +157,7 @@ export function forgetFile() {
 async function showList() {
   const { file } = page, { fault, text, isProject } = file.list;
   byId("preview").hidden = false;
+  byId("desk").toggleAttribute("data-list", true);
   await showEdit(file);
   importButton().hidden = Boolean(fault);
   fill("preview", ...(fault ? faultyNodes(file, fault.message)
@@ -162,30 +190,38 @@ function capacityNode(name, value) {
   return make("label", {}, `Capacity of ${name}`, input);
 }
 
-const previewNodes = (name, kind, parts, table) => [
-  tell(`${name} becomes a ${kind} of ${parts}. Look at it, then import it.`),
+// the program's note on columns that it ignores, or on the letters of the file
+const noteNodes = (note) => (note.match(/[^;]+/g) ?? []).map((words) => say(words.trim()
+  .replace(/^ignored columns:/,
+    "These columns are no crews, because no capacity is given, and are ignored:")
+  .replace(/^read as (.*)$/, "The list isn't in UTF-8; it is read as $1."), { class: "hint" }));
+
+const previewNodes = (name, kind, parts, table, note) => [
+  tell(`${name} becomes a ${kind} of ${parts}. Change the list, or make the plan.`),
+  ...noteNodes(note),
   make("details", {}, make("summary", {}, "As the program reads it"),
-    wideNode(`The ${kind}`, tableNode(table))),
+    wideNode(`The ${kind}`, tableNode({ label: `The ${kind}`, ...table }))),
 ];
 
 // the first and the last activity of the project aren't rows of the list
-function projectNodes({ name }, { durations, arcs, needs, names, resources, capacities }) {
+function projectNodes({ name, list: { note } }, project) {
+  const { durations, arcs, needs, ids, names, resources, capacities } = project;
   const last = durations.length - 1;
   const inner = arcs.filter(({ from, to }) => from > 0 && to < last);
-  const before = (at) => inner.filter(({ to }) => to === at).map(({ from }) => from + 1);
+  const idOf = (number) => ids.get(number) ?? number;
+  const before = (at) => inner.filter(({ to }) => to === at).map(({ from }) => idOf(from + 1));
   const caps = [...resources].map(([number, words]) => `${words} ${capacities[number - 1]}`);
-  const rows = durations.map((duration, at) => [at + 1, names.get(at + 1) ?? "", duration,
+  const rows = durations.map((duration, at) => [idOf(at + 1), names.get(at + 1) ?? "", duration,
     before(at).join(" "), ...[...resources.keys()].map((number) => needs[at][number - 1])]);
-  return previewNodes(name, "project", `${counted(last - 1, "activity", "activities")}, with a `
-    + `start and an end around them, ${counted(inner.length, "arc")} and ${
-      counted(resources.size, "resource")}`, {
+  return previewNodes(name, "project", `${counted(last - 1, "activity", "activities")}, with ${
+    counted(inner.length, "link")} between them and ${counted(resources.size, "resource")}`, {
     caption: caps.length && `Capacities: ${caps.join(", ")}`,
-    heads: ["number", "name", "duration", "predecessors", ...resources.values()],
+    heads: [ids.size ? "id" : "number", "name", "duration", "predecessors", ...resources.values()],
     rows: rows.slice(1, -1),
-  });
+  }, note);
 }
 
-async function shopNodes({ name }, text) {
+async function shopNodes({ name, list: { note } }, text) {
   const { rows } = tableOf(await printed(["shop", "spt", FILE, "shop"], { [FILE]: text }));
   const { names, resources } = readShop(text, "shop");
   const wordsOf = ({ mach, d }) => `${resources.get(mach)} ${d}`;
@@ -194,11 +230,19 @@ async function shopNodes({ name }, text) {
     heads: ["job", "order", "steps"],
     rows: [...names].map(([job, order]) => [job, order,
       rows.filter((row) => row.job === job).map(wordsOf).join(", ")]),
-  });
+  }, note);
 }
 
+const lineIn = (message) => Number(message.match(/\bline (\d+)/)?.[1] ?? 0);
+
+const rowLabels = (text, message) =>
+  ({ rows: { [lineIn(message)]: rowWords(text, lineIn(message)) } });
+
 const faultyNodes = ({ name, text }, message) => [
-  refusalNode(message), partNode(name, text, Number(message.match(/\bline (\d+)/)?.[1] ?? 0)),
+  refusalNode(message, { labels: rowLabels(text, message) }),
+  ...(byId("grid-part").hidden ? [partNode(name, text, lineIn(message))]
+    : [make("details", {}, make("summary", {}, "The lines of the file"),
+      partNode(name, text, lineIn(message)))]),
 ];
 
 // the lines around one of a file, which is marked
@@ -224,8 +268,8 @@ async function importFile(fields) {
   const instance = list && !isProject ? "shop" : fields.instance || "-";
   const path = isProject ? deskPath("projects") : shopPath(instance);
   if (!path) {
-    throw new Refusal("This name can't be sent: a name in an address has no blank, no / and no %. "
-      + "Rename the instance in the file.");
+    throw new Refusal("Rename the instance in the file: a name that is sent has no blank, no / and "
+      + "no %.");
   }
   const bytes = list ? new TextEncoder().encode(list.text) : file.bytes;
   let made;
@@ -233,6 +277,7 @@ async function importFile(fields) {
     made = replacedFile(file.replaces, { kind: isProject ? "project" : "shop", instance, bytes })
       ?? await command(path, "POST", new Blob([bytes]));
   } catch (fault) {
+    fault.labels = labelsOf(isProject, bytes);
     const named = fault.message.match(/^(?:E10|F\d+) (?:.*? )?line (\d+)/);
     if (named) fault.more = [partNode(file.name, file.text, Number(named[1]))];
     throw fault;
@@ -244,6 +289,13 @@ async function importFile(fields) {
   if (file.instances.length < 2) forgetFile();
   await openPlan(made.n);
   return `${file.name} is plan ${made.n}.`;
+}
+
+// the ids and names in a file that is refused
+function labelsOf(isProject, bytes) {
+  const found = isProject && readProject(new TextDecoder().decode(bytes));
+  return found ? { ids: Object.fromEntries(found.ids), names: Object.fromEntries(found.names),
+    resources: Object.fromEntries(found.resources), count: found.durations.length } : undefined;
 }
 
 function noteMade(made, name, bytes, instance) {
@@ -289,14 +341,17 @@ export async function takeNames(file) {
   const { plan } = page;
   const bytes = await bytesOf(file);
   if (!bytes) return null;
-  const taken = { name: file.name, bytes, text: new TextDecoder().decode(bytes), given: new Map() };
+  const taken = { name: file.name, bytes, text: lettersOf(bytes), given: new Map() };
   const { list, instances } = await recognized(taken);
-  if (list?.fault) return fill("names-answer", refusalNode(list.fault.message));
+  if (list?.fault) {
+    const labels = rowLabels(taken.text, list.fault.message);
+    return fill("names-answer", refusalNode(list.fault.message, { labels }));
+  }
   const own = list ? new TextEncoder().encode(list.text) : bytes;
   const instance = await instanceIn(own, plan, list ? ["shop"] : instances);
   if (instance === undefined) {
     return fill("names-answer",
-      refusalNode(`${file.name} isn't the file of plan ${plan.n}: its durations differ.`));
+      refusalNode(`Choose the file of plan ${plan.n}: the durations of ${file.name} are others.`));
   }
   noteFile(plan.n, plan.kind === "project", file.name, own, instance);
   await showPlan();
@@ -320,4 +375,10 @@ async function instanceIn(bytes, { kind, schedules }, instances) {
   return undefined;
 }
 
-export const letImport = () => onSubmit("import", importFile);
+export function letImport() {
+  onSubmit("import", importFile);
+  byId("close-list").onclick = () => {
+    forgetFile();
+    byId(page.plan ? "plan-head" : "plans-head").focus();
+  };
+}

@@ -88,7 +88,8 @@ export function plansIn(text) {
     return JSON.parse(text).plans
       .map(({ bytes, ...plan }) => ({ ...plan, bytes: unpacked(bytes) }));
   } catch {
-    throw new Refusal("This saved file is damaged: it isn't JSON, or a plan's file is missing.");
+    throw new Refusal("Drop another saved file: this one is damaged. It isn't JSON, or a plan's "
+      + "file is missing.");
   }
 }
 

@@ -28,7 +28,7 @@ function showView(name) {
 }
 
 const trying = (words, action) => action().catch((fault) => {
-  if (fault instanceof Refusal && fault.message === "E01 key") fault.lead = words;
+  if (fault instanceof Refusal && fault.message === "E01 key") fault.why = words;
   throw fault;
 });
 
@@ -91,6 +91,14 @@ function letFit() {
   addEventListener("afterprint", () => fill("paper"));
 }
 
+// on a small screen the chart comes before the choice of schedules, also in the order of the keys
+function letOrder() {
+  const small = matchMedia("(max-width: 59.99rem)");
+  const order = () => byId("chart")[small.matches ? "after" : "before"](byId("choices"));
+  small.onchange = order;
+  order();
+}
+
 function letHelp() {
   fill("terms", ...glossary().flatMap(([term, meaning]) =>
     [make("dt", {}, term), make("dd", {}, meaning)]));
@@ -135,6 +143,7 @@ letHelp();
 letAct();
 letDrop();
 letFit();
+letOrder();
 // no desk is open yet, so its transaction comes before those of readRecords
 moveEarlier();
 for (const doors of all("#door fieldset")) doors.disabled = false;

@@ -10,6 +10,7 @@ import {
 } from "./dom.js";
 import { showEditable } from "./edit.js";
 import { TEXTS } from "./handin.js";
+import { verdictWords } from "./messages.js";
 import { visitPlace } from "./place.js";
 import { markOpen, showPlans } from "./plans.js";
 import { searchWords, shorterOf } from "./search.js";
@@ -30,6 +31,7 @@ export async function openPlan(n) {
   const drawn = !isNew && RULES[kind].includes(page.plan.drawn) ? page.plan.drawn : RULES[kind][0];
   const plan = { n, kind, drawn, schedules: new Map(), days: new Map() };
   page.plan = plan;
+  byId("desk").removeAttribute("data-list");
   visitPlace(n);
   markOpen();
   awaitPlan(isNew);
@@ -90,16 +92,18 @@ export async function showPlan() {
   if (table) noteTable(plan, table);
   await settle(plan);
   if (page.plan !== plan) return;
-  for (const fault of faults) fault.lead = needWords(plan, fault.message);
+  for (const fault of faults) {
+    Object.assign(fault, { why: needWords(plan, fault.message), labels: namesIn(plan) });
+  }
   fill("plan-answer", ...faults.flatMap(faultNodes));
   byId("plan-body").hidden = false;
   for (const part of all("#plan .drawn")) part.hidden = !table;
   showPlans();
   showParts(plan);
   showChanges(plan);
-  showDates(plan.dates);
+  showDates(plan);
   showEditable(plan);
-  put("handin-words", "There is no schedule to hand in.");
+  put("handin-words", "Mend the plan first: there is no schedule to hand in.");
   if (table) showSchedules();
 }
 
@@ -148,10 +152,10 @@ export const showPaper = () => view && fillPaper(view);
 
 function showDayNote(plan) {
   const refusal = [...plan.days.values()].find((days) => days instanceof Refusal);
-  const words = !refusal ? "The dates of this schedule aren't known, because the calendar wasn't set "
-    + "on this computer. Set it under Changes."
+  const words = !refusal ? "Set the calendar under Changes to see dates of this schedule: it "
+    + "wasn't set on this computer."
     : refusal.message.endsWith("G4 no calendar")
-      && "No calendar is set, so times are units of working time, counted from 0.";
+      && "Set a calendar under Changes to see dates: times are units of working time, from 0 on.";
   fill("days", ...(view.dates ? [] : words ? [say(words)] : faultNodes(refusal)));
 }
 
@@ -171,27 +175,38 @@ function showChoice(plan) {
 const titled = (words) =>
   make("abbr", { title: COLUMN_WORDS[words] ?? RULE_WORDS[words] }, RULE_NAMES[words] ?? words);
 
-function showDates(dates) {
+// the heads of a table with the rows of activities that have an id, if some have one
+function withIds(plan, { heads, rows }) {
+  const { ids } = namesIn(plan);
+  if (!rows.some(({ act }) => ids[act])) return { heads, rows };
+  return { heads: ["id", ...heads.slice(1)],
+    rows: rows.map((row) => ({ ...row, id: ids[row.act] })).filter(({ id }) => id) };
+}
+
+function showDates(plan) {
+  const { dates } = plan;
   byId("dates-fold").hidden = !dates?.rows;
   if (!dates?.rows) return;
+  const { heads, rows } = withIds(plan, dates);
   fill("dates", tableNode({
     caption: `Earliest and latest dates, crews not counted; the whole takes ${dates.total}`,
-    heads: [...dates.heads.map(titled), ""],
-    rows: dates.rows.map((row) =>
-      [...dates.heads.map((head) => row[head]), row.isCritical ? "*" : ""]),
-    marks: dates.rows.map((row) => row.isCritical),
+    heads: [...heads.map(titled), ""],
+    rows: rows.map((row) => [...heads.map((head) => row[head]), row.isCritical ? "*" : ""]),
+    marks: rows.map((row) => row.isCritical),
   }));
 }
 
-function showRules({ schedules }) {
-  const rules = [...schedules.keys()], tables = [...schedules.values()];
+function showRules(plan) {
+  const { schedules } = plan;
+  const rules = [...schedules.keys()], own = [...schedules.values()];
+  const tables = own.map((table) => ({ ...table, ...withIds(plan, table) }));
   const fixed = tables[0].heads.slice(0, -2);
   const rows = tables[0].rows.map((row, index) => [
     ...fixed.map((head) => row[head]),
     ...tables.map(({ rows: ends }) => `${ends[index].start}–${ends[index].end}`),
   ]);
   const names = rules.map((rule) =>
-    (rule === "best" ? `best (${schedules.get(rule).verdict})` : titled(rule)));
+    (rule === "best" ? `search (${schedules.get(rule).verdict})` : titled(rule)));
   const foot = ["makespan", ...fixed.slice(1).map(() => ""), ...tables.map(({ total }) => total)];
   fill("rules", tableNode({
     caption: "Schedules by rule: start–end", heads: [...fixed.map(titled), ...names], rows, foot,
@@ -208,7 +223,7 @@ async function searchBest({ seconds }) {
   try {
     const { signal } = searching;
     const table = await (plan.model ? solved(plan, Number(seconds), told, signal) : askBest(plan));
-    if (!table) throw new Refusal("The search was cancelled before it had found a schedule.");
+    if (!table) throw new Refusal("Search again, for longer: no schedule was found yet.");
     table.isCancelled = signal.aborted;
     plan.schedules.set("best", { ...[...plan.schedules.values()][0], ...table });
     plan.days.delete("best");
@@ -225,19 +240,9 @@ async function searchBest({ seconds }) {
 }
 
 // without the plan's file the office searches
-async function askBest(plan) {
-  try {
-    return tableOf(await ask(planPath(plan.n, "best", OFFICE_BUDGET)));
-  } catch (fault) {
-    if (fault instanceof Refusal && /\bS5\b/.test(fault.message)) fault.more = [solveNode()];
-    throw fault;
-  }
-}
+const askBest = async (plan) => tableOf(await ask(planPath(plan.n, "best", OFFICE_BUDGET)));
 
 const OFFICE_BUDGET = 200000;
-
-const solveNode = () => make("p", { class: "solve" },
-  "Add the file of this plan below: then this page searches, for as long as you like.");
 
 // -- hand in and check
 
@@ -274,7 +279,7 @@ function placeIn(line, rows) {
 
 async function checkStarts(text) {
   const { plan } = page, { model, note, schedules } = plan;
-  if (!model) throw new Refusal(note ? `${note} Add the plan's file first.` : "There is no schedule.");
+  if (!model) throw new Refusal(note || "Mend the plan first: it has no schedule.");
   const [{ heads, rows }] = schedules.values();
   const { line, total, starts } = await verdictOf(plan, text);
   const isFeasible = line === "active" || line.endsWith("can start earlier");
@@ -297,15 +302,16 @@ async function showVerdict(text) {
     const found = await checkStarts(text);
     if (!found) return;
     const { line, isFeasible, total } = found;
-    const meaning = !isFeasible ? "Not feasible."
-      : line === "active" ? "Feasible, and nothing can start earlier by itself."
-        : "Feasible, but not active: all others fixed, this one could start earlier.";
+    const [first, second] = verdictWords(line, page.plan?.labels);
+    const lead = isFeasible ? "Feasible" : "Not feasible";
     fill("check-answer", make("div", { class: isFeasible ? "verdict" : "refusal", role: "status" },
-      make("strong", {}, line), say(`${meaning} Makespan ${total}.`)));
+      make("strong", {}, first), say(`${second} ${lead}, makespan ${total}.`),
+      make("p", { class: "hint" }, make("code", {}, line))));
   } catch (fault) {
     if (!(fault instanceof Refusal)) throw fault;
     // `compare` gets the starts as both A and B
-    fill("check-answer", refusalNode(fault.message.replace(/(of the starts) A$/, "$1")));
+    fill("check-answer", refusalNode(fault.message.replace(/(of the starts) A$/, "$1"),
+      { labels: page.plan?.labels }));
   }
   byId("check-answer").scrollIntoView({ block: "nearest" });
 }

@@ -35,9 +35,10 @@ export function showPlans() {
     return [button, title, WORDS_OF_KIND[kind], makespan];
   });
   const heads = ["Number", "Title", "Kind", "Makespan"];
-  fill("plans", rows.length ? tableNode({ heads, rows })
+  fill("plans", rows.length ? tableNode({ label: "Plans", heads, rows })
     : say("No plans yet. Drop a file, or start with an example."));
   byId("start").classList.toggle("alone", rows.length > 0);
+  byId("save-all").hidden = !rows.length;
   if (value) byId("plans").querySelector(`[value="${value}"]`)?.focus();
   markOpen();
 }
@@ -52,7 +53,7 @@ export function markOpen() {
 function codesTable(codes, none) {
   if (!codes.length) return say(none);
   const rows = codes.map(({ code, kind, capacity }) => [code, kind, capacity]);
-  return tableNode({ heads: ["Code", "Kind", "Capacity"], rows });
+  return tableNode({ label: "Capacities", heads: ["Code", "Kind", "Capacity"], rows });
 }
 
 export async function askMakespans() {
@@ -121,7 +122,11 @@ async function openDesk(fields) {
 }
 
 async function setKey({ desk, key }) {
-  await command(`/office/desks/${encodeURIComponent(desk)}/key`, "POST", { key });
+  await command(`/office/desks/${encodeURIComponent(desk)}/key`, "POST", { key }).catch((fault) => {
+    fault.meaning = fault.message === "E02 not found"
+      ? ["Check the name of the desk.", "There is no such desk."] : undefined;
+    throw fault;
+  });
   return `Desk ${desk} has another key.`;
 }
 
@@ -140,7 +145,8 @@ export function noteLost(words, method) {
     ? "A command was on its way, and it isn't known whether it was carried out. "
       + "Nothing is sent again before the office has been asked."
     : "Nothing has changed. The page shows what was answered before.";
-  put("lost-words", `The connection is lost. ${words} ${meaning}`);
+  const advice = "Ask again, once the network is back: the connection is lost.";
+  put("lost-words", `${advice} ${words} ${meaning}`);
   byId("lost").hidden = false;
   put("news", "");
 }

@@ -5,6 +5,9 @@ import { Refusal } from "./api.js";
 import { DIGEST } from "./digest.js";
 import { load } from "./engine/runtime.js";
 
+// the status of a module that was stopped
+const MODULE_STOPPED = 134;
+
 const textOf = (bytes) => new TextDecoder().decode(bytes);
 
 // plan.html has the module and the worker inside
@@ -37,26 +40,15 @@ let module = null;
 
 const loaded = () => (module ??= moduleBytes().then((bytes) => load(bytes, DIGEST)).catch((fault) => {
   module = null;
-  throw new Refusal(`The program can't be loaded: ${fault.message}.`);
+  throw new Refusal(`Reload the page, or get it again: the program can't be loaded, because ${
+    fault.message}.`);
 }));
 
 const newWorker = () => new Worker(policy?.createScriptURL("") ?? address,
   { type: inside("worker-text") ? "classic" : "module" });
 
-// A project file without the ids of its activities: the page shows their numbers.
-function numbered(bytes) {
-  try {
-    const text = new TextDecoder("utf-8", { fatal: true, ignoreBOM: true }).decode(bytes);
-    if (!/^PRECEDENCE RELATIONS:/m.test(text)) return bytes;
-    return new TextEncoder().encode(text.replace(/^id \d+ [^\n]*\n/gm, ""));
-  } catch {
-    return bytes;
-  }
-}
-
-const contentOf = (content) => numbered(
-  typeof content === "string" ? new TextEncoder().encode(content) : content,
-);
+const contentOf = (content) =>
+  (typeof content === "string" ? new TextEncoder().encode(content) : content);
 
 // one call in a worker; `told` gets what the program writes to standard error
 async function called(worker, words, files, { isTerminal = false, told = () => {} } = {}) {
@@ -69,7 +61,7 @@ async function called(worker, words, files, { isTerminal = false, told = () => {
     worker.onmessage = ({ data }) => (data.done ? resolve(data.done)
       : told(textOf(data.wrote)));
     worker.onerror = ({ message = "no worker" }) =>
-      reject(new Refusal(`The program can't run: ${message}.`));
+      reject(new Refusal(`Reload the page: the program can't run, because of "${message}".`));
     worker.postMessage({ module: compiled, call });
   });
 }
@@ -81,6 +73,10 @@ function lineOf(errors) {
 }
 
 function outputOf({ status, output, errors }) {
+  if (status === MODULE_STOPPED) {
+    throw new Refusal("Close other pages, and try again: the program was stopped, perhaps because "
+      + "memory ran out.");
+  }
   if (status !== 0) throw new Refusal(lineOf(errors));
   return textOf(output);
 }
@@ -88,16 +84,20 @@ function outputOf({ status, output, errors }) {
 let common = null;
 let waiting = Promise.resolve();
 
-/** Runs a command with named files, after all earlier ones. Returns what it prints; its error is a
- * refusal. */
-export async function printed(words, files = {}) {
+/** Runs a command with named files, after all earlier ones. Returns what it prints, and its line on
+ * standard error; its error is a refusal. */
+export async function printedWith(words, files = {}) {
   const answer = waiting.then(() => called(common ??= newWorker(), words, files));
   waiting = answer.catch(() => {
     common?.terminate();
     common = null;
   });
-  return outputOf(await answer);
+  const done = await answer;
+  return { text: outputOf(done), note: lineOf(done.errors) };
 }
+
+/** Runs a command with named files. Returns what it prints; its error is a refusal. */
+export const printed = async (words, files) => (await printedWith(words, files)).text;
 
 /** Runs a command that takes long, in a worker of its own. `told` gets its lines of progress.
  * Returns null if `signal` ends it. */

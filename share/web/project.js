@@ -1,5 +1,5 @@
-// Project and job shop files as far as the page shows them: names, titles, and of a project its needs
-// and arcs. The program is the judge of a file; it also reads lists and start times.
+// Project and job shop files as far as the page shows them: names, titles, and of a project its
+// ids, needs and arcs. The program is the judge of a file; it also reads lists and start times.
 
 // the program writes it in the place of a title
 const IMPORTED = "plan import";
@@ -29,20 +29,24 @@ function sectionsOf(text, title) {
 const wordsIn = (text, title) =>
   (sectionsOf(text, title)[0] ?? []).slice(1).flatMap((line) => line.split(/\s+/)).map(Number);
 
+const PLACES = {
+  id: "ids", name: "names", job: "names", resource: "resources", machine: "resources",
+};
+
 // the first line of a number counts
 function namesBy(pattern, lines) {
-  const names = new Map(), resources = new Map();
+  const found = { ids: new Map(), names: new Map(), resources: new Map() };
   for (const line of lines) {
     const [, kind, number, name] = line.match(pattern) ?? [];
-    const place = kind === "name" || kind === "job" ? names : resources;
-    if (kind && !place.has(Number(number))) place.set(Number(number), name);
+    const place = found[PLACES[kind]];
+    if (place && !place.has(Number(number))) place.set(Number(number), name);
   }
-  return { names, resources };
+  return found;
 }
 
 function namesOf(text) {
   const behind = text.slice(text.search(/^\s*RESOURCEAVAILABILITIES/m));
-  return namesBy(/^(name|resource)\s+(\d{1,9})\s+(.+)$/,
+  return namesBy(/^(id|name|resource)\s+(\d{1,9})\s+(.+)$/,
     sectionsOf(behind, "PROJECT INFORMATION").flat());
 }
 
@@ -59,7 +63,7 @@ function titleIn(text) {
 const valueOf = (text, key) =>
   Number(text.match(new RegExp(`^[ \\t]*${key}[^:\n]*:\\s*(\\d+)`, "m"))?.[1]);
 
-/** Returns the model of a project with its names and title; null if it can't be read. */
+/** Returns the model of a project with its ids, names and title; null if it can't be read. */
 export function readProject(text) {
   const count = valueOf(text, "jobs");
   const width = valueOf(text, "- renewable");
@@ -98,7 +102,8 @@ export function readShop(text, instance) {
   const lines = blockOf(text, instance);
   const first = lines.find((line) => line && !line.startsWith("+"));
   const title = instance === "-" || first === IMPORTED ? undefined : first;
-  return { ...namesBy(/^\+\s*(machine|job)\s+(\d{1,9})\s+(.+)$/, lines), title };
+  const { names, resources } = namesBy(/^\+\s*(machine|job)\s+(\d{1,9})\s+(.+)$/, lines);
+  return { names, resources, title };
 }
 
 /** Returns the first resource of which the greatest part is needed, counted from 1; 0 if none. */

@@ -11,7 +11,8 @@ const nameLines = (word, names) =>
   Object.entries(names).map(([number, name]) => `${word} ${number} ${name}\n`).join("");
 
 /** Returns a project file of a model. */
-export function projectText({ durations, arcs, needs, capacities }, names = {}, resources = {}) {
+export function projectText(model, { ids = {}, names = {}, resources = {} } = {}) {
+  const { durations, arcs, needs, capacities } = model;
   const lagged = arcs.filter(({ lag }) => lag > 0);
   const direct = arcs.filter(({ lag }) => !lag);
   const after = durations.map((_, at) => direct.filter(({ from }) => from === at)
@@ -36,7 +37,7 @@ ${rowLines(jobs.map((job, at) => [at + 1, 1, job.duration, ...job.needs]))
 capacities
 ${capacities.join(" ")}
 PROJECT INFORMATION:
-${nameLines("name", names)}${nameLines("resource", resources)}`;
+${nameLines("id", ids)}${nameLines("name", names)}${nameLines("resource", resources)}`;
 }
 
 /** Returns a job shop file of the rows of a schedule, whose instance is `shop`. */
@@ -76,9 +77,9 @@ export function projectModel(plan) {
 }
 
 /** Returns the files of a plan for the program, and the words that name the one to schedule. */
-export function subjectOf({ kind, model }, rows, { title, names, resources }) {
+export function subjectOf({ kind, model }, rows, { title, ids, names, resources }) {
   const project = kind === "project" && !model.isChanged && model.bytes ? model.bytes
-    : projectText(model, kind === "project" ? names : {}, resources);
+    : projectText(model, kind === "project" ? { ids, names, resources } : { resources });
   const shop = kind === "shop" && { "plan.txt": shopText(rows, names, resources) };
   return {
     files: { "plan.sm": project, ...shop }, title,
@@ -117,15 +118,26 @@ export async function slackOf({ model, subject: { files } }, starts) {
   return text && tableOf(text).rows.slice(0, starts.length).map(({ slack }) => slack);
 }
 
+// in JSON the activities without an id would be left out
 async function comparedTo({ words: [file, ...instance], files }, starts) {
-  const words = ["compare", "--format", "json", file, "starts", "starts", ...instance];
-  const { verdict_A: line, makespan_A: total, rows } =
-    JSON.parse(await printed(words, { ...files, starts }));
-  return { line, total, starts: rows.map(({ A }) => A) };
+  const words = ["compare", file, "starts", "starts", ...instance];
+  const text = await printed(words, { ...files, starts });
+  const [, total, line] = text.match(/^A makespan (\d+): (.*)$/m);
+  return { line, total: Number(total), starts: tableOf(text).rows.map(({ A }) => A) };
 }
 
-const withoutLags = (model) =>
-  projectText({ ...model, arcs: model.arcs.map((arc) => ({ ...arc, lag: 0 })) });
+const withoutLags = (model, names) =>
+  projectText({ ...model, arcs: model.arcs.map((arc) => ({ ...arc, lag: 0 })) }, names);
+
+/** Returns by the number of an activity its resources and predecessors in the ids of its file, as
+ * the program prints them; null without ids. */
+export async function describedBy(model, names) {
+  if (!Object.keys(names.ids).length) return null;
+  const words = ["schedule", "num", "--format", "json", "plan.sm"];
+  const { rows } = JSON.parse(await printed(words, { "plan.sm": withoutLags(model, names) }));
+  return new Map(rows.map(({ act, resources, predecessors }) =>
+    [act, { resources, predecessors }]));
+}
 
 /** Returns a verdict with the activity before a lag in the place of the lag's own. */
 export function plainLine(line, model) {
@@ -136,9 +148,9 @@ export function plainLine(line, model) {
 
 /** Returns the verdict of `plan check` on start times in any form that it reads, with the starts and
  * the makespan. */
-export async function verdictOf({ model, subject }, text) {
+export async function verdictOf({ model, subject, labels }, text) {
   if (!lagged(model).length) return comparedTo(subject, text);
-  const files = { "plan.sm": withoutLags(model) };
+  const files = { "plan.sm": withoutLags(model, labels) };
   const { starts, total } = await comparedTo({ ...subject, files }, text);
   const { line } = await comparedTo(subject, earlyStarts(model, starts));
   return { line: plainLine(line, model), total, starts };
@@ -168,11 +180,11 @@ const freeOf = ({ holidays }) => (holidays ? ["--holidays", "holidays"] : []);
 /** Returns the first and the last day of each activity or step, null if it takes no time. */
 export async function daysOf({ model, subject: { files, words } }, starts, calendar) {
   const { start, days, holidays = "" } = calendar;
-  const given = ["days", "--format", "json", ...freeOf(calendar), "--starts", "starts", start, days];
+  const given = ["days", ...freeOf(calendar), "--starts", "starts", start, days];
   const text = await printed([...given, ...words],
     { ...files, holidays, starts: earlyStarts(model, starts) });
-  return JSON.parse(text).rows.slice(0, starts.length)
-    .map(({ first, last }) => (first === null ? null : { first, last }));
+  return tableOf(text).rows.slice(0, starts.length)
+    .map(({ first, last }) => (first === "-" ? null : { first, last }));
 }
 
 /** Returns the seconds of each slice of a search: 1, 2, 4 .., and the rest. */
@@ -185,11 +197,11 @@ export function slicesOf(seconds) {
 }
 
 async function solvedIn({ model, subject: { files, words } }, limits, told, signal) {
-  const command = ["solve", ...limits, "--format", "json", ...words];
-  const text = await searched(command, files, told, signal);
+  const text = await searched(["solve", ...limits, ...words], files, told, signal);
   if (!text) return null;
-  const { status, lower_bound: lower, makespan: total, rows } = JSON.parse(text);
-  return { rows: rows.slice(0, model.durations.length), verdict: status, lower, total };
+  const { verdict, rows, total } = tableOf(text);
+  const lower = Number(text.split(/\s/, 2)[1]);
+  return { rows: rows.slice(0, model.durations.length), verdict, lower, total };
 }
 
 /** Searches for a short schedule, and returns it as a table with the verdict and the bound. The

@@ -1,7 +1,7 @@
 // The table of a schedule: one row per activity or step, sorted by any of its columns.
 
 import { byId, fill, make } from "./dom.js";
-import { named } from "./view.js";
+import { named } from "./labels.js";
 import { COLUMN_WORDS } from "./words.js";
 
 let sorting = { n: 0, head: "", isDown: false };
@@ -9,15 +9,15 @@ let sorting = { n: 0, head: "", isDown: false };
 const headName = (head) => ({ first: "first day", last: "last day" })[head] ?? head;
 
 // the columns are the members of a row that are known
-const columnsOf = ({ plan: { kind, dates }, isNamed, dates: days, slack }) => [
-  ...(kind === "shop" ? ["job", "step", "machine"] : ["number"]),
+const columnsOf = ({ plan: { kind, dates }, hasIds, isNamed, dates: days, slack }) => [
+  ...(kind === "shop" ? ["job", "step", "machine"] : [hasIds ? "id" : "number"]),
   ...(kind === "project" && isNamed ? ["name"] : []), "start", "end",
   ...(days ? ["first", "last"] : []), ...(dates?.rows ? ["float"] : []),
   ...(slack ? ["slack"] : []),
 ];
 
 function wordsOf(row, head) {
-  if (head === "number" && row.isCritical) return `${row.number}*`;
+  if (/^(id|number)$/.test(head)) return `${row[head]}${row.isCritical ? "*" : ""}`;
   return named(row[head], row[`${head}Name`]);
 }
 
@@ -30,7 +30,8 @@ export function compare(a, b) {
 
 function scheduleTable(view, rows, titleOf, words) {
   const columns = columnsOf(view);
-  const classOf = (head) => view.isNamed && /^(name|job|machine)$/.test(head) && "words";
+  const isText = (head) => head === "id" || (view.isNamed && /^(name|job|machine)$/.test(head));
+  const classOf = (head) => isText(head) && "words";
   const cells = (row) => columns.map((head, at) =>
     make(at ? "td" : "th", { class: classOf(head), scope: !at && "row" }, wordsOf(row, head)));
   return make("table", {}, make("caption", {}, words),

@@ -4,13 +4,17 @@
 import { Refusal } from "./api.js";
 import { axisOf } from "./axis.js";
 import { byId } from "./dom.js";
+import { activityLabel, named, resourceLabel } from "./labels.js";
 import { coloursOf } from "./layout.js";
 import { isAlone } from "./local.js";
 import { mostNeeded } from "./project.js";
 import { page, recordOf, shapeOf } from "./state.js";
 import { RULE_NAMES } from "./words.js";
-import { agrees, daysOf, projectModel, shopModel, slackOf, subjectOf } from "./subject.js";
+import {
+  agrees, daysOf, describedBy, projectModel, shopModel, slackOf, subjectOf,
+} from "./subject.js";
 
+const SEARCHED = { optimal: "shortest, proved" };
 const STARRED = "critical by dates alone (crews not counted)";
 
 export const startsOf = (table) => table.rows.map(({ start }) => start);
@@ -25,8 +29,8 @@ export function needWords(plan, line) {
   const capacity = model?.capacities[resource - 1];
   if (!(need > capacity)) return "";
   const name = model.resources.get(resource) ?? `resource ${resource}`;
-  return `Activity ${named(activity, model.names.get(activity))} needs ${need} of ${name}, which `
-    + `has ${capacity}.`;
+  return `Activity ${activityLabel(namesIn(plan), activity)} needs ${need} of ${name}, which has `
+    + `${capacity}, so it can never start.`;
 }
 
 /** Asks the program for the slack and the days of a schedule of the plan. */
@@ -53,7 +57,8 @@ async function learnAxis(plan) {
 
 /** Settles the model of a plan, and asks the program for all that is shown of its schedules. */
 export async function settle(plan) {
-  Object.assign(plan, { model: null, note: "", calendar: null, axis: null, slacks: new Map() });
+  Object.assign(plan, { model: null, described: null, note: "", calendar: null, axis: null,
+    slacks: new Map(), labels: namesIn(plan) });
   await settleFile(plan);
   await learnAxis(plan);
 }
@@ -63,11 +68,14 @@ async function settleFile(plan) {
   if (!table) return;
   plan.model = plan.kind === "shop" ? shopModel(table.rows) : projectModel(plan);
   if (!plan.model) {
-    plan.note = "Slack isn't known, because this page hasn't read the plan's file.";
+    plan.note = "Add the file of this plan below to see slack: this page hasn't read it.";
     return;
   }
-  const named = namesIn(plan);
-  plan.subject = subjectOf(plan, table.rows, { ...named, title: named.title || `Plan ${plan.n}` });
+  const { labels } = plan;
+  labels.lags = Object.fromEntries(plan.model.arcs.map(({ from, to, lag }) =>
+    [`${from + 1}-${to + 1}`, lag]));
+  const title = labels.title || `Plan ${plan.n}`;
+  plan.subject = subjectOf(plan, table.rows, { ...labels, title });
   try {
     await settleModel(plan);
   } catch (fault) {
@@ -79,10 +87,11 @@ async function settleFile(plan) {
 async function settleModel(plan) {
   if (!(await agrees(plan))) {
     plan.model = null;
-    plan.note = "Slack isn't known: the office's plan differs from the file, because somebody "
-      + "bound a resource or set a lag elsewhere.";
+    plan.note = "Bind or set the lag here too to see slack: the office's plan differs from the "
+      + "file, because somebody bound a resource or set a lag elsewhere.";
     return;
   }
+  plan.described = await describedBy(plan.model, plan.labels);
   await settleCalendar(plan);
   for (const rule of plan.schedules.keys()) await learn(plan, rule);
 }
@@ -115,32 +124,36 @@ function datesIn(plan, rule) {
 
 export function nameOf(plan, rule) {
   const { verdict, total } = plan.schedules.get(rule);
-  return rule === "best" ? `best ${verdict} ${total}`
-    : `${RULE_NAMES[rule] ?? rule} ${total}${verdict}`;
+  if (rule === "best") return `${SEARCHED[verdict] ?? "shortest found"} ${total}`;
+  return `${RULE_NAMES[rule] ?? rule} ${total}${verdict}`;
 }
 
-/** Returns the title and the names of a plan; none if they were remembered of other rows. */
+/** Returns the title, ids and names of a plan; none if they were remembered of other rows. */
 export function namesIn({ n, schedules }) {
   const { title = "", names = {}, resources = {}, shape } = recordOf(n);
-  const [table] = schedules.values();
+  const [table] = schedules.values(), project = page.projects.get(n);
+  const count = (table?.rows ?? project?.durations)?.length;
   const isOther = shape && table && shape !== shapeOf(table.rows);
-  return isOther ? { title: "", names: {}, resources: {} } : { title, names, resources };
+  if (isOther) return { title: "", ids: {}, names: {}, resources: {}, count };
+  return { title, ids: Object.fromEntries(project?.ids ?? []), names, resources, count };
 }
 
 function rowsOf(plan, table, dates, slack) {
-  const { names, resources } = namesIn(plan);
+  const { ids, names, resources } = namesIn(plan);
   return table.rows.map(({ act, job, step, mach, d, start, end }, index) => {
     const { TF: float, isCritical = false } = plan.dates?.rows?.[index] ?? {};
     const { first = "", last = "" } = dates?.[index] ?? {};
     const both = { index, start, end, d, first, last, slack: slack?.[index] ?? "", isCritical };
-    if (act) return { ...both, number: act, name: names[act] ?? "", float };
+    if (act) {
+      const described = plan.described?.get(act);
+      const id = ids[act] ?? "", name = names[act] ?? "";
+      return { ...both, number: act, id, label: id || act, name, float, ...described };
+    }
     const jobName = names[job] ?? "", machineName = resources[mach] ?? "";
     const name = [jobName, machineName].filter(Boolean).join(", ");
     return { ...both, job, step, machine: mach, jobName, machineName, name };
   });
 }
-
-export const named = (number, name) => (name ? `${number} ${name}` : `${number}`);
 
 function timesOf({ start, end, first, last, slack, isCritical }, needed = "") {
   const dates = first && `, ${first} to ${last}`;
@@ -150,9 +163,9 @@ function timesOf({ start, end, first, last, slack, isCritical }, needed = "") {
 
 function projectBars({ plan, rows, slack }) {
   const { model } = plan;
-  const { resources } = namesIn(plan);
+  const labels = namesIn(plan);
   const isByResource = byId("colours").value === "resource" && model;
-  const resourceName = (place) => resources[place] ?? `resource ${place}`;
+  const resourceName = (place) => resourceLabel(labels, place);
   return rows.map((row) => {
     const needs = model?.needs[row.index] ?? [];
     const most = model ? mostNeeded(needs, model.capacities) : 0;
@@ -160,11 +173,11 @@ function projectBars({ plan, rows, slack }) {
       (need ? `; needs ${need} of ${resourceName(place + 1)}` : "")).join("");
     const bySlack = slack ? (row.slack ? "loose" : "tight") : "plain";
     return {
-      ...row, line: row.number, lineName: named(row.number, row.name), isAlone: true,
-      labels: [`${row.number}${row.isCritical ? "*" : ""}`],
+      ...row, line: row.number, lineName: named(row.label, row.name), isAlone: true,
+      labels: [`${row.label}${row.isCritical ? "*" : ""}`],
       colour: isByResource ? `c${most ? (most - 1) % 16 : "none"}` : bySlack,
       legend: isByResource && (most ? resourceName(most) : "no resource"),
-      words: `Activity ${named(row.number, row.name)}${timesOf(row, needed)}`,
+      words: `Activity ${named(row.label, row.name)}${timesOf(row, needed)}`,
     };
   });
 }
@@ -192,11 +205,14 @@ export function viewOf(plan) {
   const starts = startsOf(table);
   const slack = plan.slacks.get(plan.drawn) ?? null;
   const dates = datesIn(plan, plan.drawn);
-  const rows = rowsOf(plan, table, dates, slack);
+  const all = rowsOf(plan, table, dates, slack);
+  const hasIds = all.some(({ id }) => id);
+  // as the program does, without the start and the end if the others have ids
+  const rows = hasIds ? all.filter(({ id }) => id) : all;
   const bars = plan.kind === "project" ? projectBars({ plan, rows, slack }) : shopBars({ rows });
   return {
-    plan, starts, slack, rows, bars, total: Math.max(...rows.map(({ end }) => end)),
-    isNamed: rows.some(({ name }) => name),
+    plan, starts, slack, rows, bars, total: Math.max(...all.map(({ end }) => end)),
+    hasIds, isNamed: rows.some(({ name }) => name),
     dates, axis: plan.axis, calendar: dates && plan.calendar,
     lineNames: new Map(bars.map(({ line, lineName }) => [line, lineName])),
   };

@@ -3,18 +3,20 @@
 
 import { command, orRefusal, planPath, Refusal } from "./api.js";
 import { fill, put, refusalNode } from "./dom.js";
+import { activityLabel, machineLabel, resourceLabel } from "./labels.js";
 import { fileOf } from "./local.js";
+import { sentencesOf } from "./messages.js";
 import { openPlan, takeStarts } from "./plan.js";
-import { recordOf, rememberChange, remember } from "./state.js";
+import { page, recordOf, rememberChange, remember } from "./state.js";
 import { startsText } from "./handin.js";
 import { counted } from "./words.js";
 
 /** Returns everything about the plan of a view as the text of a file; null without the plan's
  * file. */
-export function wholeText({ plan: { n, kind, drawn }, rows }) {
+export function wholeText({ plan: { n, kind, drawn }, starts }) {
   const { file, ...record } = recordOf(n);
   if (!file) return null;
-  const schedule = { name: drawn, starts: startsText(rows) };
+  const schedule = { name: drawn, starts: startsText({ starts }) };
   const { instance, bytes } = file;
   return fileOf([{ n, kind, instance, bytes, calendar: record.set?.calendar, record, schedule }]);
 }
@@ -35,10 +37,24 @@ async function setAgain(n, changes) {
   const refused = [];
   for (const { part, value, body } of changes) {
     const answer = await orRefusal(command(planPath(n, part), "POST", body));
-    if (answer instanceof Refusal) refused.push(`${JSON.stringify(body)}: ${answer.message}`);
+    if (answer instanceof Refusal) refused.push([part, body, answer]);
     else rememberChange(n, part, value);
   }
   return refused;
+}
+
+// a change of a plan that the office refused, in the names of the open plan
+function lostNode(n, [part, { place, code, from, to, lag }, { message }]) {
+  const labels = page.plan.labels;
+  const label = page.plan.kind === "shop" ? machineLabel : resourceLabel;
+  const arc = [from, to].map((number) => activityLabel(labels, number, labels.count));
+  const words = {
+    bind: () => `Bind ${label(labels, place)} under Changes: ${code} was refused.`,
+    lag: () => `Set the lag ${lag} from ${arc.join(" to ")} under Changes: it was refused.`,
+    calendar: () => "Set the calendar under Changes: it was refused.",
+  };
+  const [first, second = ""] = sentencesOf(message, labels);
+  return refusalNode(message, { meaning: [words[part](), `Plan ${n}. ${first} ${second}`] });
 }
 
 /** Brings the plans of a file back as new plans of the desk; `imported` sends the file of one and
@@ -50,11 +66,13 @@ export async function bringBack(plans, imported) {
     remember(n, { title: record.title, names: record.names, resources: record.resources,
       list: record.list });
     const changes = changesIn(set);
-    refused.push(...await setAgain(n, changes));
-    told.push(`${record.title} is plan ${n}, with ${counted(changes.length, "change")}.`);
+    const lost = await setAgain(n, changes);
+    const count = counted(changes.length - lost.length, "change");
+    told.push(`${record.title} is plan ${n}, with ${count}.`);
     await openPlan(n);
+    refused.push(...lost.map((change) => lostNode(n, change)));
     if (/^(best|own)$/.test(schedule?.name)) await takeStarts(schedule.starts);
   }
   put("news", told.join(" "));
-  fill("import-answer", ...refused.map((line) => refusalNode(line, "A change was refused.")));
+  fill("import-answer", ...refused);
 }

@@ -3,6 +3,7 @@ servers.conf. share/web/try and tests/clients/browser use the first, tests/clien
 """
 
 import contextlib
+import json
 import os
 import re
 import select
@@ -41,13 +42,14 @@ def replaced(text, pattern, value, count=1):
 
 def filled(name, room, port, pair):
     """A configuration of share/nginx for a folder; with a pair of a certificate and its key, or in
-    the clear."""
+    the clear. Requests that find no server wait for milliseconds, not for seconds: see `patient`."""
     text = file_of(f"share/nginx/{name}").decode()
     text = replaced(text, r"^ *listen \[::\]:443 ssl;.*\n", "")
     text = replaced(text, r"listen 443 ssl;", f"listen 127.0.0.1:{port}{' ssl' if pair else ''};")
     text = replaced(text, r"/var/log/nginx/office\.log", os.path.join(room, "access.log"))
     text = replaced(text, r"/var/log/nginx/office-error\.log", os.path.join(room, "office-error.log"))
     text = replaced(text, r"/usr/local/share/plan/web", WEB)
+    text = re.sub(r"auth_delay ([1248])s;", r"auth_delay \1ms;", text)
     if not pair:
         text = replaced(text, r"^ *ssl_.*\n", "", 5)
         return replaced(text, r"^ *add_header Strict-Transport-Security .*\n", "")
@@ -67,6 +69,13 @@ def servers_conf(room, ports, port, pair):
     lines = "".join(f"    server 127.0.0.1:{own} max_fails=0;\n" for own in ports)
     text = replaced(text, r"(^    server 127\.0\.0\.1:808[12] max_fails=0;.*\n){2}", lines)
     return replaced(text, r"/etc/nginx/plan-moved", os.path.join(room, "moved"))
+
+
+def patient(text):
+    """A configuration in which requests that find no server wait as long as in share/nginx."""
+    text, found = re.subn(r"auth_delay ([1248])ms;", r"auth_delay \1s;", text)
+    same("the waits of the configuration", found, 4)
+    return text
 
 
 class Front:
@@ -118,6 +127,13 @@ class Front:
         """The text of a file in its folder."""
         with open(os.path.join(self.room, name), encoding="utf-8") as file:
             return file.read()
+
+    def log(self):
+        """The requests in the log, each with its fields."""
+        try:
+            return [json.loads(line) for line in self.read("access.log").splitlines()]
+        except ValueError as fault:
+            raise Wrong(f"a line of nginx's log isn't JSON: {fault}") from None
 
 
 @contextlib.contextmanager

@@ -46,14 +46,16 @@ def journey_planner(browser):
     submit(browser, "import")
     wait_plan(browser, 4)
     names = list(csv.DictReader(io.StringIO(file_of("examples/house.csv").decode())))
-    same("the names", column(browser, "name")[1:-1], [row["name"] for row in names[:-1]])
+    same("the names", column(browser, "name"), [row["name"] for row in names[:-1]])
+    same("the ids", [cell.rstrip("*") for cell in column(browser, "id")], [row["id"] for row in names[:-1]])
     lines = printed("schedule", "lft", example("house.sm"))
-    same("the starts", column(browser, "start"), [row[2] for row in rows_of(lines)])
+    rows = rows_of(lines)[1:-1]
+    same("the starts", column(browser, "start"), [row[2] for row in rows])
     set_date(browser, "#calendar [name=start]", "2024-03-01")
     submit(browser, "calendar")
     open_tab(browser, "table")
     days = worked_days(datetime.date(2024, 3, 1), "1111100", int(makespan_of(lines)))
-    wanted = ["" if row[2] == row[3] else str(days[int(row[3]) - 1]) for row in rows_of(lines)]
+    wanted = ["" if row[2] == row[3] else str(days[int(row[3]) - 1]) for row in rows]
     same("the last days", column(browser, "last day"), wanted)
     same("weeks", "weeks begin on Monday" in seen(browser, "#caption"), True)
     sheets = browser.printed()
@@ -76,7 +78,7 @@ def journey_student(browser, office):
     drop_example(browser, "six.sm")
     wait_plan(browser, 6)
     drop_example(browser, "late.txt")
-    wait_text(browser, "#check-answer strong", "activity 6 can start earlier")
+    wait_text(browser, "#check-answer code", "activity 6 can start earlier")
     browser.click("#leave")
 
 
@@ -102,7 +104,7 @@ def journey_foreman(browser, office):
     at = [heads.index(head) for head in ("job", "step", "mach", "d", "start", "end")]
     same("the CSV", [[row[place] for place in at] for row in rows], [row[:6] for row in rows_of(lines)])
     drop(browser, name, text)
-    wait_text(browser, "#check-answer strong", "active")
+    wait_text(browser, "#check-answer code", "active")
     browser.click("#leave")
 
 

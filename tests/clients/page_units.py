@@ -9,10 +9,12 @@ import io
 import json
 import os
 import random
+import re
 import shutil
 import subprocess
 
 from exchanges import HERE, TOP, file_of
+import page_messages
 from programs import Unable, Wrong, plan, same
 
 NODE = shutil.which("node") or shutil.which("nodejs")
@@ -418,11 +420,12 @@ def try_projects(modules, draw):
         if title:
             same(f"the title of {name}", found["title"], title)
     named = file_of("examples/kitchen.sm").decode() + (
-        "***\nPROJECT INFORMATION:\nname 2 Demolition work\nname 3 Plumbing\nresource 1 crew\n"
+        "***\nPROJECT INFORMATION:\nid 2 D\nid  3  P-1\nid 2 X\nname 2 Demolition work\nname 3 Plumbing\n"
+        "resource 1 crew\n"
         "name 2 Another\nname  4   Wiring\nname 5\n***\n")
     found = modules.values([["project", "readProject", [named]]])[0]
-    same("the names", (found["names"], found["resources"]),
-         ([[2, "Demolition work"], [3, "Plumbing"], [4, "Wiring"]], [[1, "crew"]]))
+    same("the ids and names", (found["ids"], found["names"], found["resources"]),
+         ([[2, "D"], [3, "P-1"]], [[2, "Demolition work"], [3, "Plumbing"], [4, "Wiring"]], [[1, "crew"]]))
     shop = ("+ nothing\n instance a\n+ machine 0 press\n+ job 1 order 7\nfirst\n1 2\n0 1 1 2\n"
             " instance b\n+ machine 0 saw\nsecond\n1 1\n0 3\n")
     found = modules.values([["project", "readShop", [shop, name]] for name in ("a", "b")])
@@ -434,6 +437,45 @@ def try_projects(modules, draw):
              ([3, 3], [3, 3], 1), ([1, 2, 2], [4, 4, 4], 2)]
     found = modules.values([["project", "mostNeeded", [needs, caps]] for needs, caps, _ in cases])
     same("the resources needed most", found, [place for *_, place in cases])
+
+
+# ---- messages
+
+
+def try_messages(modules, draw):
+    """The first sentence on each error says what to do, with ids and names, and no sentence has a letter or
+    a blank in the place of a number."""
+    rows = {line: modules.values([["cells", "rowWords", [page_messages.LIST, line]]])[0] for line in (1, 3, 4, 9)}
+    same("the rows of a list", rows, {1: "", 3: "B Walls, north (line 3)", 4: "7 (line 4)", 9: ""})
+    cases = [(page_messages.PROJECTS, page_messages.LABELS), (page_messages.SHOPS, page_messages.SHOP),
+             (page_messages.LISTS, {"rows": rows})]
+    calls = [["messages", "sentencesOf", [line, labels]] for lines, labels in cases for line, _ in lines]
+    cases += [(page_messages.VERDICTS, page_messages.LABELS), (page_messages.SHOP_VERDICTS, page_messages.SHOP)]
+    calls += [["messages", "verdictWords", [line, labels]] for lines, labels in cases[3:] for line, _ in lines]
+    wanted = [case for lines, _ in cases for case in lines]
+    for (line, first), found in zip(wanted, modules.values(calls)):
+        same(f"what to do about {line}", found[0], first)
+        same(f"the verb for {line}", first.split()[0] in page_messages.VERBS, True)
+        text = " ".join(found)
+        blanks = re.findall(r"undefined|null|NaN|  |\b[ABCRMN] \.\.|\bline N\b|[( ][.,]", text)
+        same(f"what is missing in {text}", blanks, [])
+        same(f"sentences on {line}", (len(found), all(words.endswith(".") for words in found)), (2, True))
+    with open(os.path.join(modules.room, "messages.js"), encoding="utf-8") as file:
+        codes = set(re.findall(r"^  ([A-Z]\d+)s?: ", file.read(), re.MULTILINE))
+    told = {re.findall(r"\b[A-Z]\d+\b", line)[0 if line[0] in "TFGS" else -1] for line, _ in wanted
+            if re.match(r"[A-Z]\d", line)}
+    same("codes without a line here", codes - told, set())
+    late = [["messages", "verdictWords", [f"activity {n} starts before 2 ends", page_messages.LABELS]] for n in (3, 4)]
+    same("a lag that isn't over", [words[1] for words in modules.values(late)], [
+        "It starts before A Excavation ends.", "It starts before the lag of 7 behind A Excavation is over."])
+    for path in glob.glob(os.path.join(modules.room, "*.js")):
+        with open(path, encoding="utf-8") as file:
+            text = file.read()
+        first = re.findall(r"new Refusal\((?:note \|\| )?[\"`]([A-Z]\w*) ", text)
+        first += re.findall(r"meaning(?:: | = )\[[\"`](\w+)", text)
+        same(f"verbs of {os.path.basename(path)}", [word for word in first if word not in page_messages.VERBS
+             and word != "G4"], [])
+    same("a line without a code", modules.values([["messages", "sentencesOf", ["C1 unknown code"]]]), [[]])
 
 
 # ---- layout and tables
@@ -550,7 +592,7 @@ def try_sorting(modules, draw):
 
 
 TRIALS = [try_slack, try_verdicts, try_shops, try_use, try_search, try_hand_in, try_projects,
-          try_layout, try_sorting]
+          try_messages, try_layout, try_sorting]
 
 
 def try_units(room, web, seed=1):

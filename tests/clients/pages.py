@@ -33,21 +33,14 @@ def printed(*words, given=b""):
     return out.decode().splitlines()
 
 
-def explained(line):
-    """What `plan explain` says of the code of an error, but for its form and for which line N is; with
-    the line and the activities of the error in the place of letters."""
-    code, _, number, *rest = line.split()
-    texts = [re.sub(r"(?<=\.) N is .*", "", text) for text in printed("explain", code)[1:]]
-    texts = [re.sub(r"\b([Ll]ine) N\b", rf"\1 {number}", text) for text in texts]
-    if rest[:1] == ["cycle"]:
-        texts = [text.replace("A, B, ..", ", ".join(rest[1:])).replace("precedes A", f"precedes {rest[1]}")
-                 for text in texts]
-    return texts
-
-
 def rows_of(lines):
     """The rows of a table as words, without its heading and the lines below it."""
     return [line.split() for line in lines if line.split()[0].isdigit()]
+
+
+def id_rows(lines):
+    """The rows of a table whose first column has ids, as words."""
+    return [line.split() for line in lines[1:-1]]
 
 
 def makespan_of(lines):
@@ -187,76 +180,6 @@ def same_table(browser, lines, given, dates=None, slack=None):
     if not slack and found[0][-1] == "slack":
         found = [row[:-1] for row in found]
     same("the table of the schedule", found, wanted)
-
-
-# relative luminance and contrast, by the Web Content Accessibility Guidelines
-CONTRAST = """
-    const channel = (value) => {
-        const part = value / 255;
-        return part <= 0.04045 ? part / 12.92 : ((part + 0.055) / 1.055) ** 2.4;
-    };
-    const light = ([r, g, b]) => 0.2126 * channel(r) + 0.7152 * channel(g) + 0.0722 * channel(b);
-    const parts = (colour) => colour.match(/[0-9.]+/g).map(Number);
-    const contrast = (a, b) => {
-        const [low, high] = [light(a), light(b)].sort((x, y) => x - y);
-        return (high + 0.05) / (low + 0.05);
-    };
-    const behind = (node) => {
-        for (let at = node; at; at = at.parentElement) {
-            const colour = parts(getComputedStyle(at).backgroundColor);
-            if (colour.length === 3 || colour[3] === 1) return colour;
-        }
-        return [255, 255, 255];
-    };
-    const found = [];
-    const walker = document.createTreeWalker(document.body, NodeFilter.SHOW_TEXT);
-    while (walker.nextNode()) {
-        const node = walker.currentNode.parentElement;
-        if (!walker.currentNode.data.trim() || !node.checkVisibility() || node.closest("title, [aria-disabled]"))
-            continue;
-        const style = getComputedStyle(node), bar = node.closest(".bar");
-        const isText = node.namespaceURI.endsWith("svg");
-        const ink = parts(isText ? style.fill : style.color);
-        const under = bar && !node.classList.contains("behind")
-            ? parts(getComputedStyle(bar.querySelector("rect, path")).fill) : behind(node.closest("svg") ?? node);
-        const value = contrast(ink, under);
-        if (value < 4.5) found.push(`${node.tagName}.${node.getAttribute("class")} ${value.toFixed(2)} ${node.textContent.slice(0, 20)}`);
-    }
-    return found;
-"""
-
-# names and roles that programs for reading aloud need
-NAMES = """
-    const found = [];
-    const visible = (css) => [...document.querySelectorAll(css)].filter((node) => node.checkVisibility());
-    const named = (node) => node.getAttribute("aria-label") || node.labels?.length || node.title
-        || (node.getAttribute("aria-labelledby") && document.getElementById(node.getAttribute("aria-labelledby")))
-        || (node.tagName === "BUTTON" && node.textContent.trim());
-    for (const node of visible("input, select, textarea, button, [role=region], [role=tabpanel], [role=tablist], svg[role]"))
-        if (!named(node)) found.push(`${node.tagName}#${node.id} has no name`);
-    const ids = [...document.querySelectorAll("[id]")].map((node) => node.id);
-    for (const id of ids) if (ids.indexOf(id) !== ids.lastIndexOf(id)) found.push(`two elements ${id}`);
-    for (const node of document.querySelectorAll("[aria-controls], [aria-labelledby]")) {
-        const id = node.getAttribute("aria-controls") ?? node.getAttribute("aria-labelledby");
-        if (!document.getElementById(id)) found.push(`no element ${id}`);
-    }
-    for (const table of visible("table"))
-        if (table.tHead && !table.querySelector("thead th[scope=col]")) found.push("a table without heads");
-    for (const node of visible("[tabindex]")) if (node.tabIndex > 0) found.push(`tabindex ${node.tabIndex}`);
-    if (document.documentElement.lang !== "en") found.push("no language");
-    if (visible("main").length !== 1 || visible("h1").length !== 1) found.push("main or h1");
-    const heads = visible("h1, h2, h3").map((node) => Number(node.tagName[1]));
-    heads.forEach((level, at) => { if (at && level > heads[at - 1] + 1) found.push(`a heading skips to ${level}`); });
-    return found;
-"""
-
-
-def same_senses(what, browser):
-    """Texts have a contrast of 4.5 in the light and in the dark, and elements have names."""
-    for scheme in ("dark", "light"):
-        browser.darken(scheme)
-        same(f"texts of {what} in the {scheme}", browser.run(CONTRAST), [])
-    same(f"names of {what}", browser.run(NAMES), [])
 
 
 # ---- what a person does

@@ -1,4 +1,4 @@
-"""Reduces a PNG to a palette of its most frequent colours, 256 by default."""
+"""Reduces a PNG to a palette of colours that are frequent and differ, 256 by default."""
 
 import collections
 import struct
@@ -58,18 +58,41 @@ def pixels_of(data):
     return lines, width, height
 
 
+def packed(places, depth):
+    """The places of a line's colours as bytes, one or two a byte."""
+    if depth == 8:
+        return bytes(places)
+    pairs = zip(places[::2], places[1::2] + [0] * (len(places) % 2))
+    return bytes(16 * left + right for left, right in pairs)
+
+
+def distance(colour, other):
+    return sum((a - b) ** 2 for a, b in zip(colour, other))
+
+
+def palette_of(counts, most):
+    """So many colours: each is the one that most pixels are farthest from those before it."""
+    found = [colour for colour, _ in counts.most_common(1)]
+    far = {colour: distance(colour, found[0]) for colour in counts}
+    while len(found) < min(most, len(counts)):
+        best = max(far, key=lambda colour: far[colour] * counts[colour])
+        found.append(best)
+        far = {colour: min(far[colour], distance(colour, best)) for colour in far}
+    return found
+
+
 def smaller(data, most=256):
     """The same picture with at most so many colours."""
     lines, width, height = pixels_of(data)
     counts = collections.Counter(colour for line in lines for colour in line)
-    palette = [colour for colour, _ in counts.most_common(most)]
-    distance = lambda colour, other: sum((a - b) ** 2 for a, b in zip(colour, other))
+    palette = palette_of(counts, most)
     place = {
         colour: min(range(len(palette)), key=lambda at: distance(colour, palette[at]))
         for colour in counts
     }
-    content = b"".join(b"\0" + bytes(place[colour] for colour in line) for line in lines)
-    head = struct.pack(">IIBBBBB", width, height, 8, 3, 0, 0, 0)
+    depth = 4 if most <= 16 else 8
+    content = b"".join(b"\0" + packed([place[colour] for colour in line], depth) for line in lines)
+    head = struct.pack(">IIBBBBB", width, height, depth, 3, 0, 0, 0)
     colours = b"".join(bytes(colour) for colour in palette)
     parts = {b"IHDR": head, b"PLTE": colours, b"IDAT": zlib.compress(content, 9), b"IEND": b""}
     return SIGNATURE + b"".join(chunk(*part) for part in parts.items())

@@ -1,6 +1,6 @@
 """An office on several servers behind nginx, with share/nginx/servers.conf, in a temporary folder;
-the effects of plan-office and share/move-desk; and which server sent a response. Used by
-tests/clients/many and bench/many.
+the effects of plan-office and share/move-desk; which server sent a response; and the lines of
+docs/servers.md. Used by tests/clients/many, tests/clients/booted and bench/many.
 """
 
 import contextlib
@@ -20,6 +20,37 @@ MOVE_DESK = os.path.join(TOP, "share", "move-desk")
 FIELDS = [b"Content-Type", b"Content-Length", b"Allow", b"Connection"]
 CONF = file_of("share/nginx/servers.conf")
 ADDED = {b"Server", b"Date", *re.findall(rb"(?m)^ *add_header (\S+) ", CONF)}
+
+
+def shown(page):
+    """The lines of a page that are typed, those behind `$`, each with what it prints."""
+    found = []
+    for line in "\n".join(block for block in page.split("\n\n") if block.startswith("    $ ")).split("\n"):
+        if line.startswith("    $ "):
+            found.append([line[6:], []])
+        elif line.startswith("    > "):
+            found[-1][0] += "\n" + line[6:]
+        else:
+            found[-1][1].append(line[4:])
+    return found
+
+
+WAITING = "until curl -so /dev/null 127.0.0.1:%s; do sleep 0.05; done"
+
+
+def script(lines, changes):
+    """The lines as one script, with some words changed, which waits where a person would, and tells
+    each line before it is run."""
+    texts = []
+    for number, (line, _) in enumerate(lines):
+        for old, new in changes.items():
+            line = line.replace(old, new)
+        texts += [f"echo line {number}", line]
+        if line.endswith("&"):
+            texts.append(WAITING % line.split()[-2])
+        if "reload" in line:
+            texts.append("sleep 1")
+    return "\n".join(texts) + "\n"
 
 
 def ports_below(count, chance=random.Random()):

@@ -73,7 +73,7 @@ class Drawn:
     def places(self):
         """The place at which each desk was asked last, by nginx's log."""
         ports = {f"127.0.0.1:{port}": place for place, port in enumerate(self.office.ports)}
-        found = dict(asked_in(self.office.front.read("access.log")))
+        found = dict(asked_in(self.office.front.log()))
         same("servers that aren't there", set(found.values()) - set(ports), set())
         return {desk: ports[address] for desk, address in found.items()}
 
@@ -87,9 +87,9 @@ class Drawn:
 
 
 def asked_in(log):
-    """The desks in nginx's log, each with the address of the server that was asked."""
-    words = [line.split(" ") for line in log.splitlines()]
-    return [(own[4].split("/")[2], own[-1]) for own in words if own[4].startswith("/desks/desk-")]
+    """The desks in nginx's log, each with the address of the server that was asked, at last."""
+    found = [(line["path"], line["server"].split(" ")[-1]) for line in log]
+    return [(path.split("/")[2], server) for path, server in found if path.startswith("/desks/desk-")]
 
 
 # ---- while a server is down
@@ -225,8 +225,8 @@ def are_rows(drawn, database, room):
 def are_logs(drawn):
     """No key is in a log of nginx; and nginx asked one server for each desk, and another for each
     that was moved."""
-    log = drawn.office.front.read("access.log")
-    text = log + drawn.office.front.read("error.log")
+    log = drawn.office.front.log()
+    text = drawn.office.front.read("access.log") + drawn.office.front.read("error.log")
     found = [key for key in drawn.requests.keys.values() if key in text]
     same("keys in the logs of nginx", found, [])
     same("how many places desks had", len(set(asked_in(log))), DESKS + len(MOVES))

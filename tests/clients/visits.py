@@ -13,13 +13,14 @@ from exchanges import OFFICE_KEY, TOP, Exchange, file_of
 from front import sent
 from page_units import as_model, brute_slack, read_sm, shop_model, worked_days
 from pages import (
-    RULE_NAMES, RULES, drop, example, explained, focus_window, makespan_of, open_plan, open_tab, pick,
+    RULE_NAMES, RULES, drop, example, focus_window, makespan_of, open_plan, open_tab, pick,
     printed, rows_of,
-    same_bars, same_project, same_senses, same_table, seen, seen_axis, seen_plans, seen_table,
+    same_bars, same_project, same_table, seen, seen_axis, seen_plans, seen_table,
     set_date, submit, texts, wait_idle, wait_plan, wait_text,
 )
 from pictures import smaller
 from programs import Wrong, plan, same, talk
+from senses import same_order, same_senses
 
 DESK, KEY, FIRST_KEY = "trial", "trial-key-2", "trial-key-1"
 SHOP_RULES = ["mwkr", "spt", "fcfs"]
@@ -27,7 +28,7 @@ TAB, ENTER, ESCAPE, LEFT, RIGHT = "\ue004", "\ue007", "\ue00c", "\ue012", "\ue01
 PICTURES = os.path.join(TOP, "docs", "pictures")
 LARGEST_PICTURE = 60000
 HOUSE = "tests/clients/files/house.sm"
-KEY_WORDS = "The key isn't that of the desk (or of the office), or there is no such desk."
+KEY_WORDS = "Check the name and the key, letter by letter."
 
 
 def listed(server):
@@ -84,22 +85,20 @@ def column(browser, head, css="#table"):
 
 
 def visit_door(browser):
-    """The first lines say what the page is. A wrong key is refused in plain words first, then with
-    the office's error; so is an unknown desk."""
+    """The first lines say what the page is. A wrong key is refused with what to do first, then with
+    what is wrong and the office's error; so is an unknown desk."""
     same("what the page is", "keeps your projects" in seen(browser, "#door .what"), True)
     for desk, key in ((DESK, "no-such-key"), ("nobody", KEY)):
         sign_in(browser, desk, key)
-        wait_text(browser, "#enter .refusal strong", "E01 key")
-        lead, *rest = texts(browser, "#enter .refusal p")
-        same("the first words", lead, "This desk and key don't match.")
-        first = browser.run("return document.querySelector('#enter .refusal').firstChild.textContent")
-        same("what comes first", first, lead)
-        same("what the page says of E01", rest, [KEY_WORDS])
+        wait_text(browser, "#enter .refusal code", "E01 key")
+        said = browser.run("return [...document.querySelector('#enter .refusal').children].map("
+                           "(node) => node.textContent)")
+        same("what the page says of E01", said, [KEY_WORDS, "This desk and key don't match.", "E01 key"])
     browser.type("#enter-office [name=key]", "no-such-key")
     submit(browser, "enter-office")
     wait_text(browser, "#enter-office .refusal", "E01 key")
-    same("what the page says of the office's key", texts(browser, "#enter-office .refusal p"),
-         ["This isn't the office's key.", KEY_WORDS])
+    same("what the page says of the office's key", texts(browser, "#enter-office .refusal > *"),
+         [KEY_WORDS, "This isn't the office's key.", "E01 key"])
     same_senses("signing in", browser)
 
 
@@ -225,7 +224,7 @@ def visit_import(browser):
     wanted = [["Number", "Title", "Kind", "Makespan"], ["Plan 1", "house", "project", "45"]]
     same("the plans", seen_table(browser, "#plans"), wanted)
     same_project(browser, file_of(HOUSE))
-    wait_text(browser, "#days", "No calendar is set")
+    wait_text(browser, "#days", "Set a calendar under Changes to see dates")
     lines = printed("schedule", "lft", os.path.join(TOP, HOUSE))
     same_table(browser, lines, file_of(HOUSE), slack=slack_in(file_of(HOUSE).decode(), lines))
 
@@ -357,7 +356,7 @@ def visit_calendar(browser):
     same("no calendar yet", "Not set on this computer" in seen(browser, "#calendar-set"), True)
     set_date(browser, "#calendar [name=start]", start)
     submit(browser, "calendar")
-    wait_text(browser, "#calendar .answer", "From 2024-03-01 on; working days 1111100")
+    wait_text(browser, "#calendar .answer", "From 2024-03-01 on; working days Mo, Tu, We, Th, Fr.")
     same("set here", f"Set here on {datetime.date.today()}; the office doesn't"
          in seen(browser, "#calendar-set"), True)
     for rule in RULES:
@@ -408,12 +407,13 @@ def visit_today(browser):
                     " if (box.checked) box.click();", box - 1)
     submit(browser, "calendar")
     wait_text(browser, "#calendar .refusal", "E12 G2 days")
-    same("what the page says of G2", texts(browser, "#calendar .refusal p"), ["No working day is marked."])
+    same("what the page says of G2", texts(browser, "#calendar .refusal > *"),
+         ["Mark a working day.", "None is marked.", "E12 G2 days"])
     set_date(browser, "#calendar [name=start]", "2024-03-01")
     for box in range(1, 6):
         browser.run("document.querySelectorAll('#marks input')[arguments[0]].click()", box - 1)
     submit(browser, "calendar")
-    wait_text(browser, "#calendar .answer", "From 2024-03-01 on; working days 1111100")
+    wait_text(browser, "#calendar .answer", "From 2024-03-01 on; working days Mo, Tu, We, Th, Fr.")
 
 
 def house_of_four():
@@ -428,14 +428,15 @@ def visit_bind(browser):
     plan's resources isn't sent."""
     pick(browser, "#bind [name=place]", "1")
     submit(browser, "bind")
-    wait_text(browser, "#bind .answer", "Resource 1 is crew-a.")
+    wait_text(browser, "#bind .answer", "The capacity of resource 1 is now that of crew-a.")
     lines = printed("schedule", "lft", "-", given=house_of_four())
     slack = slack_in(house_of_four().decode(), lines)
     same("the makespan", seen(browser, "#drawn label").strip(),
          f"{RULE_NAMES['lft']} {makespan_of(lines)}")
     same("the slack", column(browser, "slack"), [str(number) for number in slack])
     same("set here", "resource 1 is crew-a (set here on" in seen(browser, "#bind-set"), True)
-    same("the places of a project of two resources", places_offered(browser), ["1", "2"])
+    same("the places of a project of two resources", places_offered(browser),
+         ["resource 1", "resource 2"])
 
 
 def places_offered(browser):
@@ -450,7 +451,7 @@ def visit_lag(browser):
         pick(browser, f"#lag [name={name}]", value)
     submit(browser, "lag")
     wait_text(browser, "#lag .answer", "At least 5 between 2 and 3.")
-    wait_text(browser, "#lag-set", "2-3: 5 (set here on")
+    wait_text(browser, "#lag-set", "2 to 3: 5 (set here on")
     same("the whole", "the whole takes 50" in seen(browser, "#dates caption"), True)
     model = model_of(house_of_four().decode())
     for link in model["arcs"]:
@@ -459,7 +460,7 @@ def visit_lag(browser):
     same("the slack with a lag", column(browser, "slack"), [str(s) for s in brute_slack(model, starts)])
     browser.type("#lag [name=lag]", "0")
     submit(browser, "lag")
-    wait_text(browser, "#lag-set", "2-3: 0 (set here on")
+    wait_text(browser, "#lag-set", "2 to 3: 0 (set here on")
     same("the whole", "the whole takes 45" in seen(browser, "#dates caption"), True)
     offered = "return [...lag.elements[arguments[0]].options].map(({ textContent }) => textContent)"
     same("activities", browser.run(offered, "from"), [str(n) for n in range(1, 15)])
@@ -468,20 +469,19 @@ def visit_lag(browser):
     pick(browser, "#lag [name=to]", "14")
     submit(browser, "lag")
     wait_text(browser, "#lag .refusal", "E03 body")
-    same("what the page says of it", texts(browser, "#lag .refusal p"),
-         ["The project has no arc from activity 2 to activity 14. A lag is set between an activity and its "
-          "direct successor."])
+    same("what the page says of it", texts(browser, "#lag .refusal > *"),
+         ["Choose a direct successor of 2.", "The plan has no arc from it to 14.", "E03 body"])
     # a plan with a lag alone, without a bind
     open_plan(browser, 2)
     open_tab(browser, "changes")
     for name, value in arc.items():
         pick(browser, f"#lag [name={name}]", value)
     submit(browser, "lag")
-    wait_text(browser, "#lag-set", "2-3: 5 (set here on")
+    wait_text(browser, "#lag-set", "2 to 3: 5 (set here on")
     same("a column of slack with a lag alone", "slack" in seen_table(browser, "#table")[0], True)
     browser.type("#lag [name=lag]", "0")
     submit(browser, "lag")
-    wait_text(browser, "#lag-set", "2-3: 0 (set here on")
+    wait_text(browser, "#lag-set", "2 to 3: 0 (set here on")
 
 
 def visit_elsewhere(browser, office):
@@ -489,13 +489,13 @@ def visit_elsewhere(browser, office):
     path = f"/desks/{DESK}/plans/2/"
     sent(office.server.port, "POST", path + "lag", KEY, b'{"from":2,"to":3,"lag":3}')
     open_plan(browser, 2)
-    wait_text(browser, "#note", "Slack isn't known: the office's plan differs from the file")
+    wait_text(browser, "#note", "Bind or set the lag here too to see slack: the office's plan differs from the file")
     same("a column of slack", "slack" in seen_table(browser, "#table")[0], False)
     same("the colours", set(bar_classes(browser)), {"plain"})
     sent(office.server.port, "POST", path + "lag", KEY, b'{"from":2,"to":3,"lag":0}')
     sent(office.server.port, "POST", path + "bind", KEY, b'{"place":1,"code":"crew-a"}')
     open_plan(browser, 2)
-    wait_text(browser, "#note", "Slack isn't known")
+    wait_text(browser, "#note", "Bind or set the lag here too to see slack")
     open_tab(browser, "changes")
     pick(browser, "#bind [name=place]", "1")
     submit(browser, "bind")
@@ -517,12 +517,12 @@ def visit_best(browser):
     submit(browser, "best")
     lines = printed("solve", example("five.sm"))
     wait_text(browser, "#best-answer", f"{lines[0]}: no schedule of this plan is shorter.")
-    wait_text(browser, "#drawn label:last-child", f"best {lines[0]}")
+    wait_text(browser, "#drawn label:last-child", f"shortest, proved {makespan_of(lines)}")
     last = int(makespan_of(lines))
     same_choice(browser, last)
     bars = [[row[0], row[2], row[3]] for row in rows_of(lines)]
     same_bars("a best schedule", browser, bars, last, places_in("2024-03-01", "1111100", last))
-    same("its column", seen_table(browser, "#rules")[0][-1], "best (optimal)")
+    same("its column", seen_table(browser, "#rules")[0][-1], "search (optimal)")
     ends = [row[-1] for row in seen_table(browser, "#rules")[1:-1]]
     same("its ends", ends, [f"{row[2]}–{row[3]}" for row in rows_of(lines)])
     days = [str(day) for day in worked_days(datetime.date(2024, 3, 1), "1111100", last)]
@@ -582,8 +582,8 @@ def visit_large(browser):
     browser.click("#colours option[value=slack]")
     lines = printed("schedule", "num", "-", given=text.encode())
     drop(browser, "solved.txt", output)
-    wait_text(browser, "#check-answer strong", "active")
-    wait_text(browser, "#check-answer", f"Makespan {makespan_of(lines)}.")
+    wait_text(browser, "#check-answer code", "active")
+    wait_text(browser, "#check-answer", f"makespan {makespan_of(lines)}.")
     same("the schedule that is drawn", browser.run("return document.querySelector("
          "'#drawn :checked').value"), "own")
     same_bars("what was solved", browser, [[row[0], row[2], row[3]] for row in rows_of(lines)],
@@ -604,9 +604,9 @@ def visit_check(browser):
         line = plan("check", example("six.sm"), "-", given=starts.encode())[1].decode().rstrip("\n")
         browser.run("check.elements.starts.value = arguments[0]", starts)
         submit(browser, "check")
-        same(f"the verdict on {starts}", seen(browser, "#check-answer strong"), line)
+        same(f"the verdict on {starts}", seen(browser, "#check-answer code"), line)
         ends = [int(s) + d for s, d in zip(starts.split(), [0, 3, 2, 4, 3, 0])]
-        wait_text(browser, "#check-answer", f"Makespan {max(ends)}.")
+        wait_text(browser, "#check-answer", f"makespan {max(ends)}.")
         found = "refusal" if "start" in line and "before" in line or "needed" in line else "verdict"
         same("its colour", browser.run("return document.querySelector('#check-answer > div')"
                                        ".className"), found)
@@ -616,22 +616,27 @@ def visit_check(browser):
         if line.startswith("activity"):
             wait_text(browser, "#told", f"Activity {line.split()[1]}: ")
     browser.choose("#check-file", example("late.txt"))
-    wait_text(browser, "#check-answer strong", "activity 6 can start earlier")
+    wait_text(browser, "#check-answer code", "activity 6 can start earlier")
     for starts in ("0 0 0", "0 0 0 3 2 x"):
         browser.run("check.elements.starts.value = arguments[0]", starts)
         submit(browser, "check")
         line = plan("check", example("six.sm"), "-", given=starts.encode())[2].decode().rstrip("\n")
-        wait_text(browser, "#check-answer strong", line)
-        same(f"the error of {starts}", seen(browser, "#check-answer strong"), line)
+        wait_text(browser, "#check-answer code", line)
+        same(f"the error of {starts}", seen(browser, "#check-answer code"), line)
 
 
 def downloaded(browser, office, button):
-    """The name and the text of a file that the page saves."""
-    room = os.path.join(os.path.dirname(office.database), "saved-" + button)
+    """The name and the text of a file that the page saves by a button."""
+    open_tab(browser, "handin")
+    return downloaded_by(browser, office, button, lambda: browser.click(f"#saves [value^={button}]"))
+
+
+def downloaded_by(browser, office, kind, act):
+    """The name and the text of a file that the page saves after an action."""
+    room = os.path.join(os.path.dirname(office.database), "saved-" + kind)
     os.makedirs(room, exist_ok=True)
     browser.devtools("Browser.setDownloadBehavior", behavior="allow", downloadPath=room)
-    open_tab(browser, "handin")
-    browser.click(f"#saves [value^={button}]")
+    act()
     for _ in range(300):
         names = [name for name in os.listdir(room) if not name.endswith(".crdownload")]
         if names:
@@ -641,7 +646,7 @@ def downloaded(browser, office, button):
                 os.remove(os.path.join(room, names[0]))
                 return names[0], text
         browser.wait("a moment", "return true")
-    raise Wrong(f"nothing was saved by {button}")
+    raise Wrong(f"nothing was saved by {kind}")
 
 
 def one_line(value):
@@ -649,15 +654,8 @@ def one_line(value):
     return json.dumps(value, sort_keys=True, separators=(",", ":"), ensure_ascii=False) + "\n"
 
 
-def without_ids(text):
-    """A project file without the lines of its ids: the page has the numbers of activities."""
-    whole = text if isinstance(text, bytes) else text.encode()
-    return b"".join(line for line in whole.splitlines(keepends=True) if not line.startswith(b"id "))
-
-
 def as_printed(commands, given, instance=()):
     """The members of the JSON of several commands on a file, and those of their rows together."""
-    given = without_ids(given)
     options = ["--names", "--format", "json"]
     values = [json.loads("\n".join(printed(*words, *options, "-", *instance, given=given)))
               for words in commands]
@@ -719,22 +717,21 @@ def visit_table(browser):
     """A table is shown with the project that it becomes; an error is shown at its cell."""
     text = file_of("tests/tables/list.csv").decode()
     drop(browser, "list.csv", text.replace("B C", "B X"))
-    wait_text(browser, "#preview strong", "T8 line 5 predecessor X")
+    wait_text(browser, "#preview code", "T8 line 5 predecessor X")
     same("the line", texts(browser, "#preview .marked td"), [text.replace("B C", "B X").split("\n")[4]])
     same_senses("a table with an error", browser)
     same("a button", browser.run("return document.querySelector('#chosen button').checkVisibility()"),
          False)
     drop(browser, "list.csv", text)
-    wait_text(browser, "#preview", "a project of 4 activities, with a start and an end around them, "
-              "4 arcs and 2 resources")
-    wanted = [["number", "name", "duration", "predecessors", "crew", "digger"],
-              ["2", "Excavation", "4", "", "3", "1"], ["3", "Foundation", "6", "2", "5", "0"],
-              ["4", "Drains", "3", "2", "2", "1"], ["5", "Walls, north", "10", "3 4", "4", "0"]]
+    wait_text(browser, "#preview", "a project of 4 activities, with 4 links between them and 2 resources")
+    wanted = [["id", "name", "duration", "predecessors", "crew", "digger"],
+              ["A", "Excavation", "4", "", "3", "1"], ["B", "Foundation", "6", "A", "5", "0"],
+              ["C", "Drains", "3", "A", "2", "1"], ["D", "Walls, north", "10", "B C", "4", "0"]]
     same("the project", seen_table(browser, "#preview"), wanted)
     same("the plans so far", seen_plans(browser), [1, 2, 3, 4, 5])
     browser.run("edit.elements.list.value = arguments[0]", text.replace("Drains,3", "Drains,x"))
     submit(browser, "edit")
-    wait_text(browser, "#preview strong", "T5 line 4 duration")
+    wait_text(browser, "#preview code", "T5 line 4 duration")
     browser.click("#undo")
     wait_text(browser, "#preview", "becomes a project of 4 activities")
     same("the list again", browser.run("return edit.elements.list.value"), text)
@@ -744,29 +741,73 @@ def visit_capacity(browser, office):
     """A capacity that the table lacks is entered on the page."""
     text = file_of("tests/tables/list.csv").decode().replace("capacity,,,,5,1\n", "")
     drop(browser, "list.csv", text)
-    wait_text(browser, "#preview strong", "T10 no capacity crew")
+    wait_text(browser, "#preview code", "T10 no capacity crew")
     browser.type("#capacities [data-resource=crew]", "5")
     browser.press(TAB)
-    wait_text(browser, "#preview strong", "T10 no capacity digger")
+    wait_text(browser, "#preview code", "T10 no capacity digger")
     browser.type("#capacities [data-resource=digger]", "1")
     browser.press(TAB)
     wait_text(browser, "#preview", "becomes a project of 4 activities")
     submit(browser, "import")
     wait_plan(browser, 6)
     wait_text(browser, "#import-answer", "list.csv is plan 6.")
-    same("the names", column(browser, "name"), ["", "Excavation", "Foundation", "Drains", "Walls, north", ""])
+    same("the ids", [cell.rstrip("*") for cell in column(browser, "id")], ["A", "B", "C", "D"])
+    same("the names", column(browser, "name"), ["Excavation", "Foundation", "Drains", "Walls, north"])
     # the foundation needs the whole crew, so the drains wait: 4 + 6 + 3 + 10
-    same("its schedule", column(browser, "start"), ["0", "0", "4", "10", "13", "23"])
+    same("its schedule", column(browser, "start"), ["0", "4", "10", "13"])
+    same_ids(browser)
     given = "\n".join(printed("import", "tests/tables/list.csv")).encode()
     wanted = as_printed([("schedule", "lft")], given)
     wanted |= {"desk": DESK, "plan": 6, "schedule": "lft", "title": "list"}
-    same("the JSON with names", downloaded(browser, office, "json")[1], one_line(wanted))
+    same("the JSON with ids and names", downloaded(browser, office, "json")[1], one_line(wanted))
+    csv_lines = printed("schedule", "lft", "--names", "--format", "csv", "-", given=given)
+    name, text = downloaded(browser, office, "csv")
+    same("the CSV with ids and names", text.splitlines(), csv_lines)
+    same("the start times of all, also of the start and the end",
+         downloaded(browser, office, "starts")[1].split(), ["0", "0", "4", "10", "13", "23"])
+    drop(browser, name, text)
+    wait_text(browser, "#check-answer code", "active")
+    check_early(browser)
     browser.click("#tab-table")
+    browser.click("#drawn [value=lft]")
     labels = texts(browser, "#drawing .name")
-    same("the names of the lines", [label.split("…")[0] for label in labels][1:3],
-         ["2 Excavation2 Excavation", "3 Foundation3 Foundation"])
+    same("the names of the lines", [label.split("…")[0] for label in labels][:2],
+         ["A ExcavationA Excavation", "B FoundationB Foundation"])
     same("the use of the crew", "Use of crew, capacity 5" in browser.run(
         "return document.querySelector('#use svg').getAttribute('aria-label')"), True)
+
+
+def same_ids(browser):
+    """The ids are in the tables of dates and rules, on the bars, and in the choices of a lag."""
+    lines = printed("cpm", "--names", "-", given="\n".join(printed("import", "tests/tables/list.csv")).encode())
+    dates = [line.split()[:8] for line in lines[1:-1]]
+    same("the dates by ids", [row[:8] for row in seen_table(browser, "#dates")[1:]], dates)
+    same("the rules by ids", [row[0] for row in seen_table(browser, "#rules")],
+         ["id", "A", "B", "C", "D", "makespan"])
+    bars = browser.run("return [...document.querySelectorAll('#drawing .bar')].map((bar) => ["
+                       "bar.lastChild.textContent.replace('*', ''), bar.querySelector('title').textContent])")
+    same("the labels of the bars", [bar[0] for bar in bars], ["A", "B", "C", "D"])
+    same("the words of a bar", bars[2][1].startswith("Activity C Drains: 10 to 13; needs 2 of crew"), True)
+    offered = "return [...lag.elements[arguments[0]].options].map(({ textContent }) => textContent)"
+    same("the activities of a lag", browser.run(offered, "from"),
+         ["the start", "A Excavation", "B Foundation", "C Drains", "D Walls, north", "the end"])
+    pick(browser, "#lag [name=from]", "2")
+    same("their successors", browser.run(offered, "to"), ["B Foundation", "C Drains"])
+    same("the resources", places_offered(browser), ["crew", "digger"])
+
+
+def check_early(browser):
+    """Verdicts are told with ids and names, and with what to do first."""
+    starts_are(browser, "0 0 3 10 13 23", "activity 3 starts before 2 ends")
+    same("the words", texts(browser, "#check-answer .refusal > *"),
+         ["Start B Foundation later.", "It starts before A Excavation ends. Not feasible, makespan 23.",
+          "activity 3 starts before 2 ends"])
+    starts_are(browser, "0 0 4 4 13 23", "at time 4 more of resource 1 is needed than there is")
+    wait_text(browser, "#check-answer strong", "Start an activity that needs crew at time 4 later.")
+    starts_are(browser, "0 0 4 10 14 24", "activity 5 can start earlier")
+    wait_text(browser, "#check-answer strong", "Start D Walls, north earlier, if you like.")
+    starts_are(browser, "0 0 4 10 13 24", "activity 6 can start earlier")
+    wait_text(browser, "#check-answer strong", "Start the end earlier, if you like.")
 
 
 def visit_need(browser, office):
@@ -783,12 +824,19 @@ def visit_need(browser, office):
     pick(browser, "#bind [name=place]", "1")
     browser.click("#bind option[value=crew-c]")
     submit(browser, "bind")
-    wait_text(browser, "#plan-answer strong", "E11 S1 activity 3 resource 1")
-    same("the need in names", texts(browser, "#plan-answer .lead"),
-         ["Activity 3 Foundation needs 5 of crew, which has 4."])
+    wait_text(browser, "#plan-answer code", "E11 S1 activity 3 resource 1")
+    same("the need in names", texts(browser, "#plan-answer .refusal > *"),
+         ["Raise the capacity of crew, or lower what B Foundation needs.",
+          "Activity B Foundation needs 5 of crew, which has 4, so it can never start.",
+          "E11 S1 activity 3 resource 1"])
     publish(5)
-    same("the error then", texts(browser, "#plan-answer strong"), [])
-    same("its schedule", column(browser, "start"), ["0", "0", "4", "10", "13", "23"])
+    same("the error then", texts(browser, "#plan-answer code"), [])
+    same("its schedule", column(browser, "start"), ["0", "4", "10", "13"])
+    # a file that the page makes of the plan and its bind has the ids too
+    publish(6)
+    drop(browser, *downloaded(browser, office, "csv"))
+    wait_text(browser, "#check-answer code", "active")
+    publish(5)
     browser.click("#tab-table")
 
 
@@ -805,7 +853,8 @@ def visit_names(browser):
     makespans = [row[3] for row in seen_table(browser, "#plans")[1:]]
     same("makespans in the list", all(cell.isdigit() for cell in makespans), True)
     open_plan(browser, 6)
-    same("the names then", column(browser, "name")[1], "Excavation")
+    same("the names then", column(browser, "name")[0], "Excavation")
+    same("the ids then", column(browser, "id")[0], "A*")
     same("the slack by the file", "slack" in seen_table(browser, "#table")[0], True)
     same("its list", browser.run("return document.getElementById('edit-list').checkVisibility()"), True)
     browser.click("#remember")
@@ -814,33 +863,54 @@ def visit_names(browser):
          (["plan/forget"], [[], "[]"]))
     sign_in(browser)
     open_plan(browser, 6)
-    same("a column of names", "name" in seen_table(browser, "#table")[0], False)
-    wait_text(browser, "#note", "Slack isn't known, because this page hasn't read the plan's file.")
+    same("a column of names or ids", [head for head in seen_table(browser, "#table")[0]
+                                      if head in ("id", "name")], [])
+    wait_text(browser, "#note", "Add the file of this plan below to see slack: this page hasn't read it.")
     same("the colours", set(bar_classes(browser)), {"plain"})
     same("the use without a file", texts(browser, "#use svg"), [])
     open_plan(browser, 4)
     submit(browser, "best")
     wait_text(browser, "#best-answer .refusal", "E11 S5 too large")
-    wait_text(browser, "#best-answer .solve", "Add the file of this plan below")
+    wait_text(browser, "#best-answer strong", "Add the file of this plan below")
     open_plan(browser, 6)
     open_tab(browser, "changes")
     pick(browser, "#bind [name=place]", "3")
     submit(browser, "bind")
     wait_text(browser, "#bind .refusal", "E03 body")
-    same("what the page says of it", texts(browser, "#bind .refusal p"), ["The plan has no resource 3."])
+    same("what the page says of it", texts(browser, "#bind .refusal > *"),
+         ["Choose a resource of this plan.", "It has no resource 3.", "E03 body"])
     browser.choose("#names-file", os.path.join(TOP, HOUSE))
-    wait_text(browser, "#names-answer .refusal", "house.sm isn't the file of plan 6")
+    wait_text(browser, "#names-answer .refusal", "Choose the file of plan 6: the durations of house.sm are others.")
     browser.choose("#names-file", os.path.join(TOP, "tests", "tables", "list.csv"))
     wait_text(browser, "#names-answer", "list.csv is the file of plan 6.")
-    same("the names again", column(browser, "name")[1], "Excavation")
+    same("the names again", column(browser, "name")[0], "Excavation")
     same("what is kept then", kept(browser), [[], "[]"])
     browser.click("#remember")
     browser.wait("the records", "return !localStorage.getItem('plan/forget')")
     same("what is kept with the switch", [DESK, 6] in kept(browser)[0], True)
 
 
+def keep_record(browser, desk, n, record):
+    """Puts a record of a plan into the browser's memory."""
+    browser.run("""
+        const [desk, n, record] = arguments;
+        return new Promise((tell) => {
+            const request = indexedDB.open("plan", 1);
+            request.onsuccess = () => {
+                const transaction = request.result.transaction("plans", "readwrite");
+                transaction.objectStore("plans").put({ n, record }, [desk, n]);
+                transaction.oncomplete = () => {
+                    request.result.close();
+                    tell(true);
+                };
+            };
+        });
+    """, desk, n, record)
+
+
 def visit_other(browser, office):
     """A plan of another desk with the same number and the same file has no names of this desk."""
+    keep_record(browser, DESK, 1, {"title": "of this desk"})
     for path, key, body in (("/office/desks", OFFICE_KEY, b'{"desk":"other","key":"other-key-1"}'),
                             ("/desks/other/projects", "other-key-1", file_of(HOUSE))):
         sent(office.server.port, "POST", path, key, body)
@@ -850,6 +920,7 @@ def visit_other(browser, office):
     same("its list", seen_table(browser, "#plans")[1:], [["Plan 1", "", "project", "45"]])
     open_plan(browser, 1)
     same("its head", seen(browser, "#plan-head"), "Plan 1, a project")
+    keep_record(browser, DESK, 1, {})
     browser.click("#leave")
     sign_in(browser)
     wait_text(browser, "#plans", "list")
@@ -868,7 +939,7 @@ def visit_shop(browser):
         browser.type("#import [name=instance]", name)
         before = browser.run("return performance.getEntriesByType('resource').length")
         submit(browser, "import")
-        wait_text(browser, "#import-answer .refusal", "This name can't be sent")
+        wait_text(browser, "#import-answer .refusal", "Rename the instance in the file")
         after = browser.run("return performance.getEntriesByType('resource').length")
         same(f"requests for {name}", after, before)
     browser.type("#import [name=instance]", "printing")
@@ -892,7 +963,7 @@ def visit_shop(browser):
     pick(browser, "#bind [name=place]", "0")
     submit(browser, "bind")
     same("machine 0", "machine 0 is press-1 (set here on" in seen(browser, "#bind-set"), True)
-    same("the places of two machines", places_offered(browser), ["0", "1"])
+    same("the places of two machines", places_offered(browser), ["machine 0", "machine 1"])
 
 
 def large_shop():
@@ -974,7 +1045,7 @@ def visit_closed(browser, office):
     open_tab(browser, "changes")
     pick(browser, "#bind [name=place]", "1")
     submit(browser, "bind")
-    wait_text(browser, "#bind .answer", "Machine 1 is press-1.")
+    wait_text(browser, "#bind .answer", "The capacity of machine 1 is now that of press-1.")
     for capacity, is_open in ((0, False), (1, True)):
         body = b'{"code":"press-1","kind":"machine","capacity":%d}' % capacity
         sent(office.server.port, "POST", "/office/capacities", OFFICE_KEY, body)
@@ -984,22 +1055,26 @@ def visit_closed(browser, office):
             return !document.getElementById("plan").hasAttribute("aria-busy")
                 && chart.checkVisibility() === arguments[0];
         """, is_open)
-        told = texts(browser, "#plan-answer strong")
+        told = texts(browser, "#plan-answer code")
         same("the error", told, [] if is_open else ["E11 S4 machine 0 closed"])
+        same("what to do", texts(browser, "#plan-answer strong"), [] if is_open else
+             ["Bind machine 0 to another code under Changes, or ask the office to open it."])
 
 
 def visit_refused(browser):
     """A wrong file is refused in the office's words, and its line is marked. The notice goes when a
     plan is opened."""
-    for name, line in (("wrong_count.sm", "F7 line 21"), ("cycle.sm", "F12 line 17 cycle 3 4")):
+    for name, line, to_do in (
+        ("wrong_count.sm", "F7 line 21", "Number the jobs 1, 2, 3 and so on, and name only such jobs as successors."),
+        ("cycle.sm", "F12 line 17 cycle 3 4", "Delete one arc of the cycle 3, 4."),
+    ):
         status, out, err = plan("cpm", example(name))
         same(f"plan cpm {name}", (status, out, err.decode()), (1, b"", line + "\n"))
         browser.choose("#file", example(name))
-        wait_text(browser, "#import-answer strong", "E10 " + line)
+        wait_text(browser, "#import-answer code", "E10 " + line)
         wait_idle(browser)
         number = int(line.split()[2])
-        said = texts(browser, "#import-answer .refusal p")
-        same(f"what the page says of {line}", said, explained(line))
+        same(f"what the page says of {line}", texts(browser, "#import-answer strong"), [to_do])
         marked = browser.run("return [...document.querySelectorAll('.marked > *')].map("
                              "(cell) => cell.innerText)")
         lines = file_of(f"examples/{name}").decode().split("\n")
@@ -1089,7 +1164,7 @@ def visit_lost(browser, office):
     same("the plans that are shown", seen_plans(browser), before)
     office.start()
     submit(browser, "import")
-    wait_text(browser, "#import-answer", "Nothing was sent")
+    wait_text(browser, "#import-answer", "nothing was sent")
     wait_text(browser, "#news", "The list has the same plans as before.")
     same("the office's plans", listed(office.server), before)
     same("the warning", browser.run("return lost.checkVisibility()"), False)
@@ -1181,14 +1256,28 @@ def visit_sizes(browser):
 
 def visit_senses(browser):
     """Texts have a contrast of 4.5, in the light and in the dark; fields, buttons, regions and
-    pictures have names."""
+    pictures have names; the accessibility tree is read in the order that docs/browser.md tells."""
     for n, tab in ((1, "table"), (6, "changes"), (8, "handin")):
         open_plan(browser, n)
         open_tab(browser, tab)
         same_senses(f"plan {n}", browser)
+    open_plan(browser, 6)
+    open_tab(browser, "table")
+    same_order("a plan", browser, "The order of a plan, at 960 pixels and more:")
+    browser.resize(360, 740)
+    same_order("a plan on a phone", browser, "The order of a plan below 960 pixels:")
+    browser.resize(1120, 720)
     browser.click("#help-button")
     same_senses("the help panel", browser)
     browser.press(ESCAPE)
+
+
+def same_paper(browser):
+    """Nothing on paper is a button or a field, whatever the width of a sheet."""
+    for width in (900, 1120):
+        browser.resize(width, 720)
+        same(f"what can't be pressed on paper, at {width}", browser.run("return [...document.querySelectorAll("
+             "'button, input, select')].filter((node) => node.checkVisibility()).map(({ id }) => id)"), [])
 
 
 def printed_texts(browser):
@@ -1196,6 +1285,7 @@ def printed_texts(browser):
     texts is on the sheet."""
     browser.devtools("Emulation.setEmulatedMedia", media="print", features=[])
     browser.run("dispatchEvent(new Event('beforeprint'))")
+    same_paper(browser)
     value = browser.run("""
         return [...document.querySelectorAll("#paper .sheet")].map((sheet) => [
             sheet.querySelectorAll(".bar[data-line]").length, sheet.querySelectorAll("tbody tr").length,
@@ -1239,7 +1329,7 @@ def starts_are(browser, starts, line):
     """The page's verdict on start times, and the makespan."""
     browser.run("check.elements.starts.value = arguments[0]", starts)
     submit(browser, "check")
-    same(f"the verdict on {starts}", seen(browser, "#check-answer strong"), line)
+    same(f"the verdict on {starts}", seen(browser, "#check-answer code"), line)
 
 
 def visit_orders(browser, office):
@@ -1247,7 +1337,7 @@ def visit_orders(browser, office):
     names of orders and machines and the working days; start times get a verdict in steps."""
     text = file_of("examples/shop.csv").decode()
     drop(browser, "orders.csv", text.replace("press,4", "press,four", 1))
-    wait_text(browser, "#preview strong", "T5 line 7 duration")
+    wait_text(browser, "#preview code", "T5 line 7 duration")
     same("the line", texts(browser, "#preview .marked td"),
          [text.replace("press,4", "press,four", 1).split("\n")[6]])
     drop(browser, "orders.csv", text)
@@ -1284,7 +1374,7 @@ def visit_orders(browser, office):
     name, text = downloaded(browser, office, "json")
     same("the JSON of the best", (name, text), (f"{DESK}-plan-13-best.json", one_line(wanted)))
     drop(browser, name, text)
-    wait_text(browser, "#check-answer strong", "active")
+    wait_text(browser, "#check-answer code", "active")
     for rule in SHOP_RULES:
         rows = rows_of(printed("shop", rule, "-", "shop", given=given))
         starts_are(browser, " ".join(row[4] for row in rows), "active")
@@ -1294,10 +1384,10 @@ def visit_orders(browser, office):
     starts_are(browser, "0 3 5 3 7 8 12 16 19", "active")
     starts_are(browser, "0 3 5 3 7 8 13 17 20", "step 1 of job 3 can start earlier")
     wait_text(browser, "#told", "Job 3 order 4713, step 1, machine 1 press: 13 to 17")
-    wait_text(browser, "#check-answer", "Makespan 20.")
+    wait_text(browser, "#check-answer", "makespan 20.")
     lines = printed("solve", "-", "shop", given=given)
     drop(browser, "solved.txt", "\n".join([*lines, ""]))
-    wait_text(browser, "#check-answer", f"Makespan {makespan_of(lines)}.")
+    wait_text(browser, "#check-answer", f"makespan {makespan_of(lines)}.")
     wait_text(browser, "#check-answer p", "Feasible")
 
 
@@ -1324,7 +1414,7 @@ def visit_cancel(browser):
     same("its button", browser.run("return document.getElementById('cancel').hidden"), True)
     same("the schedules", len(texts(browser, "#drawn label")), len(RULES) + 1)
     words = seen(browser, "#best-answer").split("kept. ")[1].split(":")[0].split()
-    same("the schedule that is kept", (words[0], f"best between {words[1]}" in " ".join(
+    same("the schedule that is kept", (words[0], f"shortest found {words[1]}" in " ".join(
         texts(browser, "#drawn label"))), ("between", True))
     browser.type("#best [name=seconds]", "2")
     began = browser.run("return performance.now()")
@@ -1359,9 +1449,9 @@ def visit_whole(browser, office):
     for name, value in {"from": "2", "to": "3", "lag": "5"}.items():
         pick(browser, f"#lag [name={name}]", value)
     submit(browser, "lag")
-    wait_text(browser, "#lag-set", "2-3: 5 (set here on")
+    wait_text(browser, "#lag-set", "2 to 3: 5 (set here on")
     submit(browser, "best")
-    wait_text(browser, "#drawn label:last-child", "best optimal")
+    wait_text(browser, "#drawn label:last-child", "shortest, proved ")
     browser.click("#drawn [value=best]")
     before = seen_table(browser, "#table")
     name, text = downloaded(browser, office, "all")
@@ -1370,12 +1460,12 @@ def visit_whole(browser, office):
     drop(browser, name, text)
     wait_plan(browser, n + 1)
     wait_text(browser, "#news", f"house is plan {n + 1}, with 3 changes.")
-    wait_text(browser, "#check-answer strong", "active")
+    wait_text(browser, "#check-answer code", "active")
     same("the schedule", seen_table(browser, "#table"), before)
     same("the values set", values_set(browser), ["1", "2", "3", "5", "2024-03-01"])
     same("what the office has", listed(office.server)[-2:], [n, n + 1])
     drop(browser, "damaged.json", text[:200])
-    wait_text(browser, "#import-answer .refusal", "This saved file is damaged")
+    wait_text(browser, "#import-answer .refusal", "Drop another saved file: this one is damaged.")
 
 
 def visit_module(browser):
@@ -1495,7 +1585,7 @@ def visit_pictures(browser, office):
     browser.point("#drawing .bar[data-line='0'] rect")
     shot(browser, "orders.png")
     drop(browser, "house.csv", table.replace("G H", "G X"))
-    wait_text(browser, "#preview strong", "T8")
+    wait_text(browser, "#preview code", "T8")
     browser.run("scrollTo(0, 0)")
     shot(browser, "refused.png")
 

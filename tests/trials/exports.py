@@ -86,7 +86,8 @@ class Form:
         self.separator = random.choice(",,;;\t")
         self.has_ids = random.random() < 0.7
         self.by_names = random.random() < 0.2
-        self.as_names = random.random() < 0.3 and bool(drawn.capacities)
+        # Without a name in any row the column would be a resource of its own (T10).
+        self.as_names = random.random() < 0.3 and any(any(a.needs.values()) for a in drawn.activities)
         self.names_header = random.choice(RESOURCE_NAMES)
         self.days = random.choice(DAYS)
         self.notes = random.sample(list(NOTES), random.choice((0, 0, 1, 2)))

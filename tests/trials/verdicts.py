@@ -82,7 +82,7 @@ def judge_list(room, name):
     same("a search of a list with a log", (status, err), (0, b""))
     status, made, err = plan("import", path)
     same("the file of a list", (status, err), (0, b""))
-    instance = ["-"] if name.endswith("shop.csv") else []
+    instance = ["shop"] if name.endswith("shop.csv") else []
     told = plan("verify", put(room, "made", made), log, *instance)
     same("a log on the file of a list", (told[0], told[2]), (0, b""))
     same("a log on a list", plan("verify", path, log), told)

@@ -1,5 +1,5 @@
 -- The working days of schedules, and their refusals.
-use Rattle.std.proofs.Common.{◌≡◌, inl, inr, ℕ, List, Option}
+use Rattle.std.proofs.Common.{inl, inr, Option}
 use denote.Ref.{Bor}
 use Rattle.plan_calendar.specs.WorkingDay.{Workdays}
 use Rattle.plan_errors.specs.declared.fault.CliFault.{CliFault}

@@ -1,12 +1,12 @@
 -- Comparisons of two lists by their ids.
-use Rattle.std.proofs.Common.{◌≡◌, ◌⊎◌, inl, inr, ℕ, Bool, true, false, not, List, [], ◌∷◌, ◌++◌, codes, map, refl, length, nat_eq, subst, sym}
+use Rattle.std.proofs.Common.{◌≡◌, inl, inr, ℕ, List, codes, subst, sym}
 use Rattle.plan_report.specs.StartsText.{SaysStarts}
 use Rattle.plan_errors.specs.Faults.{refusal_line}
 use Rattle.plan_errors.specs.Output.{Refuses}
 use Rattle.plan_errors.specs.declared.fault.CliFault.{CliFault}
 use Rattle.plan_errors.specs.declared.fault.CliFault.TheVariants as cli
 use Rattle.plan_documents.specs.Documents.{IsDocumentOf, RefusesSubject, TellsNoDocument, TellsNoPlan, sheet_of}
-use Rattle.plan_documents.specs.Lists.{IsReadAs, ReadsAs, RefusesReading}
+use Rattle.plan_documents.specs.Lists.{RefusesReading}
 use Rattle.plan_documents.specs.declared.documents.Plan.{Plan}
 use Rattle.plan_documents.specs.declared.documents.Document.{Document}
 use Rattle.plan_documents.specs.declared.documents.Document.TheVariants as document
@@ -14,7 +14,7 @@ use Rattle.plan_documents.specs.declared.documents.Subject.{Subject}
 use Rattle.plan_documents.specs.declared.documents.Subject.TheVariants as subject
 use Rattle.plan_documents.proofs.ErrorLemmas.{refuses_as}
 use Rattle.plan_cli.specs.CompareRun.{IsNamedFault, TellsNoStartsOf, named_line}
-use Rattle.plan_cli.specs.ListComparisons.{IsOldLine, TellsNoBoth, TellsNoIds, TellsNoLists, TellsNoOld, TellsNoPlans, are_some, ids_of, old_words}
+use Rattle.plan_cli.specs.ListComparisons.{IsOldLine, TellsNoIds, TellsNoLists, TellsNoOld, TellsNoPlans, old_words}
 
 -- the error of the old file, with words behind its line
 pub named_old : (IsLine : List ℕ → Type 0) → (e named : CliFault) → Refuses IsLine e → IsNamedFault old_words e named → Refuses (IsOldLine IsLine) named

@@ -52,7 +52,7 @@ use Rattle.plan_cli.specs.declared.tasks.Task.TheVariants as task
 use Rattle.plan_cli.specs.TaskViews.{IsViewOf}
 use Rattle.plan_cli.specs.Views.{View, plain_text}
 use Rattle.plan_cli.proofs.ViewTextLemmas.{view_text}
-use Rattle.plan_cli.proofs.RunLemmas.{HoldsByFront, of_subject_front, refuses_subject_front, of_project_front, refuses_file_front, of_ids_front, refuses_ids_front, names_front, not_plain_front, proof_front, no_proof_front, table_front, line_front, project_short, plain_short, whole_front}
+use Rattle.plan_cli.proofs.RunLemmas.{HoldsByFront, of_subject_front, refuses_subject_front, of_ids_front, refuses_ids_front, names_front, not_plain_front, proof_front, no_proof_front, table_front, line_front, project_short, plain_short, whole_front}
 
 -- a plan file isn't too long
 plan_short : (text : List ℕ) → IsPlanFile text → length text ≤ longest_text

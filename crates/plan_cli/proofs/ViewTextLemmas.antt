@@ -1,9 +1,7 @@
 -- The texts of what tasks show are the texts of the tasks.
-use Rattle.std.proofs.Common.{◌≡◌, ℕ, ◌<◌, ◌≤◌, ◌⊎◌, inl, inr, Bool, true, false, nat_lt, Option, Some, None, List, [], ◌∷◌, ◌++◌, codes, map, refl, sym, ap, ◌∙◌, subst, arith}
+use Rattle.std.proofs.Common.{◌≡◌, ℕ, ◌<◌, ◌≤◌, inl, inr, Bool, true, false, nat_lt, Option, Some, None, List, [], ◌∷◌, ◌++◌, codes, map, refl, sym, ap, ◌∙◌, subst, arith}
 use denote.Ref.{Bor}
-use Rattle.std.proofs.lemmas.Bool.{cases_eq}
 use Rattle.std.proofs.lemmas.Bool.Decides.{nat_tests}
-use Rattle.std.specs.Fmt.{decimal}
 use Rattle.std.proofs.lemmas.List.{append-nil}
 use Rattle.plan_calendar.specs.WorkingDay.{Workdays}
 use Rattle.plan_orlib.specs.Instances.{names_of}
@@ -40,15 +38,14 @@ use Rattle.plan_documents.specs.ImportRun.{IsImport, IsShopImport}
 use Rattle.plan_cli.specs.PlanRefs.{viewed}
 use Rattle.plan_cli.specs.ProofText.{IsBoundLine}
 use Rattle.plan_cli.specs.ProveRun.{IsProvedOf}
-use Rattle.plan_cli.specs.Run.{IsDateTableOf}
 use Rattle.plan_cli.specs.SlackRun.{IsSlackOf}
-use Rattle.plan_cli.specs.SolveRun.{IsSolvedBy, ShowsSolution}
+use Rattle.plan_cli.specs.SolveRun.{IsSolvedBy}
 use Rattle.plan_cli.specs.Tables.{IsTableBy}
 use Rattle.plan_cli.specs.Tables as tables
 use Rattle.plan_cli.specs.Tasks.{IsTextOf}
-use Rattle.plan_cli.specs.TaskViews.{IsDateView, IsTableViewBy, IsChartViewFrom, IsDaysViewFrom, IsVerdictView, IsSlackViewOf, IsComparedView, ComparesIn, AreDaysOf, ShowsDaysOf, IsBestProjectViewBy, IsBestShopViewBy, IsBestViewOf, IsSolvedViewBy, IsProvedViewOf, IsViewOf, schedule_of, chart_of, bounded_of}
+use Rattle.plan_cli.specs.TaskViews.{IsTableViewBy, IsChartViewFrom, IsDaysViewFrom, IsVerdictView, IsSlackViewOf, IsComparedView, ComparesIn, AreDaysOf, ShowsDaysOf, IsBestViewOf, IsSolvedViewBy, IsProvedViewOf, IsViewOf, schedule_of, chart_of, bounded_of}
 use Rattle.plan_cli.specs.ListRun.{IsTimedList}
-use Rattle.plan_cli.specs.Views.{View, table, chart, text, plain_text}
+use Rattle.plan_cli.specs.Views.{View, chart, text, plain_text}
 use Rattle.plan_documents.specs.declared.documents.Plan.{Plan}
 use Rattle.plan_documents.specs.declared.documents.Plan.TheVariants as plan
 use Rattle.plan_documents.specs.declared.documents.Subject.{Subject}
@@ -218,12 +215,12 @@ by_plans first second after before v (t, is, shown) = (t, is, ap plain_text show
 
 by_lists : (who : Subject) (old first second : List ℕ) (after : Plan) (v : View) → IsListsView who old first second after v
     → AreListsCompared who old first second after (plain_text v)
-by_lists who old first second after v (kind, s, text, is, made) = (
+by_lists who old first second after v (kind, s, bytes, is, made) = (
   kind,
   s,
-  text,
+  bytes,
   is,
-  of_subject s (IsPlansView first second after) (ArePlansCompared first second after) text v (λ before. by_plans first second after before v) made,
+  of_subject s (IsPlansView first second after) (ArePlansCompared first second after) bytes v (λ before. by_plans first second after before v) made,
 )
 
 -- the text of what a task shows is its text

@@ -49,7 +49,7 @@ use Rattle.plan_cli.specs.CheckRun.{sentence_of}
 use Rattle.plan_documents.specs.ImportRun.{IsImport, IsShopImport}
 use Rattle.plan_cli.specs.ListRun.{IsTimedList}
 use Rattle.plan_cli.specs.PlanRefs.{viewed}
-use Rattle.plan_documents.specs.Plans.{IsOfProject, IsOfShop}
+use Rattle.plan_documents.specs.Plans.{IsOfProject}
 use Rattle.plan_cli.specs.Scheduled.{IsByRule, IsScheduleFrom}
 use Rattle.plan_cli.specs.Views.{View, table, chart, text}
 use Rattle.plan_table.specs.Overrides.{override_of}

@@ -28,12 +28,21 @@ fn ids_of<'p>(plan: &'p Plan<'p>) -> &'p [NameLine<'p>]
     }
 }
 
+// Tests whether there are ids.
+fn are_some(ids: &[NameLine<'_>]) -> bool
+    ensures { result ≡ spec.are_some (map name_of ids.now) }
+{
+    match ids {
+        [] => false,
+        [_, ..] => true,
+    }
+}
+
 // Tests whether a plan has ids.
-#[tactic(auto, using(crate::proofs::ListComparisonLemmas::some_ids))]
 fn has_ids(plan: &Plan<'_>) -> bool
     ensures { result ≡ spec.are_some (spec.ids_of plan.now) }
 {
-    !ids_of(plan).is_empty()
+    are_some(ids_of(plan))
 }
 
 // Refuses a plan without ids. The words are those of the error line.
@@ -106,11 +115,7 @@ fn old_document(alloc: Global, subject: Subject<'_>, text: &[u8]) -> Result<Docu
 }
 
 // Returns the plan of the document in the old file.
-fn old_plan<'a>(
-    alloc: Global,
-    document: &'a Document,
-    text: &'a [u8],
-) -> Result<Plan<'a>, CliFault>
+fn old_plan<'a>(alloc: Global, document: &'a Document, text: &'a [u8]) -> Result<Plan<'a>, CliFault>
     requires { documents.IsWhole document.now }
     ensures plan { IfOk result (λ plan.
         plan ≡ documents.plan_in document.now (documents.ids_in text.now)) }
@@ -144,11 +149,7 @@ fn compared_text(
 }
 
 // Reads the old file, which may be a list.
-fn old_reading<'a>(
-    alloc: Global,
-    subject: Subject<'a>,
-    old: &[u8],
-) -> Result<Reading<'a>, CliFault>
+fn old_reading<'a>(alloc: Global, subject: Subject<'a>, old: &[u8]) -> Result<Reading<'a>, CliFault>
     ensures read { IfOk result (λ read. IsReadAs subject.entry old.now read.kind
         read.subject (text_of read.made old.now)) }
     ensures refused { IfErr result (Refuses

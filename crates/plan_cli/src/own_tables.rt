@@ -52,7 +52,10 @@ fn own_row(alloc: Global, row: &[Cell<'_>]) -> Result<Vec<OwnCell>, AllocError>
 }
 
 /// Returns rows that own their texts.
-pub(crate) fn own_rows(alloc: Global, rows: &[Vec<Cell<'_>>]) -> Result<Vec<Vec<OwnCell>>, AllocError>
+pub(crate) fn own_rows(
+    alloc: Global,
+    rows: &[Vec<Cell<'_>>],
+) -> Result<Vec<Vec<OwnCell>>, AllocError>
     ensures { IfOk result (λ own. spec.own_rows_of own.items ≡ rows_of rows.now) }
 {
     let mut own = Vec::new(alloc);
@@ -96,10 +99,7 @@ fn shown_row<'a>(alloc: Global, own: &'a [OwnCell]) -> Result<Vec<Cell<'a>>, All
 }
 
 // Returns rows with their texts.
-fn shown_rows<'a>(
-    alloc: Global,
-    own: &'a [Vec<OwnCell>],
-) -> Result<Vec<Vec<Cell<'a>>>, AllocError>
+fn shown_rows<'a>(alloc: Global, own: &'a [Vec<OwnCell>]) -> Result<Vec<Vec<Cell<'a>>>, AllocError>
     ensures { IfOk result (λ rows. rows_of rows.items ≡ spec.own_rows_of own.now) }
 {
     let mut rows = Vec::new(alloc);

@@ -5,7 +5,7 @@ use clap::{Arg, ArgAction, Command, value_parser};
 use std::alloc::{AllocError, Global};
 
 // The number of the release.
-const RELEASE: &str = "0.7.0";
+const RELEASE: &str = "0.8.0";
 
 // The start of the help.
 const HELP_START: &str =
@@ -546,8 +546,7 @@ const PROJECT_COMMANDS: [Entry; 6] = [
         examples: "Examples:\n  \
             plan compare examples/six.sm examples/starts.txt examples/late.txt\n  \
             plan schedule mts examples/six.sm | \
-            plan compare examples/six.sm examples/starts.txt -\n  \
-            plan compare --old monday.csv friday.csv monday.json friday.json",
+            plan compare examples/six.sm examples/starts.txt -",
         arguments: &[
             FILE_OR_LIST,
             STARTS_A,

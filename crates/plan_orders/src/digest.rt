@@ -2,4 +2,4 @@
 
 /// The digest of all sources of the program but this file, in hexadecimal digits, as
 /// `./release --digest` prints it.
-pub(crate) const SOURCES: &str = "30870bfd4652fcfe1865ef7a307602752095874062e90ce9a539b8b80afc84d2";
+pub(crate) const SOURCES: &str = "e132125c726a81ca0b1df534f6a3d438cc3f2459aeb0147f187d70808c81634e";

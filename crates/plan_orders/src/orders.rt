@@ -740,7 +740,11 @@ fn chosen_events<'a>(
     let sequence: Option<u32> = arguments.get_one("sequence");
     let resources = uid.is_some() || only.is_some() || sequence.is_some();
     Events {
-        uid: if resources { Some(uid.unwrap_or(title)) } else { None },
+        uid: if resources {
+            Some(uid.unwrap_or(title))
+        } else {
+            None
+        },
         sequence: sequence.unwrap_or(0),
         only,
         resources,

@@ -16,7 +16,7 @@ returns-clause-made g c =
 pub returns-in_err-list-clause-refused : goal.returns-in_err-list-clause-refused
 returns-in_err-list-clause-refused g c =
     let a = c.args in
-    let error = err_from_is_err_and c.from_residual-in_err-list.result c.from_residual-in_err-list.ensures.1 in
+    let error = err_from_is_err_and c.from_residual.result c.from_residual.ensures.1 in
     rw (error.1, error.2) (refuse_unprepared a.options [] [] a.file.now (RefusesSheetRead a.sheet a.subject a.origin)
     c.in_err-list.field-0.0 refl c.in_err-list.ensures.refused)
 

@@ -1,6 +1,6 @@
 use Rattle.std.proofs.Common.{List, map, ap, ap₂, subst, ◌∙◌}
 use Rattle.plan_table.specs.Names.{Name, name_of}
-use Rattle.plan_views.specs.LinkColumns.{Links, links_of, predecessor_line, resource_line}
+use Rattle.plan_views.specs.LinkColumns.{links_of, predecessor_line, resource_line}
 use Rattle.plan_documents.specs.Lines.{IfText}
 use Rattle.plan_sheet.specs.Names.{SheetNames}
 use Rattle.plan_print.specs.Layouts.{layout_of}

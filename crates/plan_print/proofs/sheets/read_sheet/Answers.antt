@@ -1,7 +1,9 @@
+use Rattle.std.proofs.Common.{Bool, subst}
 use Rattle.std.specs.Prelude.{String, is_some, string_bytes}
 use Rattle.std.specs.Global.{Global}
 use Rattle.std.proofs.lemmas.Result.{err_from_is_err_and}
 use Rattle.plan_errors.specs.Output.{Refuses}
+use Rattle.plan_documents.specs.Lines.{IfText}
 use Rattle.plan_documents.specs.Lists.{text_of}
 use Rattle.plan_documents.proofs.ListLemmas.{read_as, read_refused, reading_refused}
 use Rattle.plan_documents.proofs.ErrorLemmas.{if_err_weaker}
@@ -12,8 +14,10 @@ pub returns-clause-made : goal.returns-clause-made
 returns-clause-made g c =
     let a = c.args in
     let read = c.in_ok-read.read in
+    let made = subst (λ (listed : Bool). IfText c.sheet_by.result (IsSheetBy listed a.sheet a.given read.subject c.text.result.now))
+    c.is_some-listed.ensures c.sheet_by.ensures.made in
     read_as (λ kind s bytes (text : String Global). IsSheetBy (is_some kind) a.sheet a.given s bytes (string_bytes text)) a.subject a.file.now
-    read.kind read.subject (text_of read.made a.file.now) c.text.result.now c.sheet_by.result c.in_ok-read.ensures.read c.text.ensures c.sheet_by.ensures.made
+    read.kind read.subject (text_of read.made a.file.now) c.text.result.now c.sheet_by.result c.in_ok-read.ensures.read c.text.ensures made
 
 pub returns-clause-refused : goal.returns-clause-refused
 returns-clause-refused g c =

@@ -1,9 +1,0 @@
-mod ListLemmas
-mod WeekLemmas
-mod PlainLemmas
-mod AnswerLemmas
-mod OverloadLemmas
-mod TardinessLemmas
-mod LimitedLemmas
-mod TardyAnswerLemmas
-mod LimitLemmas
