@@ -192,7 +192,9 @@ fn with_old<'a>(task: Task<'a>, text: &'a [u8]) -> Task<'a>
 {
     match task {
         Task::CompareLists {
-            starts, subject, ..
+            starts,
+            subject,
+            ..
         } => Task::CompareLists {
             old: text,
             starts,
