@@ -34,10 +34,12 @@ pub put_cells : (k : ℕ) (new : Vec ℕ Global) (cells none front both all : Li
     → map items_of all ≡ map items_of both ++ map items_of (take (length cells - (k + 1)) (drop (k + 1) cells))
     → map items_of all ≡ put k new.items (map items_of cells)
 put_cells k new cells none front both all within empty first second third =
-    let added : map items_of both ≡ map items_of front ++ map items_of (new ∷ []) =
-    ap (λ (xs : List (Vec ℕ Global)). map items_of xs) second ∙ map-append items_of front (new ∷ []) in
-    let small : k < length (map items_of cells) = subst (λ (n : ℕ). k < n) (sym (length-map items_of cells)) within in
-    spliced_cells k (new ∷ []) cells none front both all empty first added third
+    let last : List (Vec ℕ Global) = new ∷ [] in
+    let split : map items_of (front ++ last) ≡ map items_of front ++ map items_of last = map-append items_of front last in
+    let added : map items_of both ≡ map items_of front ++ map items_of last =
+    subst (λ (xs : List (Vec ℕ Global)). map items_of xs ≡ map items_of front ++ map items_of last) (sym second) split in
+    let small : k < length (map items_of cells) = subst (λ (n : ℕ). k < n) (sym (length-map cells items_of)) within in
+    spliced_cells k last cells none front both all empty first added third
     ∙ append_assoc (take k (map items_of cells)) (new.items ∷ []) (drop (k + 1) (map items_of cells))
     ∙ sym (put_within k new.items (map items_of cells) small)
 
