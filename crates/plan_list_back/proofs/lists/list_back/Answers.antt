@@ -1,4 +1,6 @@
-use Rattle.std.proofs.Common.{rules, ◌≡◌, ℕ, List, map, subst}
+use Rattle.std.proofs.Common.{rules, ◌≡◌, ℕ, true, List, map, subst}
+use Rattle.std.specs.Str.{bytes_eq}
+use Rattle.std.proofs.lemmas.Slice.Eq.{bytes_eq-Decides}
 use Rattle.plan_table.specs.Overrides.{override_of}
 use Rattle.plan_spreadsheet.specs.Options.{options_of}
 use Rattle.plan_list_back.specs.ListBack.{IsProjectOf}
@@ -12,6 +14,7 @@ returns-clause-same c =
     let made = c.in_ok-made.made.items in
     let before = c.in_ok-before.before.items in
     let behind = c.in-Ok.behind.items in
-    let equal : before ≡ behind = search rules in
+    let is : bytes_eq before behind ≡ true = search rules in
+    let equal : before ≡ behind = (bytes_eq-Decides before behind).0 is in
     same o given c.args.bytes.now made before behind c.in_ok-before.ensures
     (subst (λ (bytes : List ℕ). IsProjectOf o given bytes behind) c.deref.ensures.value c.in-Ok.ensures) equal
