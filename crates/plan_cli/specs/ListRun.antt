@@ -92,12 +92,14 @@ pub record HidesTimes (from : Origin) (dates : Option Dates) (t : Table) (p : Pl
     (line : List ℕ) : Type 0 where
   pub starts : List ℕ
   pub schedule : IsScheduleFrom from p starts
-  pub hidden : TellsNoSlackIn p starts line ⊎ TellsNoDates dates line ⊎ TellsDayBeyond dates t starts line
+  pub hidden : TellsNoSlackIn p starts line ⊎ TellsNoDates dates line
+      ⊎ TellsDayBeyond dates t starts line
 
 -- a line refuses the times of a plan; those of a job shop are refused
 abbrev pub TellsNoTimes : Origin → Option Dates → Table → Plan → List ℕ → Type 0
 TellsNoTimes from dates t (plan.Project i ids) line =
-    TellsNotMade from (plan.Project i ids) line ⊎ HidesTimes from dates t (plan.Project i ids) line
+    TellsNotMade from (plan.Project i ids) line
+    ⊎ HidesTimes from dates t (plan.Project i ids) line
 TellsNoTimes from dates t (plan.Shop s) line = TellsNoList line
 
 -- a line refuses the times of the table that a file is read as

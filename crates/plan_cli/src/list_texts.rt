@@ -192,7 +192,9 @@ fn table_times<'a, V: ProofWatcher + SolveWatcher, L: Log>(
 {
     let document = read_document(alloc, subject, file)?;
     let plan = plan_of(alloc, &document, file)?;
-    named_times(alloc, origin, dates, subject, table, file, &plan, watcher, log)
+    named_times(
+        alloc, origin, dates, subject, table, file, &plan, watcher, log,
+    )
 }
 
 // Returns the list of a file that is read as a table, with the times of its activities.
@@ -269,7 +271,9 @@ fn short_list<V: ProofWatcher + SolveWatcher, L: Log>(
         Ok(table) => table,
         Err(fault) => return Err(back_refusal(alloc, fault)),
     };
-    table_list(alloc, origin, dates, subject, &options, &table, file, watcher, log)
+    table_list(
+        alloc, origin, dates, subject, &options, &table, file, watcher, log,
+    )
 }
 
 /// Returns the list in a file with the times of its activities in the schedule of its project. With

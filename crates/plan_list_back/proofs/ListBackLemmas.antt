@@ -34,9 +34,14 @@ pub put_cells : (k : ℕ) (new : Vec ℕ Global) (cells none front both all : Li
     → map items_of all ≡ map items_of both ++ map items_of (take (length cells - (k + 1)) (drop (k + 1) cells))
     → map items_of all ≡ put k new.items (map items_of cells)
 put_cells k new cells none front both all within empty first second third =
-    spliced_cells k (new ∷ []) cells none front both all empty first (ap (map items_of) second ∙ map-append items_of front (new ∷ [])) third
+    let last : List (Vec ℕ Global) = new ∷ [] in
+    let split : map items_of (front ++ last) ≡ map items_of front ++ map items_of last = map-append items_of front last in
+    let added : map items_of both ≡ map items_of front ++ map items_of last =
+    subst (λ (xs : List (Vec ℕ Global)). map items_of xs ≡ map items_of front ++ map items_of last) (sym second) split in
+    let small : k < length (map items_of cells) = subst (λ (n : ℕ). k < n) (sym (length-map cells items_of)) within in
+    spliced_cells k last cells none front both all empty first added third
     ∙ append_assoc (take k (map items_of cells)) (new.items ∷ []) (drop (k + 1) (map items_of cells))
-    ∙ sym (put_within k new.items (map items_of cells) (subst (λ n. k < n) (sym (length-map items_of cells)) within))
+    ∙ sym (put_within k new.items (map items_of cells) small)
 
 padded_length : (k : ℕ) (cells : List (List ℕ)) → length cells ≤ k → length (padded k cells) ≡ k
 padded_length k cells behind =
@@ -55,12 +60,11 @@ put_behind k text cells behind =
 pub back : (times : List Times) (bytes text made : List ℕ) (d : Decoded) (rows all new : List Row)
     → text ≡ decoded.text_in d bytes → decoded.text_in d bytes ≡ utf8_of bytes → rows_read text ≡ Ok rows
     → all ≡ filled rows → new ≡ with_times times all → Spells made new → IsBack times bytes made
-back times bytes text made d rows all new has is read full timed spells =
-    (
-      rows,
-      ap rows_read (sym (has ∙ is)) ∙ read,
-      subst (λ xs. Spells made (with_times times xs)) full (subst (λ xs. Spells made xs) timed spells),
-    )
+back times bytes text made d rows all new has is read full timed spells = (
+  rows,
+  ap rows_read (sym (has ∙ is)) ∙ read,
+  subst (λ xs. Spells made (with_times times xs)) full (subst (λ xs. Spells made xs) timed spells),
+)
 
 -- a table that is read in a file
 pub read_as : (o : Options) (overrides : List Override) (bytes text : List ℕ) (p : PlainList) (t : Table)

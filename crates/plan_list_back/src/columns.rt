@@ -178,11 +178,7 @@ fn with_column(
 }
 
 /// Returns rows with the columns of times. The first row is the header.
-pub fn with_times(
-    alloc: Global,
-    times: &[Times<'_>],
-    rows: &[Row],
-) -> Result<Vec<Row>, AllocError>
+pub fn with_times(alloc: Global, times: &[Times<'_>], rows: &[Row]) -> Result<Vec<Row>, AllocError>
     ensures { IfOk result (λ v. map row_of v.items
         ≡ spec.with_times (map spec.times_of times.now) (map row_of rows.now)) }
 {

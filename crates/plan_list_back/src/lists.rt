@@ -38,11 +38,7 @@ fn changed(fault: ListBackFault) -> ListBackFault {
 
 // A list with the times of its activities, which are no part of the project.
 #[tactic(auto, using(crate::proofs::ListBackLemmas::back))]
-fn with_texts(
-    alloc: Global,
-    bytes: &[u8],
-    times: &[Times<'_>],
-) -> Result<Vec<u8>, ListBackFault>
+fn with_texts(alloc: Global, bytes: &[u8], times: &[Times<'_>]) -> Result<Vec<u8>, ListBackFault>
     ensures { IfOk result (λ made. spec.IsBack (map spec.times_of times.now) bytes.now
         made.items) }
 {

@@ -31,11 +31,7 @@ fn plain_of(
 }
 
 // The table of a text, whose needs may be above its capacities.
-fn table_of(
-    alloc: Global,
-    overrides: &[Override<'_>],
-    text: &[u8],
-) -> Result<Table, ListBackFault>
+fn table_of(alloc: Global, overrides: &[Override<'_>], text: &[u8]) -> Result<Table, ListBackFault>
     ensures { IfOk result (λ t. table_read_with (map override_of overrides.now) text.now ≡ Ok t) }
 {
     match read_sound_table(alloc, overrides, text) {

@@ -899,7 +899,11 @@ fn options_for<'a>(
     arguments: &ArgMatches<'_>,
     options: Option<Options<'a>>,
 ) -> Option<Options<'a>> {
-    if has_formats(name) && prints_list(arguments) { None } else { options }
+    if has_formats(name) && prints_list(arguments) {
+        None
+    } else {
+        options
+    }
 }
 
 /// Returns the rows that the command prints.
