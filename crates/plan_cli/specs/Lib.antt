@@ -44,6 +44,7 @@ pub mod CheckRun
 pub mod SlackRun
 pub mod CompareRun
 pub mod Views
+pub mod OrderTables
 pub mod TaskViews
 pub mod ExplainedText
 pub mod Commands

@@ -14,6 +14,7 @@ mod inputs;
 mod links;
 mod named_texts;
 mod names;
+mod order_tables;
 mod origins;
 mod plan_refs;
 mod prepared_tasks;
