@@ -16,3 +16,4 @@ pub mod ViewTextLemmas
 pub mod CheckLemmas
 pub mod SearchLemmas
 pub mod ListTaskLemmas
+pub mod OrderTableLemmas

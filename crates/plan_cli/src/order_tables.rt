@@ -1,7 +1,6 @@
 //! Tables of a list of orders: without the steps that take no time, and with machines by name.
 
-ghost use Rattle.std.specs.Prelude.{◌≡◌, ◌<◌, ◌++◌, [], map, length, IfOk};
-ghost use Rattle.plan_shop.specs.Shop.{time_of, machine_of};
+ghost use Rattle.std.specs.Prelude.{◌≡◌, ◌++◌, map, IfOk, OnOk};
 ghost use Rattle.plan_table.specs.Names.{name_of};
 ghost use Rattle.plan_formats.specs.Cells.{cell_of};
 ghost use Rattle.plan_formats.specs.Columns.{column_of};
@@ -18,6 +17,7 @@ use crate::views::View;
 use plan_documents::{Subject, open_shop, read_instance};
 use plan_errors::CliFault;
 use plan_formats::{Cell, Column, Layout, Table, format_table, table_text, with_names};
+use plan_orlib::Step;
 use plan_shop::Shop;
 use plan_table::{NameLine, first_name};
 use plan_views::{name_view, verdict_view};
@@ -75,6 +75,23 @@ fn step_row<'a>(
     Ok(cells)
 }
 
+// Appends the row of a step with the name of its machine, if the step takes time.
+fn push_timed<'a>(
+    alloc: Global,
+    names: &[NameLine<'a>],
+    step: Step,
+    row: &[Cell<'a>],
+    made: &mut Vec<Vec<Cell<'a>>>,
+) -> Result<(), AllocError>
+    ensures { OnOk result (rows_of made.new.items ≡ rows_of made.old.items
+        ++ spec.timed_row (map name_of names.now) step (cells_of row.now)) }
+{
+    if step.time != 0 {
+        made.push(step_row(alloc, names, step.machine as u64, row)?)?;
+    }
+    Ok(())
+}
+
 // Returns the rows of the steps that take time, each with the name of its machine. Row `k` is that
 // of the step with flat number `k`; rows behind the last step are left out.
 fn timed_rows<'a>(
@@ -86,16 +103,13 @@ fn timed_rows<'a>(
     ensures { IfOk result (λ made. rows_of made.items
         ≡ spec.timed_rows (map name_of names.now) shop.now.steps (rows_of rows.now)) }
 {
-    let steps = shop.jobs() * shop.machines();
+    let machines = shop.machines();
     let mut made = Vec::new(alloc);
-    for (k, row) in rows.iter().enumerate() {
-        if k >= steps as usize {
+    for x in 0..shop.jobs() * machines {
+        let Some(row) = rows.get(x as usize) else {
             return Ok(made);
-        }
-        let step = shop.step(k as u32);
-        if step.time != 0 {
-            made.push(step_row(alloc, names, step.machine as u64, row)?)?;
-        }
+        };
+        push_timed(alloc, names, shop.step(x), row, &mut made)?;
     }
     Ok(made)
 }

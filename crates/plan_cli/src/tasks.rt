@@ -479,7 +479,16 @@ fn listed_text<V: ProofWatcher + SolveWatcher, L: Log>(
     let read = readable(alloc, of, file)?;
     let task = with_subject(task, read.subject);
     let text = read.text(file);
-    kind_text(alloc, read.kind, task, read.subject, rows, text, watcher, log)
+    kind_text(
+        alloc,
+        read.kind,
+        task,
+        read.subject,
+        rows,
+        text,
+        watcher,
+        log,
+    )
 }
 
 // Returns the text of a task for the bytes of a file, with this project or job shop if the task

@@ -6,7 +6,7 @@ use Rattle.std.proofs.lemmas.Bool.{leb-true, le-leb, eqb-true, eq-eqb}
 use Rattle.std.proofs.lemmas.List.Elements.{All-from_recursion}
 use Rattle.plan_psplib.specs.declared.text.fault.FileCode.TheVariants as code
 use Rattle.plan_psplib.specs.Numbers.{number}
-use Rattle.plan_psplib.specs.Tokens.{check, fault}
+use Rattle.plan_psplib.specs.Tokens.{◌>>=◌, check, fault}
 use Rattle.plan_psplib.specs.declared.text.fault.Fault.{Fault}
 use Rattle.plan_psplib.proofs.GoesLemmas.{then_ok, same_ok, ok_bind, check_ok, ok_check}
 use Rattle.plan_gantt.specs.Limits.{latest_start}
@@ -152,10 +152,11 @@ shows_row : (last : ℕ) (entry : Entry) (start : ℕ) (rows others : List Row) 
     → (line : ℕ) × (row_start last entry rows ≡ Ok (start, line, others)) × (is_next entry rows ≡ true)
 unfolding row_start
 shows_row last entry start [] others p = absurd p
-shows_row last entry start (row ∷ rows) others p =
-    (row.line,
-    ok_bind (start_in entry row) _ start (start, row.line, others) (shows_start entry row start p.0) (ap (λ (rs : List Row). Ok (start, row.line, rs)) p.1),
-    row_next entry start row rows p.0)
+shows_row last entry start (row ∷ rows) others p = (
+  row.line,
+  ok_bind (start_in entry row) _ start (start, row.line, others) (shows_start entry row start p.0) (ap (λ (rs : List Row). Ok (start, row.line, rs)) p.1),
+  row_next entry start row rows p.0,
+)
 
 -- a start without a row
 early_is : (last start : ℕ) (b : Bool) (x : ℕ) → nat_le start latest_start ≡ b → (if b then Ok start else fault code.Limit last) ≡ Ok x → (start ≡ x) × (start ≤ latest_start)
@@ -164,7 +165,9 @@ early_is last start false x is e = absurd (cc)
 
 early_ok : (last start : ℕ) (b : Bool) → nat_le start latest_start ≡ b → start ≤ latest_start → (if b then Ok start else fault code.Limit last) ≡ Ok start
 early_ok last start true is early = refl
-early_ok last start false is early = absurd (cc)
+early_ok last start false is early =
+    let lie : true ≡ false = sym (le-leb start latest_start early) ∙ is in
+    absurd (cc)
 
 left_shows : (last end start : ℕ) (entry : Entry) (rows : List Row) (x : ℕ × ℕ × List Row) → absent_start entry.absence end ≡ Some start → is_next entry rows ≡ false
     → left_out last start rows ≡ Ok x → IsLeftOut end entry x.0 rows x.2
@@ -207,11 +210,12 @@ shows_next last end start entry rows others (inl shows) =
 shows_next last end start entry rows others (inr left) =
     let Out : Type 0 = Result (ℕ × ℕ × List Row) Fault in
     let skip : Path Out (left_out last start rows) (Ok (start, last, rows)) =
-        ok_bind (early_start last start) _ start (start, last, rows) (early_ok last start (nat_le start latest_start) refl left.in_time) refl in
-    (last,
-    ap (λ (o : Option ℕ). start_by last o entry rows) left.absent
-    ∙ ap (λ (c : Bool). if c then row_start last entry rows else left_out last start rows) left.missing
-    ∙ skip ∙ ap (λ (rs : List Row). Ok (start, last, rs)) left.same)
+    ok_bind (early_start last start) _ start (start, last, rows) (early_ok last start (nat_le start latest_start) refl left.in_time) refl in (
+      last,
+      ap (λ (o : Option ℕ). start_by last o entry rows) left.absent
+          ∙ ap (λ (c : Bool). if c then row_start last entry rows else left_out last start rows) left.missing
+          ∙ skip ∙ ap (λ (rs : List Row). Ok (start, last, rs)) left.same,
+    )
 
 -- the starts that are read are shown by the rows before the rest
 after_shows : (entries : List Entry) (before : List ℕ) (last end : ℕ) (rows : List Row) (x : List ℕ × List Row) → starts_after before last end entries rows ≡ Ok x
@@ -236,6 +240,14 @@ shows_after (entry ∷ entries) (s ∷ ss) before last end rows rest p =
     let read = shows_next last end s entry rows p.0 p.1 in
     ok_bind (next_start last end entry rows) _ (s, read.0, p.0) (before ++ s ∷ ss, rest) read.1
     (shows_after entries ss (before ++ s ∷ []) read.0 (s + entry.duration) p.0 rest p.2 ∙ ap (λ (xs : List ℕ). Ok (xs, rest)) (append_assoc before (s ∷ []) ss))
+
+-- the starts behind the next one
+pub starts_go : (before : List ℕ) (last end : ℕ) (entry : Entry) (entries : List Entry) (rows others : List Row) (start line : ℕ) (whole : Result (List ℕ × List Row) Fault)
+    → next_start last end entry rows ≡ Ok (start, line, others) → starts_after before last end (entry ∷ entries) rows ≡ whole
+    → starts_after (before ++ start ∷ []) line (start + entry.duration) entries others ≡ whole
+unfolding starts_after
+starts_go before last end entry entries rows others start line whole read all =
+    sym (ap (λ (r : Result (ℕ × ℕ × List Row) Fault). r >>= (λ next. starts_after (before ++ next.0 ∷ []) next.1 (next.0 + entry.duration) entries next.2)) read) ∙ all
 
 -- ---- sheets
 
