@@ -1,7 +1,7 @@
 #!/usr/bin/env python3
 """Draws plans, writes each as a list, and compares what the commands that read lists print with models
-in Python: the rows with ids, names, resources and predecessors, as text, CSV and JSON, and the line of
-notes on standard error.
+in Python: the rows with ids, names, resources and predecessors, weekdays and times of day, and the changes from
+another list, as text, CSV and JSON, and the line of notes on standard error.
 
     tests/trials/list_rows.py               2,000 lists; prints nothing on success
     tests/trials/list_rows.py CASES SEED    so many, drawn from this seed
@@ -293,7 +293,7 @@ class Case:
         return starts
 
     def write(self, name, starts):
-        return written(self.folder, name, " ".join(str(starts[j]) for j in sorted(starts)).encode())
+        return written(self.folder, name, numbers(starts))
 
 
 def times_of(project, starts):
@@ -316,6 +316,51 @@ def try_days(case):
     compare(case.what, case.form, output, Sheet(case.drawn, ["first", "last"], 12, cells))
 
 
+def moments_of(case, style, first, marks):
+    """The moments at which each activity begins and ends, in a style: whether days have their weekday,
+    the hours of a working day or 0, and the minute at which the first hour begins."""
+    weekdays, hours, opens = style
+
+    def moment(unit, after):
+        day, hour = divmod(unit, hours or 1)
+        date = texts.marked_day(first, marks, day)
+        minute = opens + (hour + after) * 60
+        weekday = datetime.date.fromisoformat(date).strftime("%a ") if weekdays else ""
+        return weekday + date + (f" {minute // 60:02}:{minute % 60:02}" if hours else "")
+
+    return {
+        j: [moment(case.starts[j], 0), moment(case.starts[j] + days - 1, 1)] if days else [None, None]
+        for j, days in case.project.durations.items()
+    }
+
+
+def try_moments(case):
+    draw = case.draw
+    first = str(datetime.date(2024, 1, 1) + datetime.timedelta(draw.randrange(3000)))
+    marks = draw.choice(("1111100", "1111111", "1000010", "0000001"))
+    weekdays, hours = draw.random() < 0.6, draw.choice((None, 1, 2, 7, 8, 24))
+    timed = 0 if hours in (None, 1) else hours
+    opens = draw.randrange(1440 - (hours or 0) * 60 + 1) if timed else 0
+    opens = min(opens, 1439)
+    words = ["--weekdays"] if weekdays else []
+    words += ["--per-day", str(hours)] if hours else []
+    is_given = timed and (opens or draw.random() < 0.5)
+    words += ["--opens", f"{opens // 60:02}:{opens % 60:02}"] if is_given else []
+    cells = moments_of(case, (weekdays, timed, opens), first, marks)
+    output = case.output("days", *words, case.rule, first, marks, "list.csv")
+    width = 12 + 4 * weekdays + 6 * bool(timed)
+    compare(case.what, case.form, output, Sheet(case.drawn, ["first", "last"], width, cells))
+
+
+def try_bad_hours(case):
+    """Hours that are refused, before the list is read."""
+    draw = case.draw
+    hours, opens = draw.choice(((0, "07:00"), (25, "00:00"), (8, "16:01"), (2, "24:00"), (3, "7:00"), (1, "x")))
+    words = ["days", "--per-day", str(hours), "--opens", opens, "lft", "2024-01-01", "mon-fri"]
+    answer = plan(case.folder, *words, draw.choice(("list.csv", "none.csv")))
+    same(f"{words}", answer, (1, b"", b"G7 hours\n"))
+
+
 def try_check(case):
     starts = case.moved()
     output = case.output("check", "list.csv", case.write("starts", starts))
@@ -336,6 +381,68 @@ def try_compare(case):
     sheet = Sheet(case.drawn, ["A", "B", "shift"], 8, cells, None, lines, members)
     output = case.output("compare", *words)
     compare(case.what, case.form, output, sheet)
+
+
+class Changed:
+    """The list of a case before some changes: another plan, which has some of its ids."""
+
+    def __init__(self, case):
+        draw, folder = case.draw, case.folder
+        self.drawn = List(draw)
+        if self.drawn.ids:
+            own = [f"old-{k}" for k in range(len(self.drawn.ids))]
+            common = draw.sample(case.drawn.ids, min(len(case.drawn.ids), draw.randrange(len(own) + 1)))
+            self.drawn.ids = draw.sample([*common, *own[len(common) :]], len(own))
+        data, _ = bytes_of(draw, self.drawn)
+        written(folder, "old.csv", data)
+        self.project = self.drawn.project()
+        self.starts = schedules.rule_starts(self.project, draw.choice(RULES))
+
+    def by_id(self):
+        return by_id(self.drawn, self.starts)
+
+
+def by_id(drawn, starts):
+    """The starts of the activities with ids, in the order of the list."""
+    return {drawn.label(j): starts[j] for j in drawn.numbers()}
+
+
+def changes(old, new):
+    """The rows, the lines and the members of a comparison of two schedules by ids."""
+    rows = [[name, old.get(name), t, Signed(t - old[name]) if name in old else None] for name, t in new.items()]
+    rows += [[name, t, None, None] for name, t in old.items() if name not in new]
+    common = [name for name in new if name in old]
+    moved = [name for name in common if old[name] != new[name]]
+    added, removed = [name for name in new if name not in old], [name for name in old if name not in new]
+    lines = [f"moved {len(moved)} of {len(common)}"]
+    for word, names in (("added", added), ("removed", removed)):
+        lines.append(" ".join([word, *names]) if names else f"none {word}")
+    members = {"added": added, "compared": len(common), "moved": len(moved), "removed": removed}
+    return rows, lines, members
+
+
+def try_changes(case):
+    """Schedules of two lists, compared by ids; or the error if one has none."""
+    before, starts = Changed(case), case.moved()
+    words = ["compare", "--old", "old.csv", "list.csv"]
+    words += [written(case.folder, "a", numbers(before.starts)), case.write("b", starts)]
+    if not (case.drawn.ids and before.drawn.ids):
+        line = "T3 no column id" + (" of the old list" if case.drawn.ids else "")
+        return same(f"{case.data!r}: {words}", plan(case.folder, *words), (1, b"", f"{line}\n".encode()))
+    rows, lines, members = changes(before.by_id(), by_id(case.drawn, starts))
+    heads, output = ["id", "old", "new", "shift"], case.output(*words)
+    if case.form == "csv":
+        found = list(csv.reader(io.StringIO(output.decode(), newline="")))
+        return same(case.what, found, [heads, *([field(cell) for cell in row] for row in rows)])
+    if case.form == "json":
+        return same(case.what, output, dumped({**members, "rows": [dict(zip(heads, row)) for row in rows]}))
+    places = max([4, *(len(row[0].encode()) for row in rows)])
+    text = [padded(places, row[0]) + "".join(padded(8, shown(cell)) for cell in row[1:]) for row in [heads, *rows]]
+    same(case.what, output.decode(), "".join(line + "\n" for line in [*text, *lines]))
+
+
+def numbers(starts):
+    return " ".join(str(starts[j]) for j in sorted(starts)).encode()
 
 
 def try_slack(case):
@@ -432,7 +539,8 @@ def solved_starts(case, value):
     return starts
 
 
-COMMANDS = (try_chart, try_days, try_check, try_compare, try_slack, try_solve, try_read_back)
+COMMANDS = (try_chart, try_days, try_moments, try_bad_hours, try_check, try_compare, try_changes, try_slack)
+COMMANDS += (try_solve, try_read_back)
 
 
 def try_list_rows(cases=2000, seed=1):

@@ -5,6 +5,7 @@ pub mod RuleLemmas
 pub mod PlanLemmas
 pub mod SlackLemmas
 pub mod CompareLemmas
+pub mod ListComparisonLemmas
 pub mod OriginLemmas
 pub mod ScheduledLemmas
 pub mod TurnLemmas

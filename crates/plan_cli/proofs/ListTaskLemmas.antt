@@ -1,25 +1,20 @@
 -- The text of a task for a list, and for the first bytes of a file.
-use Rattle.std.proofs.Common.{◌≡◌, Bool, true, false, ◌&&◌, String, inl, inr, ℕ, ◌+◌, List, [], ◌∷◌, Option, Some, None, Result, Ok, Err, take, refl, sym, subst, arith}
+use Rattle.std.proofs.Common.{◌≡◌, Bool, true, false, ◌&&◌, inl, inr, ℕ, ◌+◌, List, [], ◌∷◌, Option, Some, None, Result, Ok, Err, take, refl, subst}
 use Rattle.std.specs.Prelude.{IfOk, IfErr}
-use Rattle.std.specs.Global.{Global}
 use Rattle.plan_psplib.specs.Plain.{longest_text}
 use Rattle.plan_table.specs.Kinds.{IsKind}
-use Rattle.plan_table.specs.Names.{Name}
 use Rattle.plan_table.specs.declared.kinds.ListKind.{ListKind}
 use Rattle.plan_table.specs.declared.kinds.ListKind.TheVariants as kinds
 use Rattle.plan_errors.specs.declared.fault.CliFault.{CliFault}
 use Rattle.plan_errors.specs.Output.{Refuses}
-use Rattle.plan_documents.specs.Capacities.{Replaces}
 use Rattle.plan_documents.specs.declared.capacities.Capacity.{Capacity}
-use Rattle.plan_documents.specs.Lists.{IsMadeBy, IsMadeOf, RefusesActivities, RefusesIn, RefusesKind, RefusesList, RefusesMade, RefusesSubjectOn, IsReadAs, RefusesReading, ReadsAs, RefusesAs, text_of}
-use Rattle.plan_documents.specs.Spreadsheets.{IsListOf, OfList, TellsNoList}
+use Rattle.plan_documents.specs.Lists.{IsMadeOf, RefusesActivities, RefusesIn, RefusesKind, RefusesList, RefusesMade, IsReadAs, RefusesReading, ReadsAs}
+use Rattle.plan_documents.specs.Spreadsheets.{OfList}
 use Rattle.plan_cli.specs.Tasks.{IsLineOf, ShowsTask, list_subject, with_subject, has_steps, ShowsBy, ShowsKind, ShowsOn, ShowsRead, RefusesOn, RefusesRead}
 use Rattle.plan_documents.specs.declared.documents.Subject.{Subject}
 use Rattle.plan_documents.specs.declared.documents.Subject.TheVariants as subject
-use Rattle.plan_documents.specs.declared.lists.Reading.{Reading}
 use Rattle.plan_cli.specs.declared.tasks.Rows.{Rows}
 use Rattle.plan_cli.specs.declared.tasks.Task.{Task}
-use Rattle.plan_documents.proofs.ErrorLemmas.{refuses_as, if_err_weaker}
 use Rattle.plan_cli.proofs.RunLemmas.{HoldsByFront}
 use Rattle.plan_cli.proofs.TaskLemmas.{shown_front, task_line_front, import_front, no_import_front, no_sound_import_front, shop_import_front, no_shop_import_front, kind_front, list_front, refuses_list_front}
 use Rattle.plan_documents.proofs.ListLemmas.{read_refused, read_as}

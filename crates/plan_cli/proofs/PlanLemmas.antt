@@ -8,7 +8,7 @@ use Rattle.plan_shop.specs.Shop as shops
 use Rattle.plan_table.specs.Names.{Name}
 use Rattle.plan_documents.specs.Documents.{ids_in}
 use Rattle.plan_gantt.specs.FirstFaults.{TellsFirstFailing}
-use Rattle.plan_gantt.specs.ScheduleText.{IsScheduleTextOf, TellsRefusal}
+use Rattle.plan_gantt.specs.ScheduleText.{TellsRefusal}
 use Rattle.plan_gantt.specs.ShopTable.{shop_table_text}
 use Rattle.plan_gantt.specs.ShopText.{IsShopTextOf}
 use Rattle.plan_cli.specs.BestProjectRun.{IsBestProjectTableOf, TellsWhyNoBestProject}

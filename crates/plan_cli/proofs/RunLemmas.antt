@@ -1,6 +1,6 @@
 -- The text or line for the first bytes of a file is that for the whole file.
 use Rattle.std.proofs.Common.{◌≡◌, ◌⊎◌, inl, inr, ℕ, ◌+◌, ◌≤◌, ◌<◌, List, Option, Some, None, Result, Ok, Err, length, take, refl, sym, ap, ◌∙◌, subst, arith}
-use Rattle.std.specs.Prelude.{IfSome, IfOk, IfErr}
+use Rattle.std.specs.Prelude.{IfSome}
 use Rattle.std.specs.Io.KnownBytes.{Consumes}
 use Rattle.std.proofs.lemmas.Bool.{lt-leb, cases_lt}
 use Rattle.std.proofs.lemmas.List.{length-take, take_all}
@@ -17,8 +17,7 @@ use Rattle.plan_orlib.specs.Shop as docs
 use Rattle.plan_orlib.specs.Says.{Says as ShopSays}
 use Rattle.plan_orlib.specs.ShopText as reading
 use Rattle.plan_gantt.specs.FirstFaults.{TellsFirstFailing, TellsFirstShopFault}
-use Rattle.plan_sgs.specs.Problem.{NeedsFit}
-use Rattle.plan_sgs.specs.Instances.{Planned, problem_of}
+use Rattle.plan_sgs.specs.Instances.{Planned}
 use Rattle.plan_shop.specs.Shop.{JobShop}
 use Rattle.plan_documents.specs.Plans.{IsOfProject, RefusesFile, IsOfShop, RefusesShop}
 use Rattle.plan_table.specs.Names.{Name}
@@ -30,7 +29,6 @@ use Rattle.plan_documents.specs.declared.documents.Plan.TheVariants as plan
 use Rattle.plan_documents.specs.declared.documents.Subject.{Subject}
 use Rattle.plan_documents.specs.declared.documents.Subject.TheVariants as subject
 use Rattle.plan_documents.specs.declared.capacities.Capacity.{Capacity}
-use Rattle.plan_documents.specs.ScheduleRun.{TellsNeed}
 use Rattle.plan_errors.specs.declared.fault.CliFault.{CliFault}
 use Rattle.plan_errors.specs.declared.fault.CliFault.TheVariants as cli
 use Rattle.plan_errors.specs.Faults.{refusal_line}

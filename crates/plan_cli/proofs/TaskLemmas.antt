@@ -16,6 +16,7 @@ use Rattle.plan_cli.specs.ChartRun.{IsChartFrom}
 use Rattle.plan_cli.specs.DaysRun.{IsDaysFrom, TellsNoDaysFrom}
 use Rattle.plan_cli.specs.SlackRun.{IsSlackOf, TellsNoSlack}
 use Rattle.plan_cli.specs.CompareRun.{IsCompared, TellsNotCompared}
+use Rattle.plan_cli.specs.ListComparisons.{AreListsCompared, TellsNoLists}
 use Rattle.plan_cli.specs.CheckRun.{TellsVerdictOn, TellsBadStarts}
 use Rattle.plan_cli.specs.BestRun.{IsBestOf, TellsNoBestOf}
 use Rattle.plan_cli.specs.SolveRun.{IsSolvedBy, TellsNoSolution}
@@ -47,7 +48,7 @@ use Rattle.plan_cli.specs.declared.tasks.Task.TheVariants as task
 use Rattle.plan_cli.specs.TaskViews.{IsViewOf}
 use Rattle.plan_cli.specs.Views.{View, plain_text}
 use Rattle.plan_cli.proofs.ViewTextLemmas.{view_text}
-use Rattle.plan_cli.proofs.RunLemmas.{HoldsByFront, of_subject_front, refuses_subject_front, of_project_front, refuses_file_front, of_ids_front, refuses_ids_front, names_front, not_plain_front, proof_front, no_proof_front, table_front, line_front, project_short, plain_short, whole_front}
+use Rattle.plan_cli.proofs.RunLemmas.{HoldsByFront, of_subject_front, refuses_subject_front, of_ids_front, refuses_ids_front, names_front, not_plain_front, proof_front, no_proof_front, table_front, line_front, project_short, plain_short, whole_front}
 
 -- a plan file isn't too long
 plan_short : (text : List ℕ) → IsPlanFile text → length text ≤ longest_text
@@ -262,11 +263,12 @@ task_front : (task : Task) → HoldsByFront (IsTextOf task)
 task_front task.Dates = table_front
 task_front (task.Schedule rule subject) = of_subject_front subject (IsTableBy rule.now)
 task_front (task.Chart from subject) = of_subject_front subject (IsChartFrom from)
-task_front (task.Days from dates subject) = of_subject_front subject (IsDaysFrom from dates)
+task_front (task.Days from dates style subject) = of_subject_front subject (IsDaysFrom from dates style)
 task_front task.Names = names_front
 task_front (task.Check starts subject) = of_subject_front subject (TellsVerdictOn starts.now)
 task_front (task.Slack starts given) = of_ids_front given.now (λ ids. IsSlackOf ids starts.now)
 task_front (task.Compare starts subject) = of_subject_front subject (IsCompared starts.a.now starts.b.now)
+task_front (task.CompareLists old starts subject) = of_subject_front subject (AreListsCompared subject old.now starts.a.now starts.b.now)
 task_front (task.Best budget subject) = of_subject_front subject (IsBestOf budget.now)
 task_front (task.Prove nodes instance) = proof_front nodes.now instance.now
 task_front (task.Solve conflicts subject) = of_subject_front subject IsSolvedBy
@@ -277,11 +279,12 @@ pub task_line_front : (task : Task) → HoldsByFront (IsLineOf task)
 task_line_front task.Dates = line_front
 task_line_front (task.Schedule rule subject) = refuses_subject_front subject (TellsNoRuleOf rule.now)
 task_line_front (task.Chart from subject) = refuses_subject_front subject (TellsNotMade from)
-task_line_front (task.Days from dates subject) = refuses_subject_front subject (TellsNoDaysFrom from dates)
+task_line_front (task.Days from dates style subject) = refuses_subject_front subject (TellsNoDaysFrom from dates style)
 task_line_front task.Names = not_plain_front
 task_line_front (task.Check starts subject) = refuses_subject_front subject (TellsBadStarts starts.now)
 task_line_front (task.Slack starts given) = refuses_ids_front given.now (λ ids. TellsNoSlack ids starts.now)
 task_line_front (task.Compare starts subject) = refuses_subject_front subject (TellsNotCompared starts.a.now starts.b.now)
+task_line_front (task.CompareLists old starts subject) = refuses_subject_front subject (TellsNoLists subject old.now starts.a.now starts.b.now)
 task_line_front (task.Best budget subject) = refuses_subject_front subject (TellsNoBestOf budget.now)
 task_line_front (task.Prove nodes instance) = no_proof_front nodes.now instance.now
 task_line_front (task.Solve conflicts subject) = refuses_subject_front subject TellsNoSolution
@@ -335,11 +338,12 @@ file_short : (task : Task) (file text : List ℕ) → IsTextOf task file text �
 file_short task.Dates file text (p, says, rest) = project_short file p says
 file_short (task.Schedule rule subject) file text is = subject_short subject (IsTableBy rule.now) file text is
 file_short (task.Chart from subject) file text is = subject_short subject (IsChartFrom from) file text is
-file_short (task.Days from dates subject) file text is = subject_short subject (IsDaysFrom from dates) file text is
+file_short (task.Days from dates style subject) file text is = subject_short subject (IsDaysFrom from dates style) file text is
 file_short task.Names file text (readable, is) = plain_short file readable
 file_short (task.Check starts subject) file text is = subject_short subject (TellsVerdictOn starts.now) file text is
 file_short (task.Slack starts given) file text (p, says, rest) = project_short file p says
 file_short (task.Compare starts subject) file text is = subject_short subject (IsCompared starts.a.now starts.b.now) file text is
+file_short (task.CompareLists old starts subject) file text is = subject_short subject (AreListsCompared subject old.now starts.a.now starts.b.now) file text is
 file_short (task.Best budget subject) file text is = subject_short subject (IsBestOf budget.now) file text is
 file_short (task.Prove nodes instance) file text (doc, says, rest) = shop_short instance.now file doc says
 file_short (task.Solve conflicts subject) file text is = subject_short subject IsSolvedBy file text is

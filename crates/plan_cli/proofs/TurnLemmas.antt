@@ -1,5 +1,5 @@
 -- The proof of a job shop is its solution.
-use Rattle.std.proofs.Common.{◌≡◌, ◌≤◌, ℕ, arith}
+use Rattle.std.proofs.Common.{◌≡◌, ◌≤◌, arith}
 use Rattle.plan_sgs.specs.Problem.{makespan}
 use Rattle.plan_shop.specs.Shop.{JobShop, problem_of}
 use Rattle.plan_shop.specs.Docs.{IsSmallShop}

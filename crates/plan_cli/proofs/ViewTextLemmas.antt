@@ -1,8 +1,7 @@
 -- The texts of what tasks show are the texts of the tasks.
-use Rattle.std.proofs.Common.{◌≡◌, ℕ, ◌<◌, ◌≤◌, ◌⊎◌, inl, inr, Bool, true, false, nat_lt, List, [], ◌∷◌, ◌++◌, codes, map, refl, sym, ap, ◌∙◌, subst, arith}
-use Rattle.std.proofs.lemmas.Bool.{cases_eq}
+use Rattle.std.proofs.Common.{◌≡◌, ℕ, ◌<◌, ◌≤◌, inl, inr, Bool, true, false, nat_lt, Option, Some, None, List, [], ◌∷◌, ◌++◌, codes, map, refl, sym, ap, ◌∙◌, subst, arith}
+use denote.Ref.{Bor}
 use Rattle.std.proofs.lemmas.Bool.Decides.{nat_tests}
-use Rattle.std.specs.Fmt.{decimal}
 use Rattle.std.proofs.lemmas.List.{append-nil}
 use Rattle.plan_calendar.specs.WorkingDay.{Workdays}
 use Rattle.plan_orlib.specs.Instances.{names_of}
@@ -21,6 +20,7 @@ use Rattle.plan_views.specs.Bounds.{best_text_of, best_view_of, bound_line_of, k
 use Rattle.plan_views.specs.LineLists.{verdict_view_of}
 use Rattle.plan_views.specs.Plans as plans
 use Rattle.plan_views.specs.ScheduleTables.{schedule_view_of}
+use Rattle.plan_views.specs.declared.moments.MomentStyle.{MomentStyle}
 use Rattle.plan_views.proofs.ChartLemmas.{chart_text_is}
 use Rattle.plan_views.proofs.DayLemmas.{calendar_text}
 use Rattle.plan_views.proofs.ReportLemmas.{comparison_text, slack_text}
@@ -30,21 +30,21 @@ use Rattle.plan_cli.specs.ChartRun.{IsChartFrom}
 use Rattle.plan_cli.specs.ChartRun as charts
 use Rattle.plan_cli.specs.CheckRun.{TellsVerdictOn, sentence_of}
 use Rattle.plan_cli.specs.CompareRun.{Compares, IsCompared}
-use Rattle.plan_cli.specs.DaysRun.{IsDaysFrom, IsDaysTable, ShowsDays}
+use Rattle.plan_cli.specs.ListComparisons.{AreListsCompared, ArePlansCompared, IsListsView, IsPlansView}
+use Rattle.plan_cli.specs.DaysRun.{IsDaysFrom, IsDaysTable}
 use Rattle.plan_table.specs.Names.{Name}
 use Rattle.plan_documents.specs.Documents.{IsOfSubject, ids_in}
 use Rattle.plan_documents.specs.ImportRun.{IsImport, IsShopImport}
 use Rattle.plan_cli.specs.PlanRefs.{viewed}
 use Rattle.plan_cli.specs.ProofText.{IsBoundLine}
 use Rattle.plan_cli.specs.ProveRun.{IsProvedOf}
-use Rattle.plan_cli.specs.Run.{IsDateTableOf}
 use Rattle.plan_cli.specs.SlackRun.{IsSlackOf}
-use Rattle.plan_cli.specs.SolveRun.{IsSolvedBy, ShowsSolution}
+use Rattle.plan_cli.specs.SolveRun.{IsSolvedBy}
 use Rattle.plan_cli.specs.Tables.{IsTableBy}
 use Rattle.plan_cli.specs.Tables as tables
 use Rattle.plan_cli.specs.Tasks.{IsTextOf}
-use Rattle.plan_cli.specs.TaskViews.{IsDateView, IsTableViewBy, IsChartViewFrom, IsDaysViewFrom, IsVerdictView, IsSlackViewOf, IsComparedView, ComparesIn, AreDaysOf, IsBestProjectViewBy, IsBestShopViewBy, IsBestViewOf, IsSolvedViewBy, IsProvedViewOf, IsViewOf, schedule_of, chart_of, bounded_of}
-use Rattle.plan_cli.specs.Views.{View, table, chart, text, plain_text}
+use Rattle.plan_cli.specs.TaskViews.{IsTableViewBy, IsChartViewFrom, IsDaysViewFrom, IsVerdictView, IsSlackViewOf, IsComparedView, ComparesIn, AreDaysOf, ShowsDaysOf, IsBestViewOf, IsSolvedViewBy, IsProvedViewOf, IsViewOf, schedule_of, chart_of, bounded_of}
+use Rattle.plan_cli.specs.Views.{View, chart, plain_text}
 use Rattle.plan_documents.specs.declared.documents.Plan.{Plan}
 use Rattle.plan_documents.specs.declared.documents.Plan.TheVariants as plan
 use Rattle.plan_documents.specs.declared.documents.Subject.{Subject}
@@ -86,14 +86,22 @@ case_bound false lower makespan test below =
 bound_line : (lower makespan : ℕ) → lower ≤ makespan → IsBoundLine lower makespan (line_text (bound_line_of lower makespan))
 bound_line lower makespan below = case_bound (nat_lt lower makespan) lower makespan refl below
 
-days_table : (p : Plan) (starts : List ℕ) (c : Workdays) (t : Table) → AreDaysOf p starts c t → IsDaysTable p starts c (text_of t)
-days_table p starts c t are = calendar_text c (viewed p) starts t are
+days_table : (style : Option (Bor MomentStyle)) → (p : Plan) (starts : List ℕ) (c : Workdays) (t : Table) → AreDaysOf style p starts c t
+    → IsDaysTable style p starts c (text_of t)
+days_table None p starts c t are = calendar_text c (viewed p) starts t are
+days_table (Some style) p starts c t are = (t, are, refl)
 
-by_dates : (from : Origin) (dates : Dates) (p : Plan) (v : View) → IsDaysViewFrom from dates p v → IsDaysFrom from dates p (plain_text v)
-by_dates from dates p v is = record {
+days_text : (style : Option (Bor MomentStyle)) (p : Plan) (starts : List ℕ) (c : Workdays) (v : View) → ShowsDaysOf style p starts c v
+    → IsDaysTable style p starts c (plain_text v)
+days_text style p starts c v (days, are, shown) =
+    subst (λ (bytes : List ℕ). IsDaysTable style p starts c bytes) (sym (ap plain_text shown)) (days_table style p starts c days are)
+
+by_dates : (from : Origin) (dates : Dates) (style : Option (Bor MomentStyle)) (p : Plan) (v : View) → IsDaysViewFrom from dates style p v
+    → IsDaysFrom from dates style p (plain_text v)
+by_dates from dates style p v is = record {
   starts = is.starts;
   schedule = is.schedule;
-  shown = subst (λ (bytes : List ℕ). ShowsDays dates (IsDaysTable p is.starts) bytes) (sym (ap plain_text is.shown)) (is.calendar, is.dated, days_table p is.starts is.calendar is.days is.are);
+  shown = (is.calendar, is.dated, days_text style p is.starts is.calendar v is.shown);
 }
 
 verdict_text : (sentence : List ℕ) → text_of (verdict_view_of sentence) ≡ sentence ++ codes "\n"
@@ -200,17 +208,34 @@ of_subject : (who : Subject) (IsValue : Plan → View → Type 0) (IsText : Plan
 of_subject (subject.Project given) IsValue IsText file v each (p, said, (capacities, replaced, (fit, is))) = (p, said, (capacities, replaced, (fit, each _ is)))
 of_subject (subject.Shop instance) IsValue IsText file v each (doc, said, is) = (doc, said, each _ is)
 
+by_plans : (first second : List ℕ) (after before : Plan) (v : View) → IsPlansView first second after before v
+    → ArePlansCompared first second after before (plain_text v)
+by_plans first second after before v (t, is, shown) = (t, is, ap plain_text shown)
+
+by_lists : (who : Subject) (old first second : List ℕ) (after : Plan) (v : View) → IsListsView who old first second after v
+    → AreListsCompared who old first second after (plain_text v)
+by_lists who old first second after v (kind, s, bytes, is, made) = (
+  kind,
+  s,
+  bytes,
+  is,
+  of_subject s (IsPlansView first second after) (ArePlansCompared first second after) bytes v (λ before. by_plans first second after before v) made,
+)
+
 -- the text of what a task shows is its text
 pub view_text : (t : Task) (file : List ℕ) (v : View) → IsViewOf t file v → IsTextOf t file (plain_text v)
 view_text task.Dates file v (p, said, (dates, are, shown)) = (p, said, (dates, are, ap plain_text shown ∙ date_text p.network dates))
 view_text (task.Schedule rule who) file v is = of_subject who (IsTableViewBy rule.now) (IsTableBy rule.now) file v (λ p. by_rule rule.now p v) is
 view_text (task.Chart from who) file v is = of_subject who (IsChartViewFrom from) (IsChartFrom from) file v (λ p. by_origin from p v) is
-view_text (task.Days from dates who) file v is = of_subject who (IsDaysViewFrom from dates) (IsDaysFrom from dates) file v (λ p. by_dates from dates p v) is
+view_text (task.Days from dates style who) file v is = of_subject who (IsDaysViewFrom from dates style) (IsDaysFrom from dates style) file v (λ p. by_dates from dates style p v) is
 view_text task.Names file v (plain, shown) = (plain, ap plain_text shown ∙ lines_text_of (codes "name") (names_of file))
 view_text (task.Check starts who) file v is = of_subject who (IsVerdictView starts.now) (TellsVerdictOn starts.now) file v (λ p. by_verdict starts.now p v) is
 view_text (task.Slack starts given) file v (p, said, (capacities, replaced, is)) = (p, said, (capacities, replaced, by_slack (ids_in file) starts.now _ v is))
 view_text (task.Compare starts who) file v is =
     of_subject who (IsComparedView starts.a.now starts.b.now) (IsCompared starts.a.now starts.b.now) file v (λ p. by_pair starts.a.now starts.b.now p v) is
+view_text (task.CompareLists old starts who) file v is =
+    of_subject who (IsListsView who old.now starts.a.now starts.b.now) (AreListsCompared who old.now starts.a.now starts.b.now) file v
+    (λ p. by_lists who old.now starts.a.now starts.b.now p v) is
 view_text (task.Best budget who) file v is = of_subject who (IsBestViewOf budget.now) (IsBestOf budget.now) file v (λ p. by_budget budget.now p v) is
 view_text (task.Prove nodes instance) file v (doc, said, (limit, spelled, is)) = (doc, said, (limit, spelled, by_proof limit _ v is))
 view_text (task.Solve conflicts who) file v is = of_subject who IsSolvedViewBy IsSolvedBy file v (λ p. by_solver p v) is

@@ -4,6 +4,7 @@ use Rattle.plan_cli.specs.BestRun.{TellsNoBestOf}
 use Rattle.plan_cli.specs.CheckRun.{TellsBadStarts}
 use Rattle.plan_cli.specs.CompareRun.{TellsNotCompared}
 use Rattle.plan_cli.specs.DaysRun.{TellsNoDaysFrom}
+use Rattle.plan_cli.specs.ListComparisons.{IsListsView, TellsNoLists}
 use Rattle.plan_cli.specs.Scheduled.{TellsNoRuleOf, TellsNotMade}
 use Rattle.plan_cli.specs.SolveRun.{TellsNoSolution}
 use Rattle.plan_cli.specs.TaskViews.{IsBestViewOf, IsChartViewFrom, IsComparedView}
@@ -17,9 +18,11 @@ use Rattle.plan_documents.specs.declared.documents.Plan.{Plan}
 abbrev pub IsPlanView : Command → Plan → View → Type 0
 IsPlanView (command.Schedule rule) = IsTableViewBy rule.now
 IsPlanView (command.Chart from) = IsChartViewFrom from
-IsPlanView (command.Days from dates) = IsDaysViewFrom from dates
+IsPlanView (command.Days from dates style) = IsDaysViewFrom from dates style
 IsPlanView (command.Check starts) = IsVerdictView starts.now
 IsPlanView (command.Compare starts) = IsComparedView starts.a.now starts.b.now
+IsPlanView (command.CompareLists of old starts) =
+    IsListsView of old.now starts.a.now starts.b.now
 IsPlanView (command.Best budget) = IsBestViewOf budget.now
 IsPlanView (command.Solve conflicts) = IsSolvedViewBy
 
@@ -27,8 +30,10 @@ IsPlanView (command.Solve conflicts) = IsSolvedViewBy
 abbrev pub IsPlanLine : Command → Plan → List ℕ → Type 0
 IsPlanLine (command.Schedule rule) = TellsNoRuleOf rule.now
 IsPlanLine (command.Chart from) = TellsNotMade from
-IsPlanLine (command.Days from dates) = TellsNoDaysFrom from dates
+IsPlanLine (command.Days from dates style) = TellsNoDaysFrom from dates style
 IsPlanLine (command.Check starts) = TellsBadStarts starts.now
 IsPlanLine (command.Compare starts) = TellsNotCompared starts.a.now starts.b.now
+IsPlanLine (command.CompareLists of old starts) =
+    TellsNoLists of old.now starts.a.now starts.b.now
 IsPlanLine (command.Best budget) = TellsNoBestOf budget.now
 IsPlanLine (command.Solve conflicts) = TellsNoSolution

@@ -26,10 +26,10 @@ IsNamedFault name fault.Memory named = named ≡ fault.Memory
 IsNamedFault name (fault.Input unread) named = named ≡ fault.Input unread
 IsNamedFault name fault.Output named = named ≡ fault.Output
 
--- the argument with the starts of the schedule with this name
+-- the argument with the starts of the schedule with this name; none for another name
 abbrev pub subject_of : List ℕ → About
-subject_of name =
-    if bytes_eq name (codes "A") then subject.StartsA else subject.StartsB
+subject_of name = if bytes_eq name (codes "A") then subject.StartsA
+    else if bytes_eq name (codes "B") then subject.StartsB else subject.Other
 
 -- a line gives the first check that the starts of the schedule with this name fail
 abbrev pub TellsNoStartsOf : List ℕ → Sheet → List ℕ → List ℕ → Type 0

@@ -39,10 +39,12 @@ pub mod Tables
 pub mod ChartRun
 pub mod Calendars
 pub mod DaysRun
+pub mod OwnTables
 pub mod NamesRun
 pub mod CheckRun
 pub mod SlackRun
 pub mod CompareRun
+pub mod ListComparisons
 pub mod Views
 pub mod OrderTables
 pub mod TaskViews

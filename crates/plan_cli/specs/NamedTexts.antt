@@ -26,7 +26,8 @@ abbrev pub with_starts : Task → Bor (List ℕ) → Task
 with_starts (task.Check starts subject) text = task.Check text subject
 with_starts (task.Slack starts given) text = task.Slack text given
 with_starts (task.Chart from subject) text = task.Chart (origin.Starts text) subject
-with_starts (task.Days from dates subject) text = task.Days (origin.Starts text) dates subject
+with_starts (task.Days from dates style subject) text =
+    task.Days (origin.Starts text) dates style subject
 with_starts t text = t
 
 -- the pair with other starts of A, and of B
@@ -39,11 +40,15 @@ pair_with_b pair text = record { a = pair.a; b = text }
 -- the comparison with other starts of A
 abbrev pub with_starts_a : Task → Bor (List ℕ) → Task
 with_starts_a (task.Compare pair subject) text = task.Compare (pair_with_a pair text) subject
+with_starts_a (task.CompareLists old pair subject) text =
+    task.CompareLists old (pair_with_a pair text) subject
 with_starts_a t text = t
 
 -- the comparison with other starts of B
 abbrev pub with_starts_b : Task → Bor (List ℕ) → Task
 with_starts_b (task.Compare pair subject) text = task.Compare (pair_with_b pair text) subject
+with_starts_b (task.CompareLists old pair subject) text =
+    task.CompareLists old (pair_with_b pair text) subject
 with_starts_b t text = t
 
 -- the dates with other holidays
@@ -52,9 +57,14 @@ dates_with dates text = record { start = dates.start; marks = dates.marks; holid
 
 -- the task with other holidays, if it has dates
 abbrev pub with_holidays : Task → Bor (List ℕ) → Task
-with_holidays (task.Days from dates subject) text =
-    task.Days from (dates_with dates text) subject
+with_holidays (task.Days from dates style subject) text =
+    task.Days from (dates_with dates text) style subject
 with_holidays t text = t
+
+-- the comparison of lists with another old file
+abbrev pub with_old : Task → Bor (List ℕ) → Task
+with_old (task.CompareLists _ pair subject) text = task.CompareLists text pair subject
+with_old t text = t
 
 -- the task with another text of this role
 abbrev pub with_text : Task → Role → Bor (List ℕ) → Task
@@ -62,6 +72,7 @@ with_text t role.Starts text = with_starts t text
 with_text t role.StartsA text = with_starts_a t text
 with_text t role.StartsB text = with_starts_b t text
 with_text t role.Holidays text = with_holidays t text
+with_text t role.Old text = with_old t text
 
 -- Unless the input fails or memory runs out, this holds of the text that was read: at most one byte
 -- more than the longest text has.
@@ -97,6 +108,7 @@ about_of role.Starts = about.Starts
 about_of role.StartsA = about.StartsA
 about_of role.StartsB = about.StartsB
 about_of role.Holidays = about.Holidays
+about_of role.Old = about.Other
 
 -- if a file can't be read, it is that of the project, the job shop or the list, or that of one of
 -- these texts

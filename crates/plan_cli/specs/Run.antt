@@ -1,6 +1,6 @@
 -- The output of a command for the bytes that it reads (docs/definitions.md, "Runs").
 use Rattle.std.specs.Prelude.{◌≡◌, ◌⊎◌, ℕ, ◌+◌, ◌≤◌, List, Option, Result, Err}
-use Rattle.std.specs.Prelude.{IfSome, IfOk, IfErr, IsErrOf, OnOk, length, take}
+use Rattle.std.specs.Prelude.{IfSome, IfErr, IsErrOf, OnOk, length, take}
 use Rattle.std.specs.Io.KnownBytes.{Consumes}
 use Rattle.plan_io.specs.declared.traits.Sink as sinks
 use Rattle.plan_io.specs.declared.traits.Source as sources

@@ -1,6 +1,7 @@
 -- The value of each task for the bytes that it reads (docs/definitions.md, "Runs"). Its text is
 -- that of IsTextOf.
-use Rattle.std.specs.Prelude.{◌≡◌, ◌≤◌, ℕ, List, Ok, map}
+use Rattle.std.specs.Prelude.{◌≡◌, ◌≤◌, ℕ, List, Ok, Option, Some, None, map}
+use denote.Ref.{Bor}
 use Rattle.plan_cpm.specs.Dates.{DateTable, AreDates}
 use Rattle.plan_orlib.specs.Instances.{names_of}
 use Rattle.plan_orlib.specs.Shop as docs
@@ -38,13 +39,16 @@ use Rattle.plan_views.specs.LineLists.{name_view_of, verdict_view_of}
 use Rattle.plan_views.specs.Plans.{project, shop}
 use Rattle.plan_views.specs.ScheduleTables.{schedule_view_of}
 use Rattle.plan_views.specs.SlackTables.{IsSlackView}
+use Rattle.plan_views.specs.declared.moments.MomentStyle.{MomentStyle}
 use Rattle.plan_cli.specs.Calendars.{IsDated}
 use Rattle.plan_cli.specs.CompareRun.{SayPair}
+use Rattle.plan_cli.specs.DaysRun.{AreMomentsIn}
+use Rattle.plan_cli.specs.ListComparisons.{IsListsView}
 use Rattle.plan_documents.specs.Documents.{IsOfSubject, ids_in, problem_of, sheet_of}
 use Rattle.plan_cli.specs.CheckRun.{sentence_of}
 use Rattle.plan_documents.specs.ImportRun.{IsImport, IsShopImport}
 use Rattle.plan_cli.specs.PlanRefs.{viewed}
-use Rattle.plan_documents.specs.Plans.{IsOfProject, IsOfShop}
+use Rattle.plan_documents.specs.Plans.{IsOfProject}
 use Rattle.plan_cli.specs.Scheduled.{IsByRule, IsScheduleFrom}
 use Rattle.plan_cli.specs.Views.{View, table, chart, text}
 use Rattle.plan_table.specs.Overrides.{override_of}
@@ -81,19 +85,24 @@ pub record IsChartViewFrom (from : Origin) (p : Plan) (view : View) : Type 0 whe
   pub schedule : IsScheduleFrom from p starts
   pub shown : view ≡ chart (chart_of p starts (makespan (problem_of p) starts))
 
--- a table has the working days of starts on a calendar
-abbrev pub AreDaysOf : Plan → List ℕ → Workdays → Table → Type 0
-AreDaysOf p starts c t = IsDaysView c (viewed p) starts t
+-- a table has the working days of starts on a calendar; with a style it has moments
+abbrev pub AreDaysOf : Option (Bor MomentStyle) → Plan → List ℕ → Workdays → Table → Type 0
+AreDaysOf None p starts c t = IsDaysView c (viewed p) starts t
+AreDaysOf (Some style) p starts c t = AreMomentsIn style.now p starts c t
+
+-- the working days of starts on a calendar
+abbrev pub ShowsDaysOf : Option (Bor MomentStyle) → Plan → List ℕ → Workdays → View → Type 0
+ShowsDaysOf style p starts c view =
+    (days : Table) × AreDaysOf style p starts c days × (view ≡ table days)
 
 -- the working days of a plan's schedule
-pub record IsDaysViewFrom (from : Origin) (dates : Dates) (p : Plan) (view : View) : Type 0 where
+pub record IsDaysViewFrom (from : Origin) (dates : Dates) (style : Option (Bor MomentStyle)) (p : Plan)
+    (view : View) : Type 0 where
   pub starts : List ℕ
   pub schedule : IsScheduleFrom from p starts
   pub calendar : Workdays
   pub dated : IsDated dates calendar
-  pub days : Table
-  pub are : AreDaysOf p starts calendar days
-  pub shown : view ≡ table days
+  pub shown : ShowsDaysOf style p starts calendar view
 
 -- the first verdict on the starts in a text
 pub record IsVerdictView (listed : List ℕ) (p : Plan) (view : View) : Type 0 where
@@ -205,12 +214,15 @@ abbrev pub IsViewOf : Task → List ℕ → View → Type 0
 IsViewOf task.Dates = IsDateView
 IsViewOf (task.Schedule rule subject) = IsOfSubject subject (IsTableViewBy rule.now)
 IsViewOf (task.Chart from subject) = IsOfSubject subject (IsChartViewFrom from)
-IsViewOf (task.Days from dates subject) = IsOfSubject subject (IsDaysViewFrom from dates)
+IsViewOf (task.Days from dates style subject) =
+    IsOfSubject subject (IsDaysViewFrom from dates style)
 IsViewOf task.Names = IsNameView
 IsViewOf (task.Check starts subject) = IsOfSubject subject (IsVerdictView starts.now)
 IsViewOf (task.Slack starts given) = λ file. IsOfProject given.now (IsSlackViewOf (ids_in file) starts.now) file
 IsViewOf (task.Compare starts subject) =
     IsOfSubject subject (IsComparedView starts.a.now starts.b.now)
+IsViewOf (task.CompareLists old starts subject) =
+    IsOfSubject subject (IsListsView subject old.now starts.a.now starts.b.now)
 IsViewOf (task.Best budget subject) = IsOfSubject subject (IsBestViewOf budget.now)
 IsViewOf (task.Prove nodes instance) = IsProofViewOf nodes.now instance.now
 IsViewOf (task.Solve conflicts subject) = IsOfSubject subject IsSolvedViewBy

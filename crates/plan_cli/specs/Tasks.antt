@@ -15,6 +15,7 @@ use Rattle.plan_cli.specs.ChartRun.{IsChartFrom}
 use Rattle.plan_cli.specs.DaysRun.{IsDaysFrom, TellsNoDaysFrom}
 use Rattle.plan_cli.specs.SlackRun.{IsSlackOf, TellsNoSlack}
 use Rattle.plan_cli.specs.CompareRun.{IsCompared, TellsNotCompared}
+use Rattle.plan_cli.specs.ListComparisons.{AreListsCompared, TellsNoLists}
 use Rattle.plan_formats.specs.declared.format.Format.{Format}
 use Rattle.plan_cli.specs.NamesRun.{AreNamesOf, TellsNotPlain}
 use Rattle.plan_cli.specs.CheckRun.{TellsVerdictOn, TellsBadStarts}
@@ -48,12 +49,14 @@ abbrev pub IsTextOf : Task → List ℕ → List ℕ → Type 0
 IsTextOf task.Dates = IsDateTableOf
 IsTextOf (task.Schedule rule subject) = IsOfSubject subject (IsTableBy rule.now)
 IsTextOf (task.Chart from subject) = IsOfSubject subject (IsChartFrom from)
-IsTextOf (task.Days from dates subject) = IsOfSubject subject (IsDaysFrom from dates)
+IsTextOf (task.Days from dates style subject) = IsOfSubject subject (IsDaysFrom from dates style)
 IsTextOf task.Names = AreNamesOf
 IsTextOf (task.Check starts subject) = IsOfSubject subject (TellsVerdictOn starts.now)
 IsTextOf (task.Slack starts given) = λ file. IsOfProject given.now (IsSlackOf (ids_in file) starts.now) file
 IsTextOf (task.Compare starts subject) =
     IsOfSubject subject (IsCompared starts.a.now starts.b.now)
+IsTextOf (task.CompareLists old starts subject) =
+    IsOfSubject subject (AreListsCompared subject old.now starts.a.now starts.b.now)
 IsTextOf (task.Best budget subject) = IsOfSubject subject (IsBestOf budget.now)
 IsTextOf (task.Prove nodes instance) = IsProofTableOf nodes.now instance.now
 IsTextOf (task.Solve conflicts subject) = IsOfSubject subject IsSolvedBy
@@ -65,12 +68,15 @@ abbrev pub IsLineOf : Task → List ℕ → List ℕ → Type 0
 IsLineOf task.Dates = TellsFirstFailing
 IsLineOf (task.Schedule rule subject) = RefusesSubject subject (TellsNoRuleOf rule.now)
 IsLineOf (task.Chart from subject) = RefusesSubject subject (TellsNotMade from)
-IsLineOf (task.Days from dates subject) = RefusesSubject subject (TellsNoDaysFrom from dates)
+IsLineOf (task.Days from dates style subject) =
+    RefusesSubject subject (TellsNoDaysFrom from dates style)
 IsLineOf task.Names = TellsNotPlain
 IsLineOf (task.Check starts subject) = RefusesSubject subject (TellsBadStarts starts.now)
 IsLineOf (task.Slack starts given) = λ file. RefusesFile given.now (TellsNoSlack (ids_in file) starts.now) file
 IsLineOf (task.Compare starts subject) =
     RefusesSubject subject (TellsNotCompared starts.a.now starts.b.now)
+IsLineOf (task.CompareLists old starts subject) =
+    RefusesSubject subject (TellsNoLists subject old.now starts.a.now starts.b.now)
 IsLineOf (task.Best budget subject) = RefusesSubject subject (TellsNoBestOf budget.now)
 IsLineOf (task.Prove nodes instance) = TellsWhyNoProof nodes.now instance.now
 IsLineOf (task.Solve conflicts subject) = RefusesSubject subject TellsNoSolution
@@ -83,7 +89,7 @@ abbrev pub names_for : Task → List ℕ → List Name
 names_for task.Dates file = names_behind activity_key file
 names_for (task.Schedule rule subject) file = names_of_rows subject file
 names_for (task.Chart from subject) file = names_of_lines subject file
-names_for (task.Days from dates subject) file = names_of_rows subject file
+names_for (task.Days from dates style subject) file = names_of_rows subject file
 names_for (task.Slack starts given) file = names_behind activity_key file
 names_for (task.Compare starts subject) file = names_of_rows subject file
 names_for (task.Best budget subject) file = names_of_rows subject file
@@ -96,7 +102,7 @@ abbrev pub ids_for : Task → List ℕ → List Name
 ids_for task.Dates file = ids_in file
 ids_for (task.Schedule rule subject) file = ids_of_rows subject file
 ids_for (task.Chart from subject) file = ids_of_rows subject file
-ids_for (task.Days from dates subject) file = ids_of_rows subject file
+ids_for (task.Days from dates style subject) file = ids_of_rows subject file
 ids_for (task.Slack starts given) file = ids_in file
 ids_for (task.Compare starts subject) file = ids_of_rows subject file
 ids_for (task.Best budget subject) file = ids_of_rows subject file
@@ -107,7 +113,7 @@ ids_for _ file = []
 -- dates ignore resources, and a chart doesn't show them
 abbrev pub AreLinksFor : Task → List Name → List ℕ → List Links → Type 0
 AreLinksFor (task.Schedule rule subject) ids = AreSubjectLinks ids subject
-AreLinksFor (task.Days from dates subject) ids = AreSubjectLinks ids subject
+AreLinksFor (task.Days from dates style subject) ids = AreSubjectLinks ids subject
 AreLinksFor (task.Slack starts given) ids = AreProjectLinks ids given.now
 AreLinksFor (task.Compare starts subject) ids = AreSubjectLinks ids subject
 AreLinksFor (task.Best budget subject) ids = AreSubjectLinks ids subject
@@ -136,17 +142,18 @@ ShowsTask (rows.In format) t = IsFormattedText format t
 -- the project or the job shop of a task that reads lists too, if it is such a task
 abbrev pub list_subject : Task → Option Subject
 list_subject (task.Chart from subject) = Some subject
-list_subject (task.Days from dates subject) = Some subject
+list_subject (task.Days from dates style subject) = Some subject
 list_subject (task.Check starts subject) = Some subject
 list_subject (task.Slack starts given) = Some (subjects.Project given)
 list_subject (task.Compare starts subject) = Some subject
+list_subject (task.CompareLists old starts subject) = Some subject
 list_subject (task.Solve conflicts subject) = Some subject
 list_subject _ = None
 
 -- the task on another project or job shop; slacks are those of a project
 abbrev pub with_subject : Task → Subject → Task
 with_subject (task.Chart from _) s = task.Chart from s
-with_subject (task.Days from dates _) s = task.Days from dates s
+with_subject (task.Days from dates style _) s = task.Days from dates style s
 with_subject (task.Check starts _) s = task.Check starts s
 with_subject (task.Compare starts _) s = task.Compare starts s
 with_subject (task.Solve conflicts _) s = task.Solve conflicts s

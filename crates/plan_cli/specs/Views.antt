@@ -15,18 +15,22 @@ use Rattle.plan_views.specs.Charts.{Chart, chart_of, id_text_of, named_text_of}
 use Rattle.plan_views.specs.LineLists.{name_view_of, verdict_view_of}
 use Rattle.plan_views.specs.LinkColumns.{Links, with_links}
 use Rattle.plan_errors.specs.declared.fault.CliFault.{CliFault}
+use Rattle.plan_cli.specs.OwnTables.{own_rows_of, with_rows}
 use Rattle.plan_cli.specs.declared.views.View as declared
 use Rattle.plan_cli.specs.declared.views.View.TheVariants as kept
 
--- a table, a chart, or a text that has no other format
+-- a table, a table whose rows have no numbers, a chart, or a text that has no other format
 pub data View : Type 0 where
   table : Table → View
+  listing : Table → View
   chart : Chart → View
   text : List ℕ → View
 
 -- the value of a task, as the program represents it
 abbrev pub view_of : declared.View → View
 view_of (kept.Table t) = table (table_of t)
+view_of (kept.Own t rows) = table (with_rows (table_of t) (own_rows_of rows.items))
+view_of (kept.Listed t rows) = listing (with_rows (table_of t) (own_rows_of rows.items))
 view_of (kept.Chart c) = chart (chart_of c)
 view_of (kept.Verdict sentence) = table (verdict_view_of (string_bytes sentence))
 view_of (kept.Names names) = table (name_view_of (map (λ name. name.items) names.items))
@@ -39,6 +43,7 @@ IfView result IsValue = IfOk result (λ view. IsValue (view_of view))
 -- the text without names
 abbrev pub plain_text : View → List ℕ
 plain_text (table t) = text_of t
+plain_text (listing t) = text_of t
 plain_text (chart c) = named_text_of [] c
 plain_text (text t) = t
 
@@ -49,6 +54,7 @@ named_table ids names t = with_ids ids (with_names names t)
 -- the text, each row with its name, and activities with their ids
 abbrev pub named_text : List Name → List Name → View → List ℕ
 named_text ids names (table t) = text_of (named_table ids names t)
+named_text ids names (listing t) = text_of t
 named_text ids names (chart c) = id_text_of ids names c
 named_text ids names (text t) = t
 
@@ -79,5 +85,6 @@ chart_text format.Json ids names c = json_text_of (id_chart_data ids names c)
 -- predecessors if these are given
 abbrev pub text_in : Format → List Name → List Name → List Links → View → List ℕ
 text_in format ids names links (table t) = format_text format (full_table ids names links t)
+text_in format ids names links (listing t) = format_text format t
 text_in format ids names links (chart c) = chart_text format ids names c
 text_in format ids names links (text t) = t

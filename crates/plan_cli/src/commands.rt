@@ -11,6 +11,7 @@ use crate::calendars::Dates;
 use crate::charts::chart_from;
 use crate::comparisons::{Pair, comparison_of};
 use crate::days::days_from;
+use crate::list_comparisons::list_comparison_of;
 use crate::origins::Origin;
 use crate::solutions::best_of;
 use crate::solver::solution_view;
@@ -20,6 +21,7 @@ use crate::views::View;
 use crate::watchers::{Log, ProofWatcher, SolveWatcher};
 use plan_documents::{Plan, Subject, plan_of, read_document, with_names};
 use plan_errors::CliFault;
+use plan_views::MomentStyle;
 use std::alloc::Global;
 
 /// A command on a project or a job shop, as the task of the same name.
@@ -27,9 +29,11 @@ use std::alloc::Global;
 pub(crate) enum Command<'a> {
     Schedule(&'a str),
     Chart(Origin<'a>),
-    Days(Origin<'a>, Dates<'a>),
+    Days(Origin<'a>, Dates<'a>, Option<&'a MomentStyle>),
     Check(&'a [u8]),
     Compare(Pair<'a>),
+    /// The subject and the bytes of the old file, and the starts.
+    CompareLists(Subject<'a>, &'a [u8], Pair<'a>),
     Best(&'a str),
     Solve(u64),
 }
@@ -48,9 +52,14 @@ fn plan_view<V: ProofWatcher + SolveWatcher, L: Log>(
     match command {
         Command::Schedule(rule) => schedule_of(alloc, rule, plan),
         Command::Chart(origin) => chart_from(alloc, origin, plan, watcher, log),
-        Command::Days(origin, dates) => { days_from(alloc, origin, dates, plan, watcher, log) }
+        Command::Days(origin, dates, style) => {
+            days_from(alloc, origin, dates, style, plan, watcher, log)
+        }
         Command::Check(starts) => verdict_on(alloc, starts, plan),
         Command::Compare(starts) => comparison_of(alloc, starts, plan),
+        Command::CompareLists(subject, old, starts) => {
+            list_comparison_of(alloc, subject, old, starts, plan)
+        }
         Command::Best(budget) => best_of(alloc, budget, plan),
         Command::Solve(conflicts) => solution_view(alloc, conflicts, plan, watcher, log),
     }

@@ -26,14 +26,16 @@ pub struct Pair<'a> {
     pub b: &'a [u8],
 }
 
-// Returns the argument with the starts of a schedule.
+// Returns the argument with the starts of a schedule, or no argument for another name.
 fn subject_of(name: &str) -> About
     ensures { result ≡ spec.subject_of name.now }
 {
     if name == "A" {
         About::StartsA
-    } else {
+    } else if name == "B" {
         About::StartsB
+    } else {
+        About::Other
     }
 }
 
@@ -51,8 +53,8 @@ fn named_refusal(mut refusal: Refusal, name: &'static str) -> CliFault
     CliFault::Refused(refusal)
 }
 
-// Returns the error of a text of starts with the name of its schedule.
-fn named_fault(fault: CliFault, name: &'static str) -> CliFault
+/// Returns an error with a name behind its line: that of the schedule of starts, or other words.
+pub(crate) fn named_fault(fault: CliFault, name: &'static str) -> CliFault
     ensures { spec.IsNamedFault name.now fault result }
 {
     match fault {
@@ -63,8 +65,8 @@ fn named_fault(fault: CliFault, name: &'static str) -> CliFault
     }
 }
 
-// Reads the starts of the schedule with this name.
-fn named_starts(
+/// Reads the starts of the schedule with this name.
+pub(crate) fn named_starts(
     alloc: Global,
     plan: &Plan<'_>,
     text: &[u8],

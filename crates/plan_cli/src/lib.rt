@@ -12,10 +12,13 @@ mod explanations;
 mod files;
 mod inputs;
 mod links;
+mod list_comparisons;
+mod moments;
 mod named_texts;
 mod names;
 mod order_tables;
 mod origins;
+mod own_tables;
 mod plan_refs;
 mod prepared_tasks;
 mod proof;
@@ -49,6 +52,7 @@ pub use plan_documents::{
     read_document, read_instance, read_project, readable, replaced, unit_of, with_names,
 };
 pub use plan_errors::{CliFault, Code, Context, code_hint, error_json, explain_run, hint, masked};
+pub use plan_views::MomentStyle;
 pub use runs::{best_project_run, best_run, cpm_run, run_task, schedule_run, shop_run};
 pub use schedules::{Scheduled, schedule_from};
 pub use tasks::{Rows, Task};

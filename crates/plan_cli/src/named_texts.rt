@@ -20,6 +20,8 @@ pub enum Role {
     StartsB,
     /// The holidays of a calendar.
     Holidays,
+    /// The old file of a comparison of two lists.
+    Old,
 }
 
 impl Role {
@@ -32,6 +34,7 @@ impl Role {
             Role::StartsA => About::StartsA,
             Role::StartsB => About::StartsB,
             Role::Holidays => About::Holidays,
+            Role::Old => About::Other,
         }
     }
 }
@@ -58,9 +61,15 @@ fn with_starts<'a>(task: Task<'a>, text: &'a [u8]) -> Task<'a>
             capacities,
         },
         Task::Chart { subject, .. } => Task::Chart { origin, subject },
-        Task::Days { dates, subject, .. } => Task::Days {
+        Task::Days {
+            dates,
+            style,
+            subject,
+            ..
+        } => Task::Days {
             origin,
             dates,
+            style,
             subject,
         },
         _ => task,
@@ -90,6 +99,15 @@ fn with_starts_a<'a>(task: Task<'a>, text: &'a [u8]) -> Task<'a>
             starts: pair_with_a(starts, text),
             subject,
         },
+        Task::CompareLists {
+            old,
+            starts,
+            subject,
+        } => Task::CompareLists {
+            old,
+            starts: pair_with_a(starts, text),
+            subject,
+        },
         _ => task,
     }
 }
@@ -100,6 +118,15 @@ fn with_starts_b<'a>(task: Task<'a>, text: &'a [u8]) -> Task<'a>
 {
     match task {
         Task::Compare { starts, subject } => Task::Compare {
+            starts: pair_with_b(starts, text),
+            subject,
+        },
+        Task::CompareLists {
+            old,
+            starts,
+            subject,
+        } => Task::CompareLists {
+            old,
             starts: pair_with_b(starts, text),
             subject,
         },
@@ -126,10 +153,30 @@ fn with_holidays<'a>(task: Task<'a>, holidays: &'a [u8]) -> Task<'a>
         Task::Days {
             origin,
             dates,
+            style,
             subject,
         } => Task::Days {
             origin,
             dates: dates_with(dates, holidays),
+            style,
+            subject,
+        },
+        _ => task,
+    }
+}
+
+// Returns the comparison of lists with this old file. Another task stays as it is.
+fn with_old<'a>(task: Task<'a>, text: &'a [u8]) -> Task<'a>
+    ensures { result ≡ spec.with_old task.entry text.entry }
+{
+    match task {
+        Task::CompareLists {
+            starts,
+            subject,
+            ..
+        } => Task::CompareLists {
+            old: text,
+            starts,
             subject,
         },
         _ => task,
@@ -145,5 +192,6 @@ pub(crate) fn with_text<'a>(task: Task<'a>, role: Role, text: &'a [u8]) -> Task<
         Role::StartsA => with_starts_a(task, text),
         Role::StartsB => with_starts_b(task, text),
         Role::Holidays => with_holidays(task, text),
+        Role::Old => with_old(task, text),
     }
 }

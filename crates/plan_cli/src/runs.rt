@@ -30,6 +30,7 @@ fn list_capacities<'a>(task: Task<'a>) -> Option<&'a [Override<'a>]> {
         | Task::Check { .. }
         | Task::Slack { .. }
         | Task::Compare { .. }
+        | Task::CompareLists { .. }
         | Task::Solve { .. } => Some(&[]),
         _ => None,
     }

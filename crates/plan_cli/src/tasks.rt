@@ -29,7 +29,7 @@ use plan_documents::{
 use plan_errors::CliFault;
 use plan_formats::Format;
 use plan_table::{ListKind, NameLine, Override, activity_ids, activity_names, order_names};
-use plan_views::ActivityLinks;
+use plan_views::{ActivityLinks, MomentStyle};
 use std::alloc::{AllocError, Global};
 
 /// A text to print for a project file or for an instance in a job shop file.
@@ -58,11 +58,14 @@ pub enum Task<'a> {
         subject: Subject<'a>,
     },
     /// The working days of a schedule, those of the first and of the last time unit of each
-    /// activity or step. A time unit is a working day. Errors of the calendar: `G1` (the date),
-    /// `G2` (the marks), `G5` and `G6` (the holidays), `G3` (a day after 9999-12-31).
+    /// activity or step. A time unit is a working day, unless the style has hours. Errors of the
+    /// calendar: `G1` (the date), `G2` (the marks), `G5` and `G6` (the holidays), `G3` (a day after
+    /// 9999-12-31).
     Days {
         origin: Origin<'a>,
         dates: Dates<'a>,
+        /// Weekdays and times of day, or none for plain dates.
+        style: Option<&'a MomentStyle>,
         subject: Subject<'a>,
     },
     /// The names of the instances in a job shop file, one on each line, in the order of the file. A
@@ -92,6 +95,16 @@ pub enum Task<'a> {
     /// [`Task::Check`]. Errors: those of [`Task::Check`] for A, then for B; the line ends with
     /// `of the starts A` or `of the starts B`.
     Compare {
+        starts: Pair<'a>,
+        subject: Subject<'a>,
+    },
+    /// The comparison of two schedules of two lists or projects by the ids of their activities: A
+    /// is one of the old file, whose bytes are given, and B one of the file of the task. A line for
+    /// each activity has its id, both starts and the shift. Errors: `T3` if the file has no ids,
+    /// those of the old file, whose line ends with `of the old list`, and then those of the starts
+    /// as for [`Task::Compare`].
+    CompareLists {
+        old: &'a [u8],
         starts: Pair<'a>,
         subject: Subject<'a>,
     },
@@ -174,9 +187,10 @@ fn view_of<V: ProofWatcher + SolveWatcher, L: Log>(
         Task::Days {
             origin,
             dates,
+            style,
             subject,
         } => {
-            let command = Command::Days(origin, dates);
+            let command = Command::Days(origin, dates, style);
             subject_view(alloc, command, subject, file, watcher, log)
         }
         Task::Check { starts, subject } => {
@@ -185,6 +199,14 @@ fn view_of<V: ProofWatcher + SolveWatcher, L: Log>(
         }
         Task::Compare { starts, subject } => {
             let command = Command::Compare(starts);
+            subject_view(alloc, command, subject, file, watcher, log)
+        }
+        Task::CompareLists {
+            old,
+            starts,
+            subject,
+        } => {
+            let command = Command::CompareLists(subject, old, starts);
             subject_view(alloc, command, subject, file, watcher, log)
         }
         Task::Best { budget, subject } => {
@@ -341,6 +363,7 @@ fn list_subject(task: Task<'_>) -> Option<Subject<'_>>
         | Task::Days { subject, .. }
         | Task::Check { subject, .. }
         | Task::Compare { subject, .. }
+        | Task::CompareLists { subject, .. }
         | Task::Solve { subject, .. } => Some(subject),
         Task::Slack { capacities, .. } => Some(Subject::Project(capacities)),
         _ => None,
@@ -353,9 +376,15 @@ fn with_subject<'a>(task: Task<'a>, subject: Subject<'a>) -> Task<'a>
 {
     match task {
         Task::Chart { origin, .. } => Task::Chart { origin, subject },
-        Task::Days { origin, dates, .. } => Task::Days {
+        Task::Days {
             origin,
             dates,
+            style,
+            ..
+        } => Task::Days {
+            origin,
+            dates,
+            style,
             subject,
         },
         Task::Check { starts, .. } => Task::Check { starts, subject },

@@ -9,6 +9,7 @@ ghost use Rattle.plan_views.specs.Charts.{chart_of};
 ghost use Rattle.plan_views.specs.LinkColumns.{links_of};
 ghost use Rattle.plan_cli.specs.Views as spec;
 
+use crate::own_tables::{OwnCell, own_rows, whole_table, with_rows};
 use plan_formats::{Format, Table, csv_text, format_table, table_text, with_ids, with_names};
 use plan_table::NameLine;
 use plan_views::{
@@ -21,6 +22,10 @@ use std::alloc::{AllocError, Global};
 #[derive(Drop)]
 pub(crate) enum View {
     Table(Table<'static>),
+    /// A table without its rows, and its rows, which own their texts.
+    Own(Table<'static>, Vec<Vec<OwnCell>>),
+    /// The same if the rows have no numbers, and so no names.
+    Listed(Table<'static>, Vec<Vec<OwnCell>>),
     Chart(Chart),
     /// The sentence of a verdict.
     Verdict(String),
@@ -126,12 +131,36 @@ fn chart_in(
     }
 }
 
+/// Returns the value of a table, which owns its texts.
+pub(crate) fn own_view(alloc: Global, table: Table<'_>) -> Result<View, AllocError>
+    ensures { IfOk result (λ view. spec.view_of view ≡ spec.table (table_of table.entry)) }
+{
+    let rows = own_rows(alloc, &table.rows)?;
+    Ok(View::Own(with_rows(table, Vec::new(alloc)), rows))
+}
+
+/// Returns the value of a table whose rows have no numbers. It owns its texts.
+pub(crate) fn listed_view(alloc: Global, table: Table<'_>) -> Result<View, AllocError>
+    ensures { IfOk result (λ view. spec.view_of view ≡ spec.listing (table_of table.entry)) }
+{
+    let rows = own_rows(alloc, &table.rows)?;
+    Ok(View::Listed(with_rows(table, Vec::new(alloc)), rows))
+}
+
 /// Returns the text of a value, without names.
 pub(crate) fn plain_text(alloc: Global, view: View) -> Result<Vec<u8>, AllocError>
     ensures { IfOk result (λ text. text.items ≡ spec.plain_text (spec.view_of view)) }
 {
     match view {
         View::Table(table) => table_text(alloc, &table),
+        View::Own(table, rows) => {
+            let table = whole_table(alloc, table, &rows)?;
+            table_text(alloc, &table)
+        }
+        View::Listed(table, rows) => {
+            let table = whole_table(alloc, table, &rows)?;
+            table_text(alloc, &table)
+        }
         View::Chart(chart) => chart_text(alloc, &chart, &[]),
         View::Verdict(sentence) => {
             let table = verdict_view(alloc, &sentence)?;
@@ -158,6 +187,14 @@ pub(crate) fn named_text(
 {
     match view {
         View::Table(table) => named_table(alloc, table, ids, names),
+        View::Own(table, rows) => {
+            let table = whole_table(alloc, table, &rows)?;
+            named_table(alloc, table, ids, names)
+        }
+        View::Listed(table, rows) => {
+            let table = whole_table(alloc, table, &rows)?;
+            table_text(alloc, &table)
+        }
         View::Chart(chart) => chart_text_with_ids(alloc, &chart, ids, names),
         View::Verdict(sentence) => named_table(alloc, verdict_view(alloc, &sentence)?, ids, names),
         View::Names(lines) => named_table(alloc, name_view(alloc, &lines)?, ids, names),
@@ -181,6 +218,14 @@ pub(crate) fn text_in(
 {
     match view {
         View::Table(table) => table_in(alloc, format, table, ids, names, links),
+        View::Own(table, rows) => {
+            let table = whole_table(alloc, table, &rows)?;
+            table_in(alloc, format, table, ids, names, links)
+        }
+        View::Listed(table, rows) => {
+            let table = whole_table(alloc, table, &rows)?;
+            format_table(alloc, format, &table)
+        }
         View::Chart(chart) => chart_in(alloc, format, &chart, ids, names),
         View::Verdict(sentence) => {
             let table = verdict_view(alloc, &sentence)?;

@@ -84,6 +84,8 @@ enum Form {
     NameUnlessStarts,
     /// An option with the name of a file of starts.
     Starts,
+    /// An option with the name of an old list or project file, which a job shop doesn't have.
+    Old,
     /// An option without a value that asks for a search, in place of a rule.
     Solve,
     /// The same for a report, whose rule is an option.
@@ -276,6 +278,13 @@ const STARTS_B: Argument = Argument {
     name: "STARTS_B",
     form: Form::Name,
     help: "the start times of schedule B",
+};
+
+const OLD: Argument = Argument {
+    name: "old",
+    form: Form::Old,
+    help: "compare by ids: schedule A is one of this old list or project file, B one of FILE; \
+        or - for standard input",
 };
 
 const STARTS: Argument = Argument {
@@ -525,12 +534,14 @@ const PROJECT_COMMANDS: [Entry; 6] = [
         examples: "Examples:\n  \
             plan compare examples/six.sm examples/starts.txt examples/late.txt\n  \
             plan schedule mts examples/six.sm | \
-            plan compare examples/six.sm examples/starts.txt -",
+            plan compare examples/six.sm examples/starts.txt -\n  \
+            plan compare --old monday.csv friday.csv monday.json friday.json",
         arguments: &[
             FILE_OR_LIST,
             STARTS_A,
             STARTS_B,
             INSTANCE_IF_SHOP,
+            OLD,
             CAPACITY_IF_PROJECT,
             MAP,
             IGNORE,
@@ -994,6 +1005,10 @@ fn arg_of<'a>(alloc: Global, argument: &Argument) -> Result<Arg<'a>, AllocError>
         Form::Starts => arg
             .long(argument.name)
             .value_name("STARTS")
+            .conflicts_with("INSTANCE")?,
+        Form::Old => arg
+            .long(argument.name)
+            .value_name("OLD")
             .conflicts_with("INSTANCE")?,
         Form::Solve => arg
             .long(argument.name)

@@ -75,6 +75,7 @@ fn with_text<'a>(context: Context<'a>, text: NamedText<'a>) -> Context<'a> {
             holidays: name,
             ..context
         },
+        Role::Old => context,
     }
 }
 

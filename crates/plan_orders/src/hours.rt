@@ -1,7 +1,7 @@
 //! The hours of a working day that the arguments give.
 
 use clap::ArgMatches;
-use plan_cli::CliFault;
+use plan_cli::{CliFault, MomentStyle, Task};
 use plan_print::{DayStyle, Events, Print, Sheet, hours_of};
 use std::alloc::Global;
 
@@ -60,4 +60,58 @@ pub fn with_hours<'a>(
         },
     };
     Ok(Print { sheet, ..print })
+}
+
+/// The days of a table as the arguments give them.
+#[derive(Clone, Copy)]
+pub struct DayWords<'a> {
+    /// Whether they have weekdays.
+    pub weekdays: bool,
+    pub hours: HourWords<'a>,
+}
+
+impl<'a> DayWords<'a> {
+    /// Dates alone.
+    pub const NONE: DayWords<'static> = DayWords {
+        weekdays: false,
+        hours: HourWords::NONE,
+    };
+}
+
+// Returns the days that the options of a command give.
+pub(crate) fn day_words<'a>(arguments: &'a ArgMatches<'_>) -> DayWords<'a> {
+    DayWords {
+        weekdays: arguments.get_flag("weekdays"),
+        hours: hour_words(arguments),
+    }
+}
+
+/// Returns the style of a table of days, or none for dates alone. The error is `G7 hours`.
+pub fn style_of(alloc: Global, words: DayWords<'_>) -> Result<Option<MomentStyle>, CliFault> {
+    let hours = hours_of(alloc, words.hours.per_day, words.hours.opens)?;
+    if !words.weekdays && hours.is_none() {
+        return Ok(None);
+    }
+    Ok(Some(MomentStyle {
+        weekdays: words.weekdays,
+        hours,
+    }))
+}
+
+/// Returns a task whose table of days is shown in a style. Another task stays as it is.
+pub fn with_style<'a>(task: Task<'a>, style: Option<&'a MomentStyle>) -> Task<'a> {
+    match task {
+        Task::Days {
+            origin,
+            dates,
+            subject,
+            ..
+        } => Task::Days {
+            origin,
+            dates,
+            style,
+            subject,
+        },
+        _ => task,
+    }
 }

@@ -11,7 +11,7 @@ mod orders;
 mod outputs;
 
 pub use arguments::{command, help, version};
-pub use hours::{HourWords, with_hours};
+pub use hours::{DayWords, HourWords, style_of, with_hours, with_style};
 pub use list_options::{BadOption, ListOptions, list_options_of};
 pub use orders::{
     FileOrder, Lists, OfficeOrder, Order, capacities_of, misplaced_option, order_of, overrides_of,

@@ -1,6 +1,6 @@
 //! The orders that the arguments of the command line spell.
 
-use crate::hours::{HourWords, hour_words};
+use crate::hours::{DayWords, HourWords, day_words, hour_words};
 use clap::ArgMatches;
 use plan_cli::{
     Capacity, Dates, NamedText, Options, Origin, Pair, Role, Rows, Subject, Task, Template,
@@ -35,11 +35,13 @@ pub enum FileOrder<'a> {
         seconds: Option<u32>,
         log: Option<&'a str>,
     },
-    /// A task on the file with this name, and on texts in other files.
+    /// A task on the file with this name, and on texts in other files. The words give the style of
+    /// its days.
     Texts {
         task: Task<'a>,
         file: &'a str,
         texts: &'a [NamedText<'a>],
+        days: DayWords<'a>,
         /// The time limit of a search for the schedule, in seconds.
         seconds: Option<u32>,
     },
@@ -70,7 +72,8 @@ pub enum FileOrder<'a> {
 }
 
 // The roles of texts, and their arguments as messages name them.
-const ROLE_NAMES: [(Role, &str); 4] = [
+const ROLE_NAMES: [(Role, &str); 5] = [
+    (Role::Old, "OLD"),
     (Role::Starts, "STARTS"),
     (Role::StartsA, "STARTS_A"),
     (Role::StartsB, "STARTS_B"),
@@ -460,7 +463,11 @@ pub fn overrides_of<'a>(
 fn text_arguments(command: &str) -> &'static [(&'static str, Role)] {
     match command {
         "check" | "slack" => &[("STARTS", Role::Starts)],
-        "compare" => &[("STARTS_A", Role::StartsA), ("STARTS_B", Role::StartsB)],
+        "compare" => &[
+            ("old", Role::Old),
+            ("STARTS_A", Role::StartsA),
+            ("STARTS_B", Role::StartsB),
+        ],
         "chart" => &[("starts", Role::Starts)],
         "days" => &[("holidays", Role::Holidays), ("starts", Role::Starts)],
         _ => &[],
@@ -516,6 +523,7 @@ fn texts_order<'a>(task: Task<'a>, file: &'a str, texts: &'a [NamedText<'a>]) ->
         task,
         file,
         texts,
+        days: DayWords::NONE,
         seconds: None,
     }
 }
@@ -584,11 +592,13 @@ fn searched_order<'a>(
     task: Task<'a>,
     file: &'a str,
     texts: &'a [NamedText<'a>],
+    days: DayWords<'a>,
 ) -> FileOrder<'a> {
     FileOrder::Texts {
         task,
         file,
         texts,
+        days,
         seconds: limit_of(arguments),
     }
 }
@@ -600,7 +610,8 @@ fn chart_order<'a>(arguments: &'a ArgMatches<'_>, lists: Lists<'a>) -> Option<Fi
         origin: origin_of(words.origin),
         subject: subject_of(words.instance, lists.capacities),
     };
-    Some(searched_order(arguments, task, words.file, lists.texts))
+    let days = DayWords::NONE;
+    Some(searched_order(arguments, task, words.file, lists.texts, days))
 }
 
 // Returns dates without holidays.
@@ -621,16 +632,17 @@ fn dates_behind_rule<'a>(arguments: &'a ArgMatches<'_>) -> Option<Dates<'a>> {
     Some(dates_of(arguments.get_str(start)?, arguments.get_str(marks)?))
 }
 
-// Returns the order of `days` for a table. The table shows dates alone: `Task::Days` of plan_cli has
-// no style yet. With one, `day_style` and `hour_words` give its parts, as for a calendar file.
+// Returns the order of `days` for a table. Its style follows from the words.
 fn days_order<'a>(arguments: &'a ArgMatches<'_>, lists: Lists<'a>) -> Option<FileOrder<'a>> {
     let words = schedule_words(arguments, "MARKS")?;
     let task = Task::Days {
         origin: origin_of(words.origin),
         dates: dates_behind_rule(arguments)?,
+        style: None,
         subject: subject_of(words.instance, lists.capacities),
     };
-    Some(searched_order(arguments, task, words.file, lists.texts))
+    let days = day_words(arguments);
+    Some(searched_order(arguments, task, words.file, lists.texts, days))
 }
 
 // Returns the order of `check`, which has no capacities.
@@ -667,12 +679,24 @@ fn slack_order<'a>(arguments: &'a ArgMatches<'_>, lists: Lists<'a>) -> Option<Fi
     Some(texts_order(task, arguments.get_str("FILE")?, lists.texts))
 }
 
+// Returns the task of `compare`: by ids if an old list is given.
+fn compare_task<'a>(is_by_ids: bool, subject: Subject<'a>) -> Task<'a> {
+    let starts = Pair { a: &[], b: &[] };
+    if is_by_ids {
+        Task::CompareLists {
+            old: &[],
+            starts,
+            subject,
+        }
+    } else {
+        Task::Compare { starts, subject }
+    }
+}
+
 // Returns the order of `compare`.
 fn compare_order<'a>(arguments: &'a ArgMatches<'_>, lists: Lists<'a>) -> Option<FileOrder<'a>> {
-    let task = Task::Compare {
-        starts: Pair { a: &[], b: &[] },
-        subject: subject_of(arguments.get_str("INSTANCE"), lists.capacities),
-    };
+    let subject = subject_of(arguments.get_str("INSTANCE"), lists.capacities);
+    let task = compare_task(arguments.get_str("old").is_some(), subject);
     Some(texts_order(task, arguments.get_str("FILE")?, lists.texts))
 }
 

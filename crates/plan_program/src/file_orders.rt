@@ -13,7 +13,7 @@ use plan_cli::{
 };
 use plan_errors::{About, write_text};
 use plan_io::{Sink, StdSink};
-use plan_orders::{FileOrder, with_hours};
+use plan_orders::{FileOrder, style_of, with_hours, with_style};
 use plan_print::print_on_files;
 use std::alloc::Global;
 use std::io;
@@ -106,8 +106,11 @@ fn do_file_order(
             task,
             file,
             texts,
+            days,
             seconds,
         } => {
+            let style = style_of(rt.alloc(), days)?;
+            let task = with_style(task, style.as_ref());
             let mut line = ProgressLine::within(rt, seconds);
             run_on_files(rt, options, task, rows, &mut line, texts, file, &mut writer)?;
             line.print_notes();

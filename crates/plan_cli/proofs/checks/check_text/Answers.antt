@@ -1,7 +1,4 @@
-use Rattle.std.proofs.Common.{List, ℕ}
 use Rattle.std.proofs.lemmas.Result.{err_from_is_err_and}
-use Rattle.plan_sgs.specs.declared.verdict.Verdict.{Verdict}
-use Rattle.plan_table.specs.declared.kinds.ListKind.{ListKind}
 use Rattle.plan_cli.specs.CheckRun.{IsVerdictOn}
 use Rattle.plan_documents.specs.Documents.{IsOfSubject}
 use Rattle.plan_documents.specs.Lists.{text_of}

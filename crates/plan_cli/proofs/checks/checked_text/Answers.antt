@@ -1,7 +1,6 @@
 use Rattle.std.proofs.Common.{List, ℕ, sym, subst}
 use Rattle.std.proofs.lemmas.Result.{err_from_is_err_and}
 use Rattle.plan_cli.specs.CheckRun.{IsVerdictOn, TellsBadStarts}
-use Rattle.plan_documents.specs.Documents.{IsOfSubject}
 use Rattle.plan_cli.specs.Tasks.{ShowsTask}
 use Rattle.plan_cli.specs.TaskViews.{IsVerdictView}
 use Rattle.plan_cli.specs.Views.{view_of}
