@@ -14,7 +14,7 @@ use Rattle.plan_formats.specs.NamedTables.{with_names}
 use Rattle.plan_formats.specs.NameColumns.{name_cell}
 use Rattle.plan_formats.specs.Tables.{Table}
 use Rattle.plan_views.specs.LinkColumns.{field_column}
-use Rattle.plan_cli.specs.Views.{View, table, chart, text}
+use Rattle.plan_cli.specs.Views.{View, table, listing, chart, text}
 use Rattle.plan_documents.specs.declared.documents.Subject.{Subject}
 use Rattle.plan_documents.specs.declared.documents.Subject.TheVariants as subject
 
@@ -64,6 +64,7 @@ order_table s orders machines t = timed_table s machines (with_names orders t)
 -- a value of a task, with such a table in the place of a table; another value stays as it is
 abbrev pub order_view : JobShop → List Name → List Name → View → View
 order_view s orders machines (table t) = table (order_table s orders machines t)
+order_view s orders machines (listing t) = listing t
 order_view s orders machines (chart c) = chart c
 order_view s orders machines (text t) = text t
 

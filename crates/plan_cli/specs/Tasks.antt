@@ -172,7 +172,7 @@ rows_on (Some kind) r = list_rows r
 
 -- the table of a task has a row for each step of a job shop
 abbrev pub has_steps : Task → Bool
-has_steps (task.Days from dates subject) = true
+has_steps (task.Days from dates style subject) = true
 has_steps (task.Compare starts subject) = true
 has_steps (task.Solve conflicts subject) = true
 has_steps _ = false

@@ -12,6 +12,7 @@ ghost use Rattle.plan_cli.specs.Tasks.{rows_text};
 ghost use Rattle.plan_cli.specs.Views.{view_of};
 ghost use Rattle.plan_cli.specs.Views as view;
 
+use crate::own_tables::whole_table;
 use crate::tasks::{Rows, rows_text};
 use crate::views::View;
 use plan_documents::{Subject, open_shop, read_instance};
@@ -202,6 +203,10 @@ pub(crate) fn order_text(
 {
     match view {
         View::Table(table) => order_rows(alloc, rows, shop, orders, machines, table),
+        View::Own(table, own) => {
+            let table = whole_table(alloc, table, &own)?;
+            order_rows(alloc, rows, shop, orders, machines, table)
+        }
         View::Verdict(sentence) => {
             let table = verdict_view(alloc, &sentence)?;
             order_rows(alloc, rows, shop, orders, machines, table)
@@ -210,6 +215,7 @@ pub(crate) fn order_text(
             let table = name_view(alloc, &names)?;
             order_rows(alloc, rows, shop, orders, machines, table)
         }
+        View::Listed(table, own) => rows_text(alloc, rows, View::Listed(table, own)),
         View::Chart(chart) => rows_text(alloc, rows, View::Chart(chart)),
         View::Text(text) => Ok(text),
     }

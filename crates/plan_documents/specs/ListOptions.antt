@@ -1,6 +1,6 @@
 -- Files that are read with the options of a list: the plain list that the options make of a file
 -- is read in its place (docs/definitions.md, "Runs").
-use Rattle.std.specs.Prelude.{◌≡◌, ◌⊎◌, ℕ, Bool, true, false, List, [], Option, Some, None, get_or, map}
+use Rattle.std.specs.Prelude.{◌≡◌, ◌⊎◌, ℕ, Bool, true, false, List, [], Option, Some, None, get_or}
 use Rattle.plan_table.specs.Overrides.{Override}
 use Rattle.plan_spreadsheet.specs.Options.{Options, Rename, options_of}
 use Rattle.plan_spreadsheet.specs.PlainLists.{text_of}
@@ -15,9 +15,12 @@ use Rattle.plan_documents.specs.TableFaultText.{TellsNoHeader}
 
 -- ---- the errors of options
 
+abbrev pub header_in : Rename → List ℕ
+header_in r = r.header
+
 -- the header of the rename with this number, from 0
 abbrev pub renamed_header : List Rename → ℕ → List ℕ
-renamed_header renames k = get_or (map (λ r. r.header) renames) k []
+renamed_header renames k = header_in (get_or renames k (record { header = []; word = [] }))
 
 -- the header of the column to leave out with this number, from 0
 abbrev pub ignored_header : List (List ℕ) → ℕ → List ℕ

@@ -1009,7 +1009,10 @@ fn arg_of<'a>(alloc: Global, argument: &Argument) -> Result<Arg<'a>, AllocError>
         Form::Old => arg
             .long(argument.name)
             .value_name("OLD")
-            .conflicts_with("INSTANCE")?,
+            .conflicts_with("INSTANCE")?
+            .conflicts_with("map")?
+            .conflicts_with("ignore")?
+            .conflicts_with("unit")?,
         Form::Solve => arg
             .long(argument.name)
             .action(ArgAction::SetTrue)

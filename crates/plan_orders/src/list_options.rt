@@ -81,9 +81,9 @@ fn headers_of<'a>(
     Ok(Ok(headers))
 }
 
-// Returns the unit that a text gives, if there is one.
-fn unit_in(text: Option<&str>) -> Result<Option<u64>, BadOption<'_>> {
-    let Some(text) = text else {
+// Returns the unit that the text gives, if there is one.
+fn unit_in<'a>(texts: &[&'a str]) -> Result<Option<u64>, BadOption<'a>> {
+    let [text, ..] = texts else {
         return Ok(None);
     };
     match unit_of(text.as_bytes()) {
@@ -103,28 +103,29 @@ fn listing<'a, 'b>(matches: &'a ArgMatches<'b>) -> Option<&'a ArgMatches<'b>> {
     }
 }
 
+// Returns the values of an option, if a command has it.
+fn texts_in<'a>(arguments: Option<&'a ArgMatches<'_>>, name: &str) -> &'a [&'a str] {
+    match arguments {
+        Some(arguments) => arguments.get_strs(name).unwrap_or(&[]),
+        None => &[],
+    }
+}
+
 /// Returns the options of a list that the arguments give, or the first one without a value.
 pub fn list_options_of<'a>(
     alloc: Global,
     matches: &'a ArgMatches<'_>,
 ) -> Result<Result<ListOptions<'a>, BadOption<'a>>, AllocError> {
-    let (maps, ignores, unit) = match listing(matches) {
-        Some(arguments) => (
-            arguments.get_strs("map").unwrap_or(&[]),
-            arguments.get_strs("ignore").unwrap_or(&[]),
-            arguments.get_str("unit"),
-        ),
-        None => (&[], &[], None),
-    };
-    let renames = match renames_of(alloc, maps)? {
+    let arguments = listing(matches);
+    let renames = match renames_of(alloc, texts_in(arguments, "map"))? {
         Ok(renames) => renames,
         Err(bad) => return Ok(Err(bad)),
     };
-    let ignored = match headers_of(alloc, ignores)? {
+    let ignored = match headers_of(alloc, texts_in(arguments, "ignore"))? {
         Ok(ignored) => ignored,
         Err(bad) => return Ok(Err(bad)),
     };
-    Ok(match unit_in(unit) {
+    Ok(match unit_in(texts_in(arguments, "unit")) {
         Ok(unit) => Ok(ListOptions {
             renames,
             ignored,

@@ -49,6 +49,7 @@ complete -c plan -n 'contains slack (commandline -opc)' -x -l ignore -d 'for a l
 complete -c plan -n 'contains slack (commandline -opc)' -x -l unit -d 'for a list: the days in a unit of time, for example 0.5; durations and lags are in days'
 complete -c plan -n 'contains slack (commandline -opc)' -l names -d 'print the names of activities, orders or machines'
 complete -c plan -n 'contains slack (commandline -opc)' -x -l format -d 'print text, JSON or CSV [default: text] [possible values: text, json, csv]'
+complete -c plan -n 'contains compare (commandline -opc)' -x -l old -d 'compare by ids: schedule A is one of this old list or project file, B one of FILE; or - for standard input'
 complete -c plan -n 'contains compare (commandline -opc)' -x -l capacity -d 'capacity of a resource, for example R2=4 or crew=4, in place of that of the file; a name in the file comes before a number; may be repeated'
 complete -c plan -n 'contains compare (commandline -opc)' -x -l map -d 'for a list: read the column HEADER as WORD, for example Effort=duration; may be repeated'
 complete -c plan -n 'contains compare (commandline -opc)' -x -l ignore -d 'for a list: leave out the column HEADER; may be repeated'
