@@ -37,3 +37,8 @@ pub no_rows : (names : List Name) (steps : List Step) → timed_rows names steps
 unfolding timed_rows
 no_rows names [] = refl
 no_rows names (step ∷ steps) = refl
+
+-- no step is left
+pub no_steps : (names : List Name) (rows : List (List Cell)) → timed_rows names [] rows ≡ []
+unfolding timed_rows
+no_steps names rows = refl

@@ -8,9 +8,9 @@ ghost use Rattle.plan_formats.specs.NameColumns.{name_cell};
 ghost use Rattle.plan_formats.specs.Tables.{cells_of, rows_of, table_of};
 ghost use Rattle.plan_views.specs.LinkColumns.{field_column};
 ghost use Rattle.plan_cli.specs.OrderTables as spec;
-ghost use Rattle.plan_cli.specs.Tasks.{rows_text};
+ghost use Rattle.plan_cli.specs.Tasks as tasks;
 ghost use Rattle.plan_cli.specs.Views.{view_of};
-ghost use Rattle.plan_cli.specs.Views as view;
+ghost use Rattle.plan_cli.specs.Views as views;
 
 use crate::own_tables::whole_table;
 use crate::tasks::{Rows, rows_text};
@@ -95,6 +95,7 @@ fn push_timed<'a>(
 
 // Returns the rows of the steps that take time, each with the name of its machine. Row `k` is that
 // of the step with flat number `k`; rows behind the last step are left out.
+#[tactic(auto, using(crate::proofs::OrderTableLemmas::rows_more, crate::proofs::OrderTableLemmas::no_rows, crate::proofs::OrderTableLemmas::no_steps))]
 fn timed_rows<'a>(
     alloc: Global,
     shop: &Shop,
@@ -165,7 +166,8 @@ fn order_table<'a>(
 
 // Returns the text of a table with these rows.
 fn rows_of_table(alloc: Global, rows: Rows, table: &Table<'_>) -> Result<Vec<u8>, AllocError>
-    ensures { IfOk result (λ text. text.items ≡ rows_text rows (view.table (table_of table.now))) }
+    ensures { IfOk result (λ text. text.items
+        ≡ tasks.rows_text rows (views.table (table_of table.now))) }
 {
     match rows {
         Rows::In(format) => format_table(alloc, format, table),
@@ -182,8 +184,8 @@ fn order_rows<'a>(
     machines: &[NameLine<'a>],
     table: Table<'a>,
 ) -> Result<Vec<u8>, AllocError>
-    ensures { IfOk result (λ text. text.items ≡ rows_text rows (spec.order_view shop.now
-        (map name_of orders.now) (map name_of machines.now) (view.table (table_of table.entry)))) }
+    ensures { IfOk result (λ text. text.items ≡ tasks.rows_text rows (spec.order_view shop.now
+        (map name_of orders.now) (map name_of machines.now) (views.table (table_of table.entry)))) }
 {
     let shown = order_table(alloc, shop, orders, machines, table)?;
     rows_of_table(alloc, rows, &shown)
@@ -198,7 +200,7 @@ pub(crate) fn order_text(
     machines: &[NameLine<'_>],
     view: View,
 ) -> Result<Vec<u8>, AllocError>
-    ensures { IfOk result (λ text. text.items ≡ rows_text rows (spec.order_view shop.now
+    ensures { IfOk result (λ text. text.items ≡ tasks.rows_text rows (spec.order_view shop.now
         (map name_of orders.now) (map name_of machines.now) (view_of view))) }
 {
     match view {
