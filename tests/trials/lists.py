@@ -8,12 +8,17 @@ refused with the same line. Commands that read no lists refuse them as before. `
     tests/trials/lists.py CASES SEED    so many, drawn from this seed
 
 A list is drawn with names, quotes, blanks and all three delimiters; one in four is damaged at some
-byte, and is then often read as Windows-1252. A list means the same in each encoding. Notes on a list
+byte, and is then often read as Windows-1252. A list means the same in each encoding. For a list of orders the
+tables lack the steps of time 0, which the trial takes from the job shop file, and such a table is read
+as all starts. Notes on a list
 follow the output of each command. The program is the one that ./plan runs, or the one that
 PLAN_PROGRAM names.
 """
 
 import collections
+import csv
+import io
+import json
 import os
 import re
 import sys
@@ -151,16 +156,107 @@ def without_idle_steps(page):
     return b"".join(line for line in page.splitlines(keepends=True) if not (line.startswith(b"<tr><th scope=\"row\"") and is_idle(line)))
 
 
-def compare_command(what, folder, command, instances, options, made_folder, notes):
+class Steps:
+    """The steps of the job shop file that is made of a list of orders: by the numbers of the job and
+    the step, the time and the name of the machine."""
+
+    def __init__(self, made):
+        lines = [line for line in made.decode().split("\n") if line]
+        machines = dict(line.split(" ", 3)[2:] for line in lines if line.startswith("+ machine "))
+        at = lines.index("plan import")
+        jobs = [[int(word) for word in line.split()] for line in lines[at + 2:]]
+        self.times, self.machines = {}, {}
+        for job, cells in enumerate(jobs, 1):
+            for step, (machine, time) in enumerate(zip(cells[::2], cells[1::2]), 1):
+                self.times[job, step] = time
+                self.machines[job, step] = machines[str(machine)]
+
+    def in_text(self, text):
+        """A table as text, without the rows of steps that take no time."""
+        def is_idle(line):
+            words = line.split()[:2]
+            return len(words) == 2 and all(map(bytes.isdigit, words)) and not self.times[tuple(map(int, words))]
+
+        return b"".join(line for line in text.splitlines(keepends=True) if not is_idle(line))
+
+    def in_csv(self, text):
+        """The records of a table as CSV, with the machines."""
+        head, *rows = csv.reader(io.StringIO(text.decode(), newline=""))
+        keys = [(int(row[0]), int(row[1])) for row in rows]
+        return [[*head, "resources"], *([*row, self.machines[key]] for key, row in zip(keys, rows) if self.times[key])]
+
+    def in_json(self, text):
+        """The value of a table as JSON, with the machines."""
+        value = json.loads(text)
+        for row in value["rows"]:
+            row["resources"] = self.machines[row["job"], row["step"]]
+        value["rows"] = [row for row in value["rows"] if self.times[row["job"], row["step"]]]
+        return value
+
+    def shown(self, options, output):
+        """The output for a job shop file as that for the list."""
+        if not output or "--format" not in options:
+            return self.in_text(output)
+        return self.in_csv(output) if "csv" in options else self.in_json(output)
+
+    def read(self, options, output):
+        """The output for the list, in the form of the one above."""
+        if not output or "--format" not in options:
+            return output
+        text = output.decode()
+        return list(csv.reader(io.StringIO(text, newline=""))) if "csv" in options else json.loads(text)
+
+    def starts(self, rows):
+        """All starts in flat order, by those of the steps that take time."""
+        found, end = [], 0
+        for job, step in sorted(self.times):
+            end = 0 if step == 1 else end
+            start = rows[job, step] if self.times[job, step] else end
+            end = start + self.times[job, step]
+            found.append(start)
+        return found
+
+
+# The commands on a list of orders whose tables have a row for each step.
+STEP_TABLES = ("solve", "days", "compare")
+
+
+def compare_command(what, folder, command, instances, options, made_folder, notes, steps=None):
     """That a command answers for a list as for the file that is made of it, with the notes on the list
-    behind an output. The report of a list of orders has no steps that take no time."""
+    behind an output. Tables and the report of a list of orders have no steps that take no time."""
     named, plainly = options
     own, other = instances
     found = plan(folder, *words_on(command, "list.csv", own, named))
     status, output, errors = plan(made_folder, *words_on(command, "list.csv", other, plainly))
     if command[0][0] == "report" and other:
         output = without_idle_steps(output)
-    same(f"{what}: {command}", found, (status, output, errors + notes if output else errors))
+    notes = errors + notes if output else errors
+    if steps and command[0][0] in STEP_TABLES and "ics" not in command[0]:
+        found = (found[0], steps.read(named, found[1]), found[2])
+        output = steps.shown(plainly, output)
+    same(f"{what}: {command}", found, (status, output, notes))
+
+
+def try_short_starts(what, folder, steps):
+    """That a table of a list of orders, which lacks the steps that take no time, is read as all starts
+    of its schedule."""
+    output = plan(folder, "solve", "--format", "json", "list.csv")[1]
+    rows = {(row["job"], row["step"]): row["start"] for row in json.loads(output)["rows"]}
+    numbers = " ".join(map(str, steps.starts(rows))).encode() + b"\n"
+    written(folder, "numbers", numbers)
+    for form in ([], ["--format", "csv"], ["--format", "json"]):
+        written(folder, "short", plan(folder, "solve", *form, "list.csv")[1])
+        for front, behind in (
+            (["check", "list.csv"], []),
+            (["chart", "--starts"], ["list.csv"]),
+            (["days", "--starts"], [STARTS[0], MARKS[0], "list.csv"]),
+            (["report", "--title", "list", "--starts"], ["list.csv"]),
+        ):
+            wanted = plan(folder, *front, "numbers", *behind)
+            same(f"{what}: {front} of a short table", plan(folder, *front, "short", *behind), wanted)
+            same(f"{what}: {front} of numbers", wanted[0], 0)
+        same(f"{what}: compare", plan(folder, "compare", "list.csv", "short", "numbers"),
+             plan(folder, "compare", "list.csv", "numbers", "numbers"))
 
 
 def capacities_of(draw, is_shop):
@@ -178,6 +274,9 @@ def try_made(draw, what, folder, is_shop, made, notes):
     starts = starts_table(made_folder, is_shop, "list.csv")
     with open(os.path.join(made_folder, starts), "rb") as file:
         written(folder, starts, file.read())
+    steps = Steps(made) if is_shop else None
+    if steps and len(made) < 2600:
+        try_short_starts(what, folder, steps)
     own = draw.pick(([], ["-"], ["shop"])) if is_shop else []
     other = ["shop"] if is_shop else []
     commands = named_commands(draw, is_shop, starts)
@@ -185,7 +284,7 @@ def try_made(draw, what, folder, is_shop, made, notes):
         named, plainly = rows_of(draw)
         given = [] if command[0][0] == "compare" else capacities_of(draw, is_shop)
         given = (named + given, plainly + given)
-        compare_command(what, folder, command, (own, other), given, made_folder, notes)
+        compare_command(what, folder, command, (own, other), given, made_folder, notes, steps)
     commands = plain_commands(draw, is_shop, starts)
     for command in filter(lambda command: is_quick(command, made), commands):
         if command[0][:2] == ["chart", "--svg"] and is_shop:

@@ -17,3 +17,4 @@ pub mod ViewTextLemmas
 pub mod CheckLemmas
 pub mod SearchLemmas
 pub mod ListTaskLemmas
+pub mod OrderTableLemmas

@@ -1,5 +1,5 @@
 -- The text of a task for a list, and for the first bytes of a file.
-use Rattle.std.proofs.Common.{◌≡◌, inl, inr, ℕ, ◌+◌, List, [], ◌∷◌, Option, Some, None, Result, Ok, Err, take, refl, subst}
+use Rattle.std.proofs.Common.{◌≡◌, Bool, true, false, ◌&&◌, inl, inr, ℕ, ◌+◌, List, [], ◌∷◌, Option, Some, None, Result, Ok, Err, take, refl, subst}
 use Rattle.std.specs.Prelude.{IfOk, IfErr}
 use Rattle.plan_psplib.specs.Plain.{longest_text}
 use Rattle.plan_table.specs.Kinds.{IsKind}
@@ -10,7 +10,7 @@ use Rattle.plan_errors.specs.Output.{Refuses}
 use Rattle.plan_documents.specs.declared.capacities.Capacity.{Capacity}
 use Rattle.plan_documents.specs.Lists.{IsMadeOf, RefusesActivities, RefusesIn, RefusesKind, RefusesList, RefusesMade, IsReadAs, RefusesReading, ReadsAs}
 use Rattle.plan_documents.specs.Spreadsheets.{OfList}
-use Rattle.plan_cli.specs.Tasks.{IsLineOf, ShowsTask, list_subject, with_subject, rows_on, ShowsOn, ShowsRead, RefusesOn, RefusesRead}
+use Rattle.plan_cli.specs.Tasks.{IsLineOf, ShowsTask, list_subject, with_subject, has_steps, ShowsBy, ShowsKind, ShowsOn, ShowsRead, RefusesOn, RefusesRead}
 use Rattle.plan_documents.specs.declared.documents.Subject.{Subject}
 use Rattle.plan_documents.specs.declared.documents.Subject.TheVariants as subject
 use Rattle.plan_cli.specs.declared.tasks.Rows.{Rows}
@@ -21,22 +21,29 @@ use Rattle.plan_documents.proofs.ListLemmas.{read_refused, read_as}
 
 -- ---- the text of a task
 
--- a text of the same task, with the same rows
-same_task : {X E : Type 0} (view : X → List ℕ) (t u : Task) (r q : Rows) (bytes : List ℕ) (result : Result X E)
-    → u ≡ t → q ≡ r → IfOk result (λ x. ShowsTask q u bytes (view x)) → IfOk result (λ x. ShowsTask r t bytes (view x))
-same_task view t u r q bytes result task rows shown =
-    subst (λ (p : Rows). IfOk result (λ x. ShowsTask p t bytes (view x))) rows
-    (subst (λ (w : Task). IfOk result (λ x. ShowsTask q w bytes (view x))) task shown)
+-- a text of the same task
+same_task : {X E : Type 0} (view : X → List ℕ) (t u : Task) (kind : Option ListKind) (r : Rows) (s : Subject) (bytes : List ℕ) (result : Result X E)
+    → u ≡ t → IfOk result (λ x. ShowsKind kind r u s bytes (view x)) → IfOk result (λ x. ShowsKind kind r t s bytes (view x))
+same_task view t u kind r s bytes result task shown = subst (λ (w : Task). IfOk result (λ x. ShowsKind kind r w s bytes (view x))) task shown
 
 -- the text of a task for what is read is that for the file
-pub shown_as : {X E : Type 0} (view : X → List ℕ) (of : Subject) (file : List ℕ) (t u : Task) (r q : Rows) (kind : Option ListKind) (s : Subject)
+pub shown_as : {X E : Type 0} (view : X → List ℕ) (of : Subject) (file : List ℕ) (t u : Task) (r : Rows) (kind : Option ListKind) (s : Subject)
     (text bytes : List ℕ) (result : Result X E)
-    → IsReadAs of file kind s text → u ≡ with_subject t s → q ≡ rows_on kind r → bytes ≡ text
-    → IfOk result (λ x. ShowsTask q u bytes (view x))
+    → IsReadAs of file kind s text → u ≡ with_subject t s → bytes ≡ text
+    → IfOk result (λ x. ShowsKind kind r u s bytes (view x))
     → IfOk result (λ x. ShowsOn (Some of) r t file (view x))
-shown_as view of file t u r q kind s text bytes result is task rows same shown =
-    read_as (λ k w read x. ShowsTask (rows_on k r) (with_subject t w) read (view x)) of file kind s text bytes result is same
-    (same_task view (with_subject t s) u (rows_on kind r) q bytes result task rows shown)
+shown_as view of file t u r kind s text bytes result is task same shown =
+    read_as (λ k w read x. ShowsKind k r (with_subject t w) w read (view x)) of file kind s text bytes result is same
+    (same_task view (with_subject t s) u kind r s bytes result task shown)
+
+-- a file that is no list of orders
+none_shows : (b : Bool) (r : Rows) (t : Task) (s : Subject) (file text : List ℕ) → ShowsBy (b && false) r t s file text → ShowsTask r t file text
+none_shows true r t s file text shown = shown
+none_shows false r t s file text shown = shown
+
+shows_none : (b : Bool) (r : Rows) (t : Task) (s : Subject) (file text : List ℕ) → ShowsTask r t file text → ShowsBy (b && false) r t s file text
+shows_none true r t s file text shown = shown
+shows_none false r t s file text shown = shown
 
 -- the error of a task for what is read is that for the file
 pub refused_as : {X : Type 0} (of : Subject) (file : List ℕ) (t u : Task) (kind : Option ListKind) (s : Subject) (text bytes : List ℕ)
@@ -105,8 +112,11 @@ reading_front of = refuses_list_front [] (RefusesIn of) (in_front of)
 shows_front : (of : Option Subject) (t : Task) (r : Rows) → HoldsByFront (ShowsOn of r t)
 shows_front None t r file text is = shown_front t r file text is
 shows_front (Some of) t r file text is =
-    as_front of (λ kind s read. ShowsTask (rows_on kind r) (with_subject t s) read text) file
-    (λ s shown. shown_front (with_subject t s) r file text shown) is
+    as_front of (λ kind s read. ShowsKind kind r (with_subject t s) s read text) file
+    (λ s shown.
+    let u = with_subject t s in
+    let none = none_shows (has_steps u) r u s (take (longest_text + 1) file) text shown in
+    shows_none (has_steps u) r u s file text (shown_front u r file text none)) is
 
 refuses_front : (of : Option Subject) (t : Task) → HoldsByFront (RefusesOn of t)
 refuses_front None t file line told = task_line_front t file line told

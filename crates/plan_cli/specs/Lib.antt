@@ -48,6 +48,7 @@ pub mod SlackRun
 pub mod CompareRun
 pub mod ListComparisons
 pub mod Views
+pub mod OrderTables
 pub mod TaskViews
 pub mod ExplainedText
 pub mod Commands

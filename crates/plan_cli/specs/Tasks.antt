@@ -2,7 +2,7 @@
 -- "Runs").
 use Rattle.std.specs.Prelude.{◌≡◌, ℕ, ◌+◌, List, [], Option, Some, None, Result, IfSome}
 use Rattle.std.specs.Prelude.{take, map}
-use Rattle.std.specs.Prelude.{codes, bytes_eq, if◌then◌else◌}
+use Rattle.std.specs.Prelude.{Bool, true, false, ◌&&◌, codes, bytes_eq, if◌then◌else◌}
 use Rattle.plan_gantt.specs.FirstFaults.{TellsFirstFailing}
 use Rattle.plan_cli.specs.Run.{IsDateTableOf, ReadsFront}
 use Rattle.plan_documents.specs.Documents.{IsOfSubject, RefusesSubject, ids_in, ids_of_rows}
@@ -27,11 +27,14 @@ use Rattle.plan_documents.specs.ImportRun.{IsImport, TellsUnimported, IsShopImpo
 use Rattle.plan_documents.specs.Lists.{ReadsAs, RefusesAs}
 use Rattle.plan_views.specs.LinkColumns.{Links}
 use Rattle.plan_cli.specs.TaskViews.{IsViewOf}
-use Rattle.plan_cli.specs.Views.{View, named_text, text_in}
+use Rattle.plan_cli.specs.Views.{View, named_text, plain_text, text_in}
+use Rattle.plan_cli.specs.OrderTables.{IsShopOf, view_for}
+use Rattle.plan_shop.specs.Shop.{JobShop}
 use Rattle.plan_table.specs.Names.{Name, names_behind, activity_key}
 use Rattle.plan_table.specs.Overrides.{override_of}
 use Rattle.plan_table.specs.ShopNames.{instance_names, order_key}
 use Rattle.plan_table.specs.declared.kinds.ListKind.{ListKind}
+use Rattle.plan_table.specs.declared.kinds.ListKind.TheVariants as kinds
 use Rattle.plan_documents.specs.declared.documents.Subject.{Subject}
 use Rattle.plan_documents.specs.declared.documents.Subject.TheVariants as subjects
 use Rattle.plan_cli.specs.declared.inputs.Inputs as inputs
@@ -170,10 +173,44 @@ abbrev pub rows_on : Option ListKind → Rows → Rows
 rows_on None r = r
 rows_on (Some kind) r = list_rows r
 
+-- the table of a task has a row for each step of a job shop
+abbrev pub has_steps : Task → Bool
+has_steps (task.Days from dates style subject) = true
+has_steps (task.Compare starts subject) = true
+has_steps (task.Solve conflicts subject) = true
+has_steps _ = false
+
+abbrev pub are_orders : Option ListKind → Bool
+are_orders None = false
+are_orders (Some kinds.Activities) = false
+are_orders (Some kinds.Orders) = true
+
+-- the text of a value with these rows, without other names
+abbrev pub rows_text : Rows → View → List ℕ
+rows_text rows.Plain view = plain_text view
+rows_text rows.Named view = plain_text view
+rows_text (rows.In format) view = text_in format [] [] [] view
+
+-- the texts of a task for the job shop of a list of orders: without the steps that take no time, and
+-- with the names of the orders and the machines
+abbrev pub ShowsOrders : Rows → Task → Subject → List ℕ → List ℕ → Type 0
+ShowsOrders r t s file text = (view : View) × IsViewOf t file view
+    × ((shop : Option JobShop) × IsShopOf s file shop
+    × (text ≡ rows_text r (view_for shop (names_for t file) (names_of_lines s file) view)))
+
+-- the same if the task shows the steps of a list of orders; else its texts
+abbrev pub ShowsBy : Bool → Rows → Task → Subject → List ℕ → List ℕ → Type 0
+ShowsBy false r t s = ShowsTask r t
+ShowsBy true r t s = ShowsOrders r t s
+
+-- the texts that a task writes for the project or the job shop in a file of a kind
+abbrev pub ShowsKind : Option ListKind → Rows → Task → Subject → List ℕ → List ℕ → Type 0
+ShowsKind kind r t s = ShowsBy (has_steps t && are_orders kind) (rows_on kind r) t s
+
 -- the texts that a task writes for what it reads in a file
 abbrev pub ShowsListed : Subject → Rows → Task → List ℕ → List ℕ → Type 0
 ShowsListed of r t file text = ReadsAs of file (λ kind s read.
-    ShowsTask (rows_on kind r) (with_subject t s) read text)
+    ShowsKind kind r (with_subject t s) s read text)
 
 -- the same, if the task reads lists too; else the texts for the file
 abbrev pub ShowsOn : Option Subject → Rows → Task → List ℕ → List ℕ → Type 0

@@ -18,6 +18,7 @@ mod list_times;
 mod moments;
 mod named_texts;
 mod names;
+mod order_tables;
 mod origins;
 mod own_tables;
 mod plan_refs;

@@ -8,7 +8,7 @@ ghost use Rattle.plan_cli.specs.Tasks.{IsFormattedText, IsLineOf, IsNamedText, I
 ghost use Rattle.plan_cli.specs.Tasks.{ShowsTask, names_for, ids_for, AreLinksFor};
 ghost use Rattle.plan_cli.specs.Tasks as spec;
 ghost use Rattle.plan_cli.specs.TaskViews.{IsViewOf};
-ghost use Rattle.plan_cli.specs.Views.{IfView};
+ghost use Rattle.plan_cli.specs.Views.{IfView, view_of};
 
 use crate::calendars::Dates;
 use crate::commands::{Command, subject_view};
@@ -16,6 +16,7 @@ use crate::comparisons::Pair;
 use crate::links::{project_links_in, subject_links};
 use crate::list_texts::timed_list;
 use crate::names::names_in;
+use crate::order_tables::{order_text, subject_shop};
 use crate::origins::Origin;
 use crate::proof::proof_view;
 use crate::slacks::slacks_of;
@@ -433,6 +434,82 @@ pub(crate) fn rows_on(kind: Option<ListKind>, rows: Rows) -> Rows
     }
 }
 
+// Tests whether the table of a task has a row for each step of a job shop.
+fn has_steps(task: Task<'_>) -> bool
+    ensures { result ≡ spec.has_steps task.entry }
+{
+    match task {
+        Task::Days { .. } | Task::Compare { .. } | Task::Solve { .. } => true,
+        _ => false,
+    }
+}
+
+// Tests whether a file is a list of orders.
+fn are_orders(kind: Option<ListKind>) -> bool
+    ensures { result ≡ spec.are_orders kind }
+{
+    match kind {
+        Some(ListKind::Orders) => true,
+        Some(ListKind::Activities) | None => false,
+    }
+}
+
+/// Returns the text of a value with these rows, without other names.
+pub(crate) fn rows_text(alloc: Global, rows: Rows, view: View) -> Result<Vec<u8>, AllocError>
+    ensures { IfOk result (λ text. text.items ≡ spec.rows_text rows (view_of view)) }
+{
+    match rows {
+        Rows::In(format) => text_in(alloc, format, view, &[], &[], &[]),
+        Rows::Plain | Rows::Named => plain_text(alloc, view),
+    }
+}
+
+// Returns the text of a task for the job shop of a list of orders.
+fn orders_text<V: ProofWatcher + SolveWatcher, L: Log>(
+    alloc: Global,
+    task: Task<'_>,
+    of: Subject<'_>,
+    rows: Rows,
+    file: &[u8],
+    watcher: &mut V,
+    log: &mut L,
+) -> Result<Vec<u8>, CliFault>
+    ensures made { IfOk result (λ text.
+        spec.ShowsOrders rows task.entry of.entry file.now text.items) }
+    ensures refused { IfErr result (Refuses (IsLineOf task.entry file.now)) }
+{
+    let view = view_of(alloc, task, file, watcher, log)?;
+    let orders = names_for(alloc, task, file)?;
+    let machines = names_of_lines(alloc, of, file)?;
+    match subject_shop(alloc, of, file)? {
+        Some(shop) => Ok(order_text(alloc, rows, &shop, &orders, &machines, view)?),
+        None => Ok(rows_text(alloc, rows, view)?),
+    }
+}
+
+// Returns the text of a task for the project or the job shop in a file of a kind.
+fn kind_text<V: ProofWatcher + SolveWatcher, L: Log>(
+    alloc: Global,
+    kind: Option<ListKind>,
+    task: Task<'_>,
+    of: Subject<'_>,
+    rows: Rows,
+    file: &[u8],
+    watcher: &mut V,
+    log: &mut L,
+) -> Result<Vec<u8>, CliFault>
+    ensures made { IfOk result (λ text.
+        spec.ShowsKind kind rows task.entry of.entry file.now text.items) }
+    ensures refused { IfErr result (Refuses (IsLineOf task.entry file.now)) }
+{
+    let rows = rows_on(kind, rows);
+    if has_steps(task) && are_orders(kind) {
+        orders_text(alloc, task, of, rows, file, watcher, log)
+    } else {
+        shown_text(alloc, task, rows, file, watcher, log)
+    }
+}
+
 // Returns the text of a task that reads lists too, for a file with this project or job shop.
 fn listed_text<V: ProofWatcher + SolveWatcher, L: Log>(
     alloc: Global,
@@ -450,8 +527,17 @@ fn listed_text<V: ProofWatcher + SolveWatcher, L: Log>(
 {
     let read = readable(alloc, of, file)?;
     let task = with_subject(task, read.subject);
-    let rows = rows_on(read.kind, rows);
-    shown_text(alloc, task, rows, read.text(file), watcher, log)
+    let text = read.text(file);
+    kind_text(
+        alloc,
+        read.kind,
+        task,
+        read.subject,
+        rows,
+        text,
+        watcher,
+        log,
+    )
 }
 
 // Returns the text of a task for the bytes of a file, with this project or job shop if the task

@@ -6,6 +6,7 @@ use Rattle.plan_table.specs.Names.{Name, first_name}
 use Rattle.plan_net.specs.Network.{Net, count_of, duration_of}
 use Rattle.plan_report.specs.Sheet.{IdEntry, Sheet}
 use Rattle.plan_report.specs.StartsText.{activity_entries}
+use Rattle.plan_report.specs.declared.sheet.Absence.TheVariants as absences
 
 -- an activity has an id
 abbrev pub is_named : List Name → ℕ → Bool
@@ -35,7 +36,11 @@ id_of ids j = name_or_empty (first_name j ids)
 abbrev pub id_entry : List Name → Net → ℕ → IdEntry
 id_entry ids net j = record {
   id = id_of ids j;
-  entry = record { keys = duration_of net j ∷ []; duration = duration_of net j };
+  entry = record {
+    keys = duration_of net j ∷ [];
+    duration = duration_of net j;
+    absence = absences.Never;
+  };
 }
 
 abbrev pub inner_entries : List Name → Net → List IdEntry

@@ -1,14 +1,16 @@
 -- Sheets of starts: rows of cells, from a printed table or its CSV (docs/definitions.md,
 -- "Reports").
 use Rattle.std.specs.Prelude.{◌≡◌, ℕ, ◌+◌, ◌≤◌, ◌==◌, ◌&&◌, Bool, true, false, List, [], ◌∷◌}
-use Rattle.std.specs.Prelude.{◌++◌, Option, Some, None, Result, Ok, map}
-use Rattle.std.specs.Prelude.{bytes_eq, codes, nat_le}
+use Rattle.std.specs.Prelude.{◌⊎◌, ◌++◌, Option, Some, None, Result, Ok, map}
+use Rattle.std.specs.Prelude.{bytes_eq, codes, nat_le, if◌then◌else◌, is_ok}
 use Rattle.std.specs.Borrow.{Bor}
 use Rattle.plan_psplib.specs.declared.text.fault.Fault.{Fault}
 use Rattle.plan_psplib.specs.declared.text.fault.FileCode.TheVariants as code
 use Rattle.plan_psplib.specs.Numbers.{number}
 use Rattle.plan_psplib.specs.Tokens.{◌>>=◌, fault, check}
 use Rattle.plan_gantt.specs.Limits.{latest_start}
+use Rattle.plan_report.specs.declared.sheet.Absence.{Absence}
+use Rattle.plan_report.specs.declared.sheet.Absence.TheVariants as absences
 use Rattle.plan_report.specs.declared.sheet.Entry as declared_entry
 use Rattle.plan_report.specs.declared.sheet.IdEntry as declared_id_entry
 use Rattle.plan_report.specs.declared.sheet.Sheet as declared_sheet
@@ -19,10 +21,12 @@ pub record Row : Type 0 where
   pub line : ℕ
   pub cells : List (List ℕ)
 
--- the numbers of a row before its start. The last of them is the duration.
+-- The numbers of a row before its start. The last of them is the duration. `absence` tells whether
+-- the sheet may lack this row.
 pub record Entry : Type 0 where
   pub keys : List ℕ
   pub duration : ℕ
+  pub absence : Absence
 
 -- an activity by its id: its row without the id, up to the start
 pub record IdEntry : Type 0 where
@@ -38,7 +42,11 @@ pub record Sheet : Type 0 where
 
 -- the same, as the program keeps them
 abbrev pub entry_of : declared_entry.Entry → Entry
-entry_of entry = record { keys = entry.keys.items; duration = entry.duration }
+entry_of entry = record {
+  keys = entry.keys.items;
+  duration = entry.duration;
+  absence = entry.absence;
+}
 
 abbrev pub id_entry_of : declared_id_entry.IdEntry → IdEntry
 id_entry_of entry = record { id = entry.id.now; entry = entry_of entry.entry }
@@ -67,27 +75,11 @@ pub record ShowsStart (entry : Entry) (start : ℕ) (row : Row) : Type 0 where
   pub spelled : BeginsWith row.cells (entry.keys ++ start ∷ (start + entry.duration) ∷ [])
   pub in_time : start ≤ latest_start
 
--- each row shows the start of its entry
-abbrev pub ShowStarts : List Entry → List ℕ → List Row → Type 0
-ShowStarts [] [] [] = Unit {0}
-ShowStarts (entry ∷ entries) (start ∷ starts) (row ∷ rows) =
-    ShowsStart entry start row × ShowStarts entries starts rows
-ShowStarts _ _ _ = ⊥
-
 -- the first cells are these names
 unfoldable pub has_columns : List (List ℕ) → List (List ℕ) → Bool
 has_columns [] cells = true
 has_columns (name ∷ names) [] = false
 has_columns (name ∷ names) (cell ∷ cells) = bytes_eq cell name && has_columns names cells
-
--- rows show starts: a row with the names of the columns, a row for each start, and then the rest
-pub record ShowsSheet (sheet : Sheet) (rows : List Row) (starts : List ℕ)
-    (rest : List Row) : Type 0 where
-  pub head : Row
-  pub body : List Row
-  pub split : rows ≡ head ∷ body ++ rest
-  pub named : has_columns sheet.columns head.cells ≡ true
-  pub shown : ShowStarts sheet.entries starts body
 
 -- Reading from the first row to the last, up to the first check that fails. A fault has the line of
 -- its row.
@@ -127,20 +119,93 @@ start_in entry row = do
   end ← expect_all row.line ((start.0 + entry.duration) ∷ []) start.1
   Ok start.0
 
--- the starts in the next rows, after those before, and the rows behind them
-unfoldable pub starts_after : List ℕ → ℕ → List Entry → List Row → Result (List ℕ × List Row) Fault
-starts_after before last [] rows = Ok (before, rows)
-starts_after before last (entry ∷ entries) [] = fault code.Count last
-starts_after before last (entry ∷ entries) (row ∷ rows) = do
+-- the next row is that of an entry: its first cells spell the numbers of the entry
+abbrev pub is_next : Entry → List Row → Bool
+is_next entry [] = false
+is_next entry (row ∷ rows) = is_ok (expect_all row.line entry.keys row.cells)
+
+-- the start of an entry without a row, behind an entry with this end; none if it must have a row
+abbrev pub absent_start : Absence → ℕ → Option ℕ
+absent_start absences.Never end = None
+absent_start absences.AtZero end = Some 0
+absent_start absences.AtEnd end = Some end
+
+-- the next row shows the start of an entry, and the others follow
+abbrev pub ShowsRow : Entry → ℕ → List Row → List Row → Type 0
+ShowsRow entry start [] others = ⊥
+ShowsRow entry start (row ∷ rows) others = ShowsStart entry start row × (rows ≡ others)
+
+-- the next row isn't that of an entry, which has this start without a row
+pub record IsLeftOut (end : ℕ) (entry : Entry) (start : ℕ) (rows others : List Row) : Type 0 where
+  pub absent : absent_start entry.absence end ≡ Some start
+  pub missing : is_next entry rows ≡ false
+  pub in_time : start ≤ latest_start
+  pub same : rows ≡ others
+
+-- an entry has this start, by its row or without a row; the other rows follow
+abbrev pub ShowsNext : ℕ → Entry → ℕ → List Row → List Row → Type 0
+ShowsNext end entry start rows others =
+    ShowsRow entry start rows others ⊎ IsLeftOut end entry start rows others
+
+-- rows show the start of each entry, behind an entry with this end, and then the rest follows
+abbrev pub ShowStarts : ℕ → List Entry → List ℕ → List Row → List Row → Type 0
+ShowStarts end [] [] rows rest = rows ≡ rest
+ShowStarts end (entry ∷ entries) (start ∷ starts) rows rest =
+    (others : List Row) × ShowsNext end entry start rows others
+    × ShowStarts (start + entry.duration) entries starts others rest
+ShowStarts _ _ _ _ _ = ⊥
+
+-- rows show starts: a row with the names of the columns, a row for each start, and then the rest;
+-- rows may be missing as their entries allow
+pub record ShowsSheet (sheet : Sheet) (rows : List Row) (starts : List ℕ)
+    (rest : List Row) : Type 0 where
+  pub head : Row
+  pub behind : List Row
+  pub split : rows ≡ head ∷ behind
+  pub named : has_columns sheet.columns head.cells ≡ true
+  pub shown : ShowStarts 0 sheet.entries starts behind rest
+
+-- the start in the next row, its line, and the rows behind it
+unfoldable pub row_start : ℕ → Entry → List Row → Result (ℕ × ℕ × List Row) Fault
+row_start last entry [] = fault code.Count last
+row_start last entry (row ∷ rows) = do
   start ← start_in entry row
-  starts_after (before ++ start ∷ []) row.line entries rows
+  Ok (start, row.line, rows)
+
+-- the start of an entry without a row, which must be in time
+abbrev pub early_start : ℕ → ℕ → Result ℕ Fault
+early_start last start = if nat_le start latest_start then Ok start else fault code.Limit last
+
+-- the same with the rows, if the next one isn't that of the entry
+abbrev pub left_out : ℕ → ℕ → List Row → Result (ℕ × ℕ × List Row) Fault
+left_out last start rows = do
+  early ← early_start last start
+  Ok (early, last, rows)
+
+-- the start of the next entry: that without a row, if it may be left out
+abbrev pub start_by : ℕ → Option ℕ → Entry → List Row → Result (ℕ × ℕ × List Row) Fault
+start_by last None entry rows = row_start last entry rows
+start_by last (Some start) entry rows =
+    if is_next entry rows then row_start last entry rows else left_out last start rows
+
+unfoldable pub next_start : ℕ → ℕ → Entry → List Row → Result (ℕ × ℕ × List Row) Fault
+next_start last end entry rows = start_by last (absent_start entry.absence end) entry rows
+
+-- the starts in the next rows, after those before, and the rows behind them; the entry before them
+-- has this end
+unfoldable pub starts_after : List ℕ → ℕ → ℕ → List Entry → List Row
+    → Result (List ℕ × List Row) Fault
+starts_after before last end [] rows = Ok (before, rows)
+starts_after before last end (entry ∷ entries) rows = do
+  next ← next_start last end entry rows
+  starts_after (before ++ next.0 ∷ []) next.1 (next.0 + entry.duration) entries next.2
 
 -- the starts in a sheet, and the rows behind it
 unfoldable pub sheet_at : Sheet → List Row → Result (List ℕ × List Row) Fault
 sheet_at sheet [] = fault code.MissingHead 0
 sheet_at sheet (head ∷ rows) = do
   named ← check (has_columns sheet.columns head.cells) code.MissingHead head.line
-  starts_after [] head.line sheet.entries rows
+  starts_after [] head.line 0 sheet.entries rows
 
 -- cells begin with `makespan`
 abbrev pub begins_with_makespan : List (List ℕ) → Bool

@@ -18,12 +18,18 @@ use Rattle.plan_report.specs.IdRows.{ShowsRows, has_ids, rows_at}
 use Rattle.plan_report.specs.JsonTable.{value_in, table_with, table_in}
 use Rattle.plan_report.specs.StartNumbers.{SaysNumbers, numbers_in}
 use Rattle.plan_report.specs.Sheet.{Entry, Row, Sheet, begins_with_makespan, nothing_left}
+use Rattle.plan_report.specs.declared.sheet.Absence.{Absence}
+use Rattle.plan_report.specs.declared.sheet.Absence.TheVariants as absences
 use Rattle.plan_report.specs.declared.starts.Form.{Form}
 use Rattle.plan_report.specs.declared.starts.Form.TheVariants as forms
 
 -- the row of activity j: its number, its duration, its start and its end
 abbrev pub activity_entry : Net → ℕ → Entry
-activity_entry net j = record { keys = j ∷ duration_of net j ∷ []; duration = duration_of net j }
+activity_entry net j = record {
+  keys = j ∷ duration_of net j ∷ [];
+  duration = duration_of net j;
+  absence = absences.Never;
+}
 
 abbrev pub activity_entries : Net → List Entry
 activity_entries net = map (activity_entry net) (range_with_len 1 (count_of net))
@@ -36,12 +42,19 @@ activity_sheet net = record {
   by_id = [];
 }
 
+-- A table may lack the row of a step of time 0. Such a step starts at 0 if it is the first one of its
+-- job, else at the end of the step before it.
+abbrev pub absence_of : ℕ → ℕ → Absence
+absence_of step time =
+    if time == 0 then (if step == 1 then absences.AtZero else absences.AtEnd) else absences.Never
+
 -- the row of the step with flat number x: the number of its job, its number in the job, its
 -- machine, its time, its start and its end
 abbrev pub step_entry : JobShop → ℕ → Entry
 step_entry s x = record {
   keys = job_number s x ∷ step_number s x ∷ machine_of s x ∷ time_of s x ∷ [];
   duration = time_of s x;
+  absence = absence_of (step_number s x) (time_of s x);
 }
 
 abbrev pub step_entries : JobShop → List Entry

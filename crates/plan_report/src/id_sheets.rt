@@ -6,7 +6,7 @@ ghost use Rattle.plan_table.specs.Names.{name_of};
 ghost use Rattle.plan_report.specs.Sheet as sheets;
 ghost use Rattle.plan_report.specs.IdSheets as spec;
 
-use crate::sheet::{Entry, IdEntry, Sheet};
+use crate::sheet::{Absence, Entry, IdEntry, Sheet};
 use crate::starts::{ACTIVITY_COLUMNS, activity_entries};
 use plan_net::Network;
 use plan_table::{NameLine, first_name};
@@ -64,7 +64,11 @@ fn id_entry<'a>(
     let keys = Vec::from_array(alloc, [duration])?;
     Ok(IdEntry {
         id: id_of(ids, j),
-        entry: Entry { keys, duration },
+        entry: Entry {
+            keys,
+            duration,
+            absence: Absence::Never,
+        },
     })
 }
 

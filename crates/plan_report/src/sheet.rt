@@ -1,6 +1,6 @@
 //! Sheets of starts: rows of cells, from a printed table or its CSV.
 
-ghost use Rattle.std.specs.Prelude.{◌≡◌, ◌≤◌, [], All, IfOk, map};
+ghost use Rattle.std.specs.Prelude.{◌≡◌, ◌≤◌, [], All, IfOk, map, drop, length};
 ghost use Rattle.plan_psplib.specs.Numbers.{number as spells};
 ghost use Rattle.plan_psplib.specs.Tokens.{Gives, Reads};
 ghost use Rattle.plan_report.specs.Sheet as spec;
@@ -9,11 +9,23 @@ use crate::start_numbers::LATEST_START;
 use plan_psplib::{Fault, FileCode, ReadError, number};
 use std::alloc::Global;
 
+/// Whether a sheet may lack the row of an entry, and the start of the entry without a row.
+#[derive(Clone, Copy, Debug, PartialEq, Eq)]
+pub enum Absence {
+    /// The sheet has the row.
+    Never,
+    /// Without a row the entry starts at 0.
+    AtZero,
+    /// Without a row the entry starts at the end of the entry before it.
+    AtEnd,
+}
+
 /// The numbers of a row before its start. The last of them is the duration.
 #[derive(Drop)]
 pub struct Entry {
     pub keys: Vec<u64>,
     pub duration: u64,
+    pub absence: Absence,
 }
 
 /// An activity by its id: its row without the id, up to the start.
@@ -84,7 +96,7 @@ pub(crate) fn expect_all<'a, 'b>(
 
 // Returns the start in the next cell, and the cells behind it.
 #[tactic(auto, unfolding(crate::specs::Sheet::start_at))]
-fn next_start<'a, 'b>(line: u64, cells: &'a [&'b [u8]]) -> Result<(u64, &'a [&'b [u8]]), Fault>
+fn start_at<'a, 'b>(line: u64, cells: &'a [&'b [u8]]) -> Result<(u64, &'a [&'b [u8]]), Fault>
     ensures start { Reads (λ next. (next.0, spec.cells_of next.1.now)) result
         (spec.start_at line (spec.cells_of cells.now)) }
     ensures early { IfOk result (λ next. next.0 ≤ LATEST_START) }
@@ -108,7 +120,7 @@ pub(crate) fn start_in_cells(entry: &Entry, line: u64, cells: &[&[u8]]) -> Resul
     ensures early { IfOk result (λ start. start ≤ LATEST_START) }
 {
     let rest = expect_all(line, &entry.keys, cells)?;
-    let (start, rest) = next_start(line, rest)?;
+    let (start, rest) = start_at(line, rest)?;
     expect_all(line, &[start + entry.duration], rest)?;
     Ok(start)
 }
@@ -116,10 +128,84 @@ pub(crate) fn start_in_cells(entry: &Entry, line: u64, cells: &[&[u8]]) -> Resul
 // Returns the start in a row.
 fn start_in(entry: &Entry, row: &Row<'_>) -> Result<u64, Fault>
     requires { entry.now.duration ≤ 10000 }
-    ensures { Reads (λ n. n) result
+    ensures start { Reads (λ n. n) result
         (spec.start_in (spec.entry_of entry.now) (spec.row_of row.now)) }
+    ensures early { IfOk result (λ start. start ≤ LATEST_START) }
 {
     start_in_cells(entry, row.line, &row.cells)
+}
+
+// Tests whether the next row is that of an entry.
+fn is_next(entry: &Entry, rows: &[Row<'_>]) -> bool
+    ensures { result ≡ spec.is_next (spec.entry_of entry.now) (map spec.row_of rows.now) }
+{
+    match rows {
+        [] => false,
+        [row, ..] => expect_all(row.line, &entry.keys, &row.cells).is_ok(),
+    }
+}
+
+// Returns the start of an entry without a row, behind an entry with this end, if the row may be
+// missing.
+fn absent_start(absence: Absence, end: u64) -> Option<u64>
+    ensures { result ≡ spec.absent_start absence end }
+{
+    match absence {
+        Absence::Never => None,
+        Absence::AtZero => Some(0),
+        Absence::AtEnd => Some(end),
+    }
+}
+
+// Returns the start of an entry without a row. `last` is the line before it.
+fn early_start(last: u64, start: u64) -> Result<u64, Fault>
+    ensures start { Reads (λ n. n) result (spec.early_start last start) }
+    ensures early { IfOk result (λ start. start ≤ LATEST_START) }
+{
+    if start > LATEST_START {
+        return Err(Fault::new(FileCode::Limit, last));
+    }
+    Ok(start)
+}
+
+// Returns the start in the next row, its line, and how many rows were read, which is 1.
+#[tactic(auto, unfolding(crate::specs::Sheet::row_start))]
+fn row_start(entry: &Entry, last: u64, rows: &[Row<'_>]) -> Result<(u64, u64, usize), Fault>
+    requires { entry.now.duration ≤ 10000 }
+    ensures read { Reads (λ read. (read.0, read.1, drop read.2 (map spec.row_of rows.now))) result
+        (spec.row_start last (spec.entry_of entry.now) (map spec.row_of rows.now)) }
+    ensures early { IfOk result (λ read. read.0 ≤ LATEST_START) }
+    ensures within { IfOk result (λ read. read.2 ≤ length rows.now) }
+{
+    let [row, ..] = rows else {
+        return Err(Fault::new(FileCode::Count, last));
+    };
+    let start = start_in(entry, row)?;
+    Ok((start, row.line, 1))
+}
+
+// Returns the start of the next entry, the line of its row, and how many rows were read. Without a
+// row the line is `last`, the one before it. The entry before it has this end.
+#[tactic(auto, unfolding(crate::specs::Sheet::next_start))]
+fn next_start(
+    entry: &Entry,
+    last: u64,
+    end: u64,
+    rows: &[Row<'_>],
+) -> Result<(u64, u64, usize), Fault>
+    requires { entry.now.duration ≤ 10000 }
+    ensures read { Reads (λ read. (read.0, read.1, drop read.2 (map spec.row_of rows.now))) result
+        (spec.next_start last end (spec.entry_of entry.now) (map spec.row_of rows.now)) }
+    ensures early { IfOk result (λ read. read.0 ≤ LATEST_START) }
+    ensures within { IfOk result (λ read. read.2 ≤ length rows.now) }
+{
+    let Some(start) = absent_start(entry.absence, end) else {
+        return row_start(entry, last, rows);
+    };
+    if is_next(entry, rows) {
+        return row_start(entry, last, rows);
+    }
+    Ok((early_start(last, start)?, last, 0))
 }
 
 // Returns the starts in the next rows, and the rows behind them. `last` is the line before them.
@@ -132,21 +218,20 @@ fn starts_after<'a, 'b>(
 ) -> Result<(Vec<u64>, &'a [Row<'b>]), ReadError>
     requires { All (λ entry. entry.duration ≤ 10000) entries.now }
     ensures { Gives (λ read. (read.0.items, map spec.row_of read.1.now)) result
-        (spec.starts_after [] last (map spec.entry_of entries.now) (map spec.row_of rows.now)) }
+        (spec.starts_after [] last 0 (map spec.entry_of entries.now) (map spec.row_of rows.now)) }
 {
     let mut starts = Vec::new(alloc);
     let mut line = last;
-    let mut rest = rows;
+    let mut end = 0;
+    let mut at = 0;
     for entry in entries {
-        let [row, others @ ..] = rest else {
-            return Err(ReadError::Fault(Fault::new(FileCode::Count, line)));
-        };
-        let start = start_in(entry, row)?;
+        let (start, row_line, read) = next_start(entry, line, end, &rows[at..])?;
         starts.push(start)?;
-        line = row.line;
-        rest = others;
+        line = row_line;
+        end = start + entry.duration;
+        at += read;
     }
-    Ok((starts, rest))
+    Ok((starts, &rows[at..]))
 }
 
 /// Tests whether the first cells are these names.

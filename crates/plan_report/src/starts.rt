@@ -17,7 +17,7 @@ ghost use Rattle.plan_report.specs.StartsText as spec;
 use crate::id_rows::{has_ids, read_rows};
 use crate::id_sheets::id_sheet;
 use crate::json_table::table_of_json;
-use crate::sheet::{Entry, Row, Sheet, begins_with_makespan, check_end};
+use crate::sheet::{Absence, Entry, Row, Sheet, begins_with_makespan, check_end};
 use crate::start_numbers::{all_tokens, read_numbers};
 use plan_net::Network;
 use plan_psplib::{Fault, FileCode, Lines, ReadError, Words, check_text};
@@ -280,9 +280,26 @@ pub(crate) fn activity_entries(alloc: Global, network: &Network) -> Result<Vec<E
         let j = k as u32 + 1;
         let duration = network.duration(j);
         let keys = Vec::from_array(alloc, [j as u64, duration])?;
-        entries.push(Entry { keys, duration })?;
+        entries.push(Entry {
+            keys,
+            duration,
+            absence: Absence::Never,
+        })?;
     }
     Ok(entries)
+}
+
+// Tests whether a table may lack the row of a step, by its number in its job and its time.
+fn absence_of(step: u64, time: u64) -> Absence
+    ensures { result ≡ spec.absence_of step time }
+{
+    if time != 0 {
+        Absence::Never
+    } else if step == 1 {
+        Absence::AtZero
+    } else {
+        Absence::AtEnd
+    }
 }
 
 // Returns the entries of a shop's steps.
@@ -301,6 +318,7 @@ fn step_entries(alloc: Global, shop: &Shop) -> Result<Vec<Entry>, AllocError>
         entries.push(Entry {
             keys,
             duration: step.time,
+            absence: absence_of(place, step.time),
         })?;
     }
     Ok(entries)
@@ -412,7 +430,8 @@ pub fn read_id_starts_text(
 
 /// Reads the starts of a job shop's steps in flat order, in whole time units. The forms and the
 /// errors are those of [`read_starts_text`]; the table is that of `shop`, `best`, `prove` or
-/// `solve`.
+/// `solve`. A table may lack rows of steps of time 0: such a step starts at the end of the step
+/// before it in its job, or at 0 if it is the first one.
 pub fn read_shop_starts_text(alloc: Global, shop: &Shop, text: &[u8]) -> Result<Vec<u64>, ReadError>
     ensures said { IfOk result (λ starts.
         spec.SaysStarts (spec.step_sheet shop.now) text.now starts.items) }

@@ -2,21 +2,25 @@ use Rattle.std.proofs.lemmas.Result.{err_from_is_err_and}
 use Rattle.plan_cli.specs.CheckRun.{IsVerdictOn}
 use Rattle.plan_documents.specs.Documents.{IsOfSubject}
 use Rattle.plan_documents.specs.Lists.{text_of}
-use Rattle.plan_cli.specs.Tasks.{IsLineOf}
+use Rattle.plan_cli.specs.Tasks.{IsLineOf, ShowsTask}
+use Rattle.plan_cli.specs.declared.tasks.Rows.{Rows}
 use Rattle.plan_cli.specs.declared.checks.Checked.{Checked}
 use Rattle.plan_cli.specs.declared.tasks.Task.TheVariants as task
 use Rattle.plan_documents.proofs.ListLemmas.{read_as, reading_refused}
 use Rattle.plan_cli.proofs.ListTaskLemmas.{shown_as, refused_as}
 use Rattle.plan_cli.proofs.checks.check_text.Goals as goal
-use Rattle.std.proofs.Common.{refl}
+use Rattle.std.proofs.Common.{IfOk, refl, subst}
 
 pub returns-clause-text : goal.returns-clause-text
 returns-clause-text c =
     let a = c.args in
     let read = c.in_ok-read.read in
-    shown_as (λ (checked : Checked). checked.text.items) a.subject a.file.now (task.Check a.starts a.subject) (task.Check a.starts read.subject) a.rows c.rows_on-rows.result
-    read.kind read.subject (text_of read.made a.file.now) c.text.result.now c.checked_text.result c.in_ok-read.ensures.read refl c.rows_on-rows.ensures
-    c.text.ensures c.checked_text.ensures.text
+    let bytes = c.text.result.now in
+    let t = task.Check a.starts read.subject in
+    shown_as (λ (checked : Checked). checked.text.items) a.subject a.file.now (task.Check a.starts a.subject) t a.rows
+    read.kind read.subject (text_of read.made a.file.now) bytes c.checked_text.result c.in_ok-read.ensures.read refl c.text.ensures
+    (subst (λ (r : Rows). IfOk c.checked_text.result (λ (checked : Checked). ShowsTask r t bytes checked.text.items)) c.rows_on-rows.ensures
+    c.checked_text.ensures.text)
 
 pub returns-clause-verdict : goal.returns-clause-verdict
 returns-clause-verdict c =

@@ -11,16 +11,16 @@ pub returns-clause-made : goal.returns-clause-made
 returns-clause-made g c =
     let a = c.args in
     let read = c.in_ok-read.read in
-    shown_as (λ (text : Vec ℕ Global). text.items) a.of a.file.now a.task c.with_subject-task.result a.rows c.rows_on-rows.result read.kind read.subject
-    (text_of read.made a.file.now) c.text.result.now c.shown_text.result c.in_ok-read.ensures.read c.with_subject-task.ensures c.rows_on-rows.ensures
-    c.text.ensures c.shown_text.ensures.made
+    shown_as (λ (text : Vec ℕ Global). text.items) a.of a.file.now a.task c.with_subject-task.result a.rows read.kind read.subject
+    (text_of read.made a.file.now) c.text-text.result.now c.kind_text.result c.in_ok-read.ensures.read c.with_subject-task.ensures
+    c.text-text.ensures c.kind_text.ensures.made
 
 pub returns-clause-refused : goal.returns-clause-refused
 returns-clause-refused g c =
     let a = c.args in
     let read = c.in_ok-read.read in
-    refused_as a.of a.file.now a.task c.with_subject-task.result read.kind read.subject (text_of read.made a.file.now) c.text.result.now
-    c.shown_text.result c.in_ok-read.ensures.read c.with_subject-task.ensures c.text.ensures c.shown_text.ensures.refused
+    refused_as a.of a.file.now a.task c.with_subject-task.result read.kind read.subject (text_of read.made a.file.now) c.text-text.result.now
+    c.kind_text.result c.in_ok-read.ensures.read c.with_subject-task.ensures c.text-text.ensures c.kind_text.ensures.refused
 
 pub returns-in_err-read-clause-refused : goal.returns-in_err-read-clause-refused
 returns-in_err-read-clause-refused g c =

@@ -11,7 +11,7 @@ loop-x-preserved c =
     let s = c.args.shop.now in
     let x = c.loop-x.x in
     let pushed = c.in_ok-push.ensures.items in
-    let is = step_is s x c.machines-machines.result c.step-step.result c.in_ok-keys.keys.items c.machines-machines.ensures.value c.step-step.ensures.value c.in_ok-keys.ensures.items in
+    let is = step_is s x c.machines-machines.result c.step-step.result c.in_ok-keys.keys.items c.absence_of.result c.machines-machines.ensures.value c.step-step.ensures.value c.in_ok-keys.ensures.items c.absence_of.ensures in
     record {
       made = entries_more (step_entry s) 0 x x c.loop-x.entries.items c.push.new.self.items _ (omega arith) c.loop-x.invariant.made pushed is;
       short = subst (λ (xs : List declared.Entry). All (λ entry. entry.duration ≤ 10000) xs) (sym pushed)
