@@ -7,9 +7,9 @@ another list, as text, CSV and JSON, and the line of notes on standard error.
     tests/trials/list_rows.py CASES SEED    so many, drawn from this seed
 
 A list has ids or none, notes, one of three separators and of five encodings. The schedules, slacks and
-verdicts are those of model/, the forms those of docs/formats.md. A schedule of `plan solve` isn't known
-beforehand: it has to be active, and all else follows from its starts. The program is the one that
-./plan runs, or the one that PLAN_PROGRAM names.
+verdicts are those of model/, the forms those of docs/formats.md and docs/lists.md. A schedule of
+`plan solve` isn't known beforehand: it has to be active, and all else follows from its starts. The
+program is the one that ./plan runs, or the one that PLAN_PROGRAM names.
 """
 
 import csv

@@ -1,6 +1,6 @@
 #!/usr/bin/env python3
 """Compares `plan import` of drawn lists of orders with a reader in Python: the job shop file that
-docs/formats.md describes, or the error line.
+docs/lists.md describes, or the error line.
 
     tests/trials/orders.py               2,000 lists; prints nothing on success
     tests/trials/orders.py CASES SEED    so many, drawn from this seed

@@ -1,7 +1,7 @@
 """Compares the spreadsheets of tests/trials/spreadsheets with what their README.md expects: by a
 reader in Python, and by `plan import`.
 
-The reader knows the rules of docs/formats.md, and shares nothing with the program.
+The reader knows the rules of docs/lists.md, and shares nothing with the program.
 """
 
 import csv

@@ -6,7 +6,7 @@ ones of tests/tables.
 
 Each table is drawn with names, quotes, blanks, waits, groups, all three delimiters and encodings; one
 in four is then damaged at some byte. One in five has options: new words for headers, columns to leave
-out, a unit. The model reads it, and prints the `.sm` text or the error line that docs/formats.md
+out, a unit. The model reads it, and prints the `.sm` text or the error line that docs/lists.md
 describes. It prints nothing on success. The program is the one that ./plan runs,
 or the one that PLAN_PROGRAM names.
 """
