@@ -123,9 +123,9 @@ def same_senses(what, browser):
 
 
 def same_order(what, browser, title):
-    """The tree is read in the order that a list of docs/browser.md has below a title; a name there that
+    """The tree is read in the order that a list of reading_order.txt has below a title; a name there that
     ends with .. is the beginning of one."""
-    _, _, part = file_of("docs/browser.md").decode().partition(f"\n{title}\n")
+    _, _, part = file_of("tests/clients/reading_order.txt").decode().partition(f"\n{title}\n")
     rows = re.findall(r"^- ([\w-]+): (.*)$", part.split("\n\n")[0], re.MULTILINE)
     same(f"rows of the order of {what}", len(rows) > 8, True)
     at, found = 0, tree(browser)

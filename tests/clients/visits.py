@@ -1256,7 +1256,7 @@ def visit_sizes(browser):
 
 def visit_senses(browser):
     """Texts have a contrast of 4.5, in the light and in the dark; fields, buttons, regions and
-    pictures have names; the accessibility tree is read in the order that docs/browser.md tells."""
+    pictures have names; the accessibility tree is read in the order of reading_order.txt."""
     for n, tab in ((1, "table"), (6, "changes"), (8, "handin")):
         open_plan(browser, n)
         open_tab(browser, tab)
