@@ -25,7 +25,7 @@ from answers import Wrong
 def logged_of(words, folder, path):
     """The log of the solution of a file."""
     log = os.path.join(folder, "search.log")
-    subprocess.run([*words, "--log", log, path], stdout=subprocess.DEVNULL, check=True)
+    subprocess.run([*words, "--log", log, path], stdout=subprocess.DEVNULL, stderr=subprocess.PIPE, check=True)
     with open(log, encoding="ascii") as file:
         return file.read()
 
