@@ -22,7 +22,8 @@ impl Parts {
     /// Nothing in use before a horizon beside what is absent.
     pub fn new(alloc: Global, model: &Model, horizon: u32) -> Result<Parts, AllocError> {
         let cells = (horizon as u64).saturating_mul(model.kinds as u64);
-        let cells = if cells <= MOST_CELLS { cells } else { 0 };
+        // Without resources there is one cell, so that use counts as known.
+        let cells = if cells <= MOST_CELLS { cells.max(1) } else { 0 };
         let mut parts = Parts {
             horizon,
             used: vec![in alloc; 0; cells as usize]?,
