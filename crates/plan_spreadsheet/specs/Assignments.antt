@@ -1,5 +1,5 @@
--- Assignments: cells such as `crew[2],digger` in a column with names of resources. A column for each
--- name stands in its place.
+-- Assignments: cells such as `crew[2],digger` in a column with names of resources. A column for
+-- each name stands in its place.
 use Rattle.std.specs.Prelude.{ℕ, ◌+◌, ◌-◌, ◌==◌, ◌&&◌, ◌||◌, Bool, if◌then◌else◌, List, [], ◌∷◌, ◌++◌, Option, Some, None, Result, Ok, Err, codes, drop, is_some, length, map, nat_lt, not, take}
 use Rattle.std.specs.List.{list_any, position}
 use Rattle.plan_psplib.specs.Lines.{trim}

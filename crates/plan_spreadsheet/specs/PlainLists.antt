@@ -1,4 +1,4 @@
--- What a file becomes before it is read as a list.
+-- The plain list of a file, which is read in its place.
 use Rattle.std.specs.Prelude.{◌≡◌, ◌≢◌, ◌⊎◌, ℕ, List, [], Option, Some, None, Result, Ok, Err, Vec, IsNone, map}
 use Rattle.std.specs.Option.{option_map_or}
 use Rattle.std.specs.String.{string_bytes}
@@ -24,6 +24,7 @@ use Rattle.plan_spreadsheet.specs.declared.list.PlainList as declared
 use Rattle.plan_spreadsheet.specs.declared.rewriting.Rewriting as rewriting
 use Rattle.plan_spreadsheet.specs.PlainRows.{ignored_headers, plain_rows}
 use Rattle.plan_spreadsheet.specs.Rows.{Spells}
+use Rattle.plan_spreadsheet.specs.Spelling.{IsTooLong}
 
 -- a text is refused as a list, and not for a cycle
 abbrev pub IsRefused : List Override → List ℕ → Type 0
@@ -107,14 +108,26 @@ fault_of books.OldExcel = faults.OldExcel
 fault_of books.OpenDocument = faults.OpenDocument
 fault_of books.Project = faults.Project
 
--- the errors of writing a list: out of memory may come at any time
-abbrev pub IsWant : SpreadsheetFault → Type 0
-IsWant fault = (fault ≡ faults.Memory) ⊎ (fault ≡ faults.TooLong)
+-- the errors of writing rows: out of memory may come at any time
+abbrev pub IsUnwritten : List Row → SpreadsheetFault → Type 0
+IsUnwritten rows fault = (fault ≡ faults.Memory) ⊎ ((fault ≡ faults.TooLong) × IsTooLong rows)
+
+-- a list with rows becomes too long; a text without rows stays
+abbrev pub BecomesTooLong : List Override → Result (List Row) Fault → Type 0
+BecomesTooLong overrides (Err fault) = ⊥
+BecomesTooLong overrides (Ok rows) = IsTooLong (plain_rows overrides rows)
+
+-- the errors of rewriting a list
+abbrev pub IsUnrewritten : List Override → Result (List Row) Fault → SpreadsheetFault → Type 0
+IsUnrewritten overrides read fault =
+    (fault ≡ faults.Memory) ⊎ ((fault ≡ faults.TooLong) × BecomesTooLong overrides read)
 
 -- only a list that is refused can become too long
 abbrev pub IsNoText : List Override → List ℕ → SpreadsheetFault → Type 0
 IsNoText overrides text fault =
-    (fault ≡ faults.Memory) ⊎ ((fault ≡ faults.TooLong) × IsRefused overrides text)
+    (fault ≡ faults.Memory)
+    ⊎ ((fault ≡ faults.TooLong) × IsRefused overrides text
+    × BecomesTooLong overrides (rows_read text))
 
 -- what a file is refused for: it is a workbook, or there is no text
 abbrev pub IsNoPlain : List Override → List ℕ → SpreadsheetFault → Type 0

@@ -37,12 +37,20 @@ scaled_words unit labels before [] = before
 scaled_words unit labels before (word ∷ words) =
     scaled_words unit labels ((before ++ scaled_word unit labels word) ++ 32 ∷ []) words
 
+-- a text, or a cell in the place of an empty one
+abbrev pub or_cell : List ℕ → List ℕ → List ℕ
+or_cell text cell = if length text == 0 then cell else text
+
+-- a cell of predecessors in another unit; one without words stays
+abbrev pub scaled_predecessors : ℕ → List Label → List ℕ → List ℕ
+scaled_predecessors unit labels cell = or_cell (scaled_words unit labels [] (words (spaced_from [] cell))) cell
+
 -- ---- rows
 
 -- a cell of a column in another unit
 abbrev pub scaled_cell : ℕ → List Label → Column → List ℕ → List ℕ
 scaled_cell unit labels columns.Duration cell = in_units unit (trim cell)
-scaled_cell unit labels columns.Predecessors cell = scaled_words unit labels [] (words (spaced_from [] cell))
+scaled_cell unit labels columns.Predecessors cell = scaled_predecessors unit labels cell
 scaled_cell unit labels columns.Id cell = cell
 scaled_cell unit labels columns.Name cell = cell
 scaled_cell unit labels columns.Resource cell = cell

@@ -45,7 +45,8 @@ decimal_at most None text = whole (small greatest (number text))
 decimal_at most (Some end) text =
     if is_pointed (drop end text) then joined_if most (take end text) (drop 1 (drop end text)) else None
 
--- the thousandths of a decimal number below 1,000,001, with at most so many digits behind its point or comma
+-- the thousandths of a decimal number below 1,000,001, with at most so many digits behind its point
+-- or comma
 abbrev pub decimal : ℕ → List ℕ → Option ℕ
 decimal most text = decimal_at most (digits_end text) text
 
