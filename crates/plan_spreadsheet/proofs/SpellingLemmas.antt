@@ -3,7 +3,7 @@ use Rattle.std.proofs.Common.{◌≡◌, ◌⊎◌, inl, inr, ◌≤◌, ◌<◌
 use Rattle.std.specs.Prelude.{◌==◌, filter, fold, if◌then◌else◌, not, replicate, nat_le, count_by}
 use Rattle.std.specs.List.{list_all, slice_split}
 use Rattle.std.specs.Str.{bytes_eq, is_utf8}
-use Rattle.std.proofs.lemmas.Bool.{and_from, and_parts, cases_Bool, eqb-true, le-leb}
+use Rattle.std.proofs.lemmas.Bool.{and_from, and_parts, cases_Bool, eqb-true, le-leb, ne_eqb}
 use Rattle.std.proofs.lemmas.Bool.Decides.{Decides-eqb, leb_tells}
 use Rattle.std.proofs.lemmas.Slice.Eq.{bytes_eq-Decides}
 use Rattle.std.proofs.lemmas.List.{append-nil}
@@ -16,15 +16,25 @@ use Rattle.plan_table.specs.Csv.{Machine, Row, delimiter_of, fed, first_filled, 
 use Rattle.plan_table.specs.Entries.{is_blank_row}
 use Rattle.plan_table.specs.Listing.{rows_read}
 use Rattle.plan_table.specs.Reading.{Fault}
+use Rattle.plan_spreadsheet.specs.declared.fault.SpreadsheetFault.TheVariants as faults
+use Rattle.plan_spreadsheet.specs.PlainLists.{IsUnwritten}
 use Rattle.plan_spreadsheet.specs.Rows.{Spells, filled, is_filled, same_cells, same_row, same_rows}
 use Rattle.plan_spreadsheet.specs.Spelling.{AreInOrder, AreWritable, IsTooLong, cells_from, end_line, feeds, feeds_in, gap, no_row, quoted_byte, quoted_from, rows_from, spelling, start_mark, with_cell, with_row, with_tab}
 
 -- ---- the separator
 
+nonzero : (n : ℕ) → (suc n == 0) ≡ false
+nonzero n = ne_eqb (suc n) 0 (λ same. omega (arith, same))
+
+by_test : (part : List ℕ) (lines : List (List ℕ)) (empty : Bool) → empty ≡ false
+    → delimiter_of (if empty then first_filled lines else 34 ∷ 34 ∷ 9 ∷ 13 ∷ part) ≡ 9
+by_test part lines true other = let no : true ≡ false = other in cc no
+by_test part lines false other = refl
+
 by_trimmed : (part trimmed : List ℕ) (lines : List (List ℕ))
     → delimiter_of (if length (before_trimmed 34 trimmed) == 0 then first_filled lines else 34 ∷ 34 ∷ 9 ∷ 13 ∷ part) ≡ 9
 by_trimmed part [] lines = refl
-by_trimmed part (byte ∷ trimmed) lines = refl
+by_trimmed part (byte ∷ trimmed) lines = by_test part lines (length (34 ∷ byte ∷ trimmed) == 0) (nonzero (length (byte ∷ trimmed)))
 
 by_line : (part : List ℕ) (lines : List (List ℕ)) → delimiter_of (first_filled ((34 ∷ 34 ∷ 9 ∷ 13 ∷ part) ∷ lines)) ≡ 9
 by_line part lines = by_trimmed part (trim_end (34 ∷ 9 ∷ 13 ∷ part)) lines
@@ -75,9 +85,12 @@ cell_extends text cell =
     behind_both text (text ++ 34 ∷ []) (with_cell text cell) (34 ∷ [], refl)
     (behind_both (text ++ 34 ∷ []) (quoted_from (text ++ 34 ∷ []) cell) (with_cell text cell) (quoted_extends (text ++ 34 ∷ []) cell) (34 ∷ [], refl))
 
+tab_by : (first : Bool) (text : List ℕ) → Extends text (if first then text else text ++ 9 ∷ [])
+tab_by true text = same_text text
+tab_by false text = (9 ∷ [], refl)
+
 tab_extends : (k : ℕ) (text : List ℕ) → Extends text (with_tab k text)
-tab_extends zero text = same_text text
-tab_extends (suc k) text = (9 ∷ [], refl)
+tab_extends k text = tab_by (k == 0) text
 
 cells_extend : (text : List ℕ) (k : ℕ) (cells : List (List ℕ)) → Extends text (cells_from text k cells)
 unfolding cells_from
@@ -175,8 +188,7 @@ abbrev row_at : ℕ → List (List ℕ) → Row
 row_at line cells = record { line = line; cells = cells }
 
 no_tab : (k : ℕ) → (k + 1 == 0) ≡ false
-no_tab zero = refl
-no_tab (suc k) = refl
+no_tab k = ne_eqb (k + 1) 0 (λ same. omega (arith, same))
 
 tabbed : (k : ℕ) (text : List ℕ) → with_tab (k + 1) text ≡ text ++ 9 ∷ []
 tabbed k text = rw (no_tab k) refl
@@ -324,11 +336,17 @@ spelt_rows rows good short =
     (mark_row ∷ rows, rw (fits, good.utf8, records) refl, all_filled rows good.full)
 
 -- a text of rows that isn't read as them is too long
-pub too_long : (rows : List Row) (text : List ℕ) → text ≡ spelling rows → (Spells text rows → ⊥) → IsTooLong rows
-too_long rows text is no good = elim (leb_tells (length (spelling rows)) longest_text) [
-  | inl short ↦ absurd (no (subst (λ t. Spells t rows) (sym is) (spelt_rows rows good short.1)))
+too_long : (rows : List Row) (text : List ℕ) → text ≡ spelling rows → (Spells text rows → ⊥) → IsTooLong rows
+too_long rows text is none good = elim (leb_tells (length (spelling rows)) longest_text) [
+  | inl short ↦ absurd (none (subst (λ t. Spells t rows) (sym is) (spelt_rows rows good short.1)))
   | inr long ↦ long.1
 ]
+
+-- rows whose text isn't read as them
+pub unwritten : (rows : List Row) (text written : List ℕ) (right : Bool) → text ≡ written → written ≡ spelling rows
+    → not right ≡ true → (right ≡ false → Spells text rows → ⊥) → IsUnwritten rows faults.TooLong
+unwritten rows text written true same is wrong unread = let no : false ≡ true = wrong in cc no
+unwritten rows text written false same is wrong unread = inr (refl, too_long rows text (same ∙ is) (unread refl))
 
 -- ---- rows that are the same
 
@@ -345,7 +363,7 @@ rows_alike (row ∷ rows) =
     (and_from (row.line == row.line) (same_cells row.cells row.cells) ((Decides-eqb row.line row.line).1 refl) (cells_alike row.cells))
     (rows_alike rows)
 
-from_ok : Result (List Row) Fault → List Row
+abbrev from_ok : Result (List Row) Fault → List Row
 from_ok (Ok rows) = rows
 from_ok (Err fault) = []
 

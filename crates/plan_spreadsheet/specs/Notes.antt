@@ -46,7 +46,8 @@ with_note body before k head = if is_note body k head then before ++ k ∷ [] el
 -- which of the columns from column k on are notes, behind others
 unfoldable pub notes_from : Body → List ℕ → ℕ → List Head → List ℕ
 notes_from body before k [] = before
-notes_from body before k (head ∷ heads) = notes_from body (with_note body before k head) (k + 1) heads
+notes_from body before k (head ∷ heads) =
+    notes_from body (with_note body before k head) (k + 1) heads
 
 -- the notes of a list with these columns
 abbrev pub notes_under : List Override → List Row → List Head → List ℕ

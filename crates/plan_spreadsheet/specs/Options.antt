@@ -97,7 +97,8 @@ header_cells (first ∷ rows) = first.cells
 
 abbrev pub in_unit : Option ℕ → List Override → Row → List Row → List Row
 in_unit None overrides first rows = rows
-in_unit (Some unit) overrides first rows = if unit == 0 then rows else scaled unit overrides first rows
+in_unit (Some unit) overrides first rows =
+    if unit == 0 then rows else scaled unit overrides first rows
 
 abbrev pub prepared_under : Options → List Override → Row → List Row → List Row
 prepared_under o overrides first rows = filled (first ∷ in_unit o.unit overrides first rows)

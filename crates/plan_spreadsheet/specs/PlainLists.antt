@@ -45,7 +45,8 @@ abbrev pub text_in : rewriting.Rewriting → List ℕ → List ℕ
 text_in r text = option_map_or (λ new. new.items) r.text text
 
 -- a list of activities becomes its plain rows; a text without rows stays
-abbrev pub IsRewritten : List Override → List ℕ → Result (List Row) Fault → rewriting.Rewriting → Type 0
+abbrev pub IsRewritten : List Override → List ℕ → Result (List Row) Fault → rewriting.Rewriting
+    → Type 0
 IsRewritten overrides text (Err fault) r = IsNone r.text × (r.ignored.items ≡ [])
 IsRewritten overrides text (Ok rows) r =
     Spells (text_in r text) (plain_rows overrides rows)
@@ -95,7 +96,8 @@ IsPlain overrides bytes p =
 
 -- a list that plan_table accepts stays
 abbrev pub KeepsAccepted : List Override → List ℕ → declared.PlainList → Type 0
-KeepsAccepted overrides bytes p = (t : Table) → table_read_with overrides bytes ≡ Ok t → IsNone p.text
+KeepsAccepted overrides bytes p =
+    (t : Table) → table_read_with overrides bytes ≡ Ok t → IsNone p.text
 
 -- a project file and a job shop file stay
 abbrev pub KeepsFiles : List ℕ → declared.PlainList → Type 0

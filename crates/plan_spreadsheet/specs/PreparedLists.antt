@@ -36,15 +36,18 @@ HasHeaders o rows =
     (missing_rename (header_cells rows) 0 o.renames ≡ None) × (missing_ignored (header_cells rows) 0 o.ignored ≡ None)
 
 -- rows become the plain list of a text that spells them as the options say
-abbrev pub IsPreparedList : Options → List Override → Encoding → List Row → declared.PlainList → Type 0
+abbrev pub IsPreparedList : Options → List Override → Encoding → List Row → declared.PlainList
+    → Type 0
 IsPreparedList o overrides e rows p =
     HasHeaders o rows × ((text : Vec ℕ Global) × Spells text.items (prepared o overrides rows)
     × ((q : declared.PlainList) × IsPlain overrides text.items q × (p ≡ of_file q e text)))
 
 -- a text without records becomes what it becomes without options
-abbrev pub IsPreparedBy : Options → List Override → List ℕ → Result (List Row) Fault → declared.PlainList → Type 0
+abbrev pub IsPreparedBy : Options → List Override → List ℕ → Result (List Row) Fault
+    → declared.PlainList → Type 0
 IsPreparedBy o overrides bytes (Err fault) p = IsPlain overrides bytes p
-IsPreparedBy o overrides bytes (Ok rows) p = IsPreparedList o overrides (encoding bytes) (filled rows) p
+IsPreparedBy o overrides bytes (Ok rows) p =
+    IsPreparedList o overrides (encoding bytes) (filled rows) p
 
 -- what a file becomes
 abbrev pub IsPlainWith : Options → List Override → List ℕ → declared.PlainList → Type 0
@@ -78,7 +81,8 @@ IsNoList o overrides rows fault =
     ⊎ ((fault ≡ refusal.Plain faults.TooLong) × IsTooLong (prepared o overrides rows))
     ⊎ ((text : List ℕ) × Spells text (prepared o overrides rows) × IsNoPlainText overrides text fault)
 
-abbrev pub IsNoPlainBy : Options → List Override → List ℕ → Result (List Row) Fault → OptionsFault → Type 0
+abbrev pub IsNoPlainBy : Options → List Override → List ℕ → Result (List Row) Fault
+    → OptionsFault → Type 0
 IsNoPlainBy o overrides bytes (Err read) fault = IsNoPlainText overrides bytes fault
 IsNoPlainBy o overrides bytes (Ok rows) fault = IsNoList o overrides (filled rows) fault
 

@@ -23,6 +23,7 @@ fn push_byte(text: &mut Vec<u8>, byte: u8) -> Result<(), AllocError>
 }
 
 // Appends a cell between quotes.
+#[tactic(auto, unfolding(crate::specs::Spelling::quoted_from))]
 fn push_cell(text: &mut Vec<u8>, cell: &[u8]) -> Result<(), AllocError>
     ensures { OnOk result (text.new.items ≡ spec.with_cell text.old.items cell.now) }
 {
@@ -46,6 +47,7 @@ fn push_tab(text: &mut Vec<u8>, k: usize) -> Result<(), AllocError>
 }
 
 // Appends the cells of a row.
+#[tactic(auto, unfolding(crate::specs::Spelling::cells_from))]
 fn push_cells(text: &mut Vec<u8>, cells: &[Vec<u8>]) -> Result<(), AllocError>
     ensures { OnOk result (text.new.items ≡ spec.cells_from text.old.items 0
         (map (λ cell. cell.items) cells.now)) }
@@ -142,7 +144,6 @@ pub fn spells(alloc: Global, text: &[u8], rows: &[Row]) -> Result<bool, AllocErr
 
 /// Writes rows as a text. The text is read again before it is returned. It is read as these rows
 /// unless it is too long.
-#[tactic(auto, using(crate::proofs::SpellingLemmas::too_long))]
 pub fn write_rows(alloc: Global, rows: &[Row]) -> Result<Vec<u8>, SpreadsheetFault>
     ensures text { IfOk result (λ text. Spells text.items (map row_of rows.now)) }
     ensures errors { IfErr result (IsUnwritten (map row_of rows.now)) }

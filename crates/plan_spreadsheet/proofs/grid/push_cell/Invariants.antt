@@ -5,4 +5,4 @@ use Rattle.plan_spreadsheet.proofs.grid.push_cell.Given as goal
 -- the bytes that are left, behind the text so far, give the whole cell
 abbrev pub invariant-loop-byte : goal.invariant-loop-byte
 invariant-loop-byte l =
-    quoted_from l.text.new.items (drop l.byte-index l.cell) ≡ quoted_from (l.text.old.items ++ 34 ∷ []) l.cell
+    quoted_from l.text.items (drop l.byte-index l.cell) ≡ quoted_from (l.fn.text.items ++ 34 ∷ []) l.cell
