@@ -344,9 +344,8 @@ too_long rows text is none good = elim (leb_tells (length (spelling rows)) longe
 
 -- rows whose text isn't read as them
 pub unwritten : (rows : List Row) (text written : List ℕ) (right : Bool) → text ≡ written → written ≡ spelling rows
-    → not right ≡ true → (right ≡ false → Spells text rows → ⊥) → IsUnwritten rows faults.TooLong
-unwritten rows text written true same is wrong unread = let no : false ≡ true = wrong in cc no
-unwritten rows text written false same is wrong unread = inr (refl, too_long rows text (same ∙ is) (unread refl))
+    → right ≡ false → (right ≡ false → Spells text rows → ⊥) → IsUnwritten rows faults.TooLong
+unwritten rows text written right same is wrong unread = inr (refl, too_long rows text (same ∙ is) (unread wrong))
 
 -- ---- rows that are the same
 
