@@ -86,8 +86,7 @@ class Form:
         self.separator = random.choice(",,;;\t")
         self.has_ids = random.random() < 0.7
         self.by_names = random.random() < 0.2
-        # Without a name in any row the column would be a resource of its own (T10).
-        self.as_names = random.random() < 0.3 and any(any(a.needs.values()) for a in drawn.activities)
+        self.as_names = random.random() < 0.3
         self.names_header = random.choice(RESOURCE_NAMES)
         self.days = random.choice(DAYS)
         self.notes = random.sample(list(NOTES), random.choice((0, 0, 1, 2)))
@@ -266,6 +265,8 @@ def try_export(random, folder):
     what = f"{data!r} {given}"
     if status:
         raise Wrong(f"{what}\n  refused: {errors!r}")
+    if form.as_names and not drawn.capacities and form.names_header.encode() not in errors:
+        raise Wrong(f"{what}\n  an empty column isn't ignored: {errors!r}")
     found = plan_of(output.decode(), drawn, form.has_ids)
     same(what, normal(found), normal(drawn))
 

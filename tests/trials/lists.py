@@ -314,8 +314,6 @@ def try_list(draw, folder):
     data = drawn_list(draw, is_shop)
     what, kind = f"{data!r}"[:3000], kind_of(data)
     written(folder, "list.csv", data)
-    if kind == "unknown":
-        return kind
     try_plain(what, folder, is_shop)
     if kind == "none":
         status, output, errors = plan(folder, "solve", "list.csv")

@@ -437,13 +437,16 @@ def is_utf8(data):
         return False
 
 
+def closed_records(text, delimiter):
+    """The records of a text. A quote that isn't closed ends with the text."""
+    found = records(text, delimiter)
+    return records(text + '"', delimiter) if found and found[-1][1] is None else found
+
+
 def kind_in(data):
-    """The kind of list that a text is by its header: `activities`, `orders` or none. Of a header in
-    which a quote isn't closed it is unknown."""
+    """The kind of list that a text is by its header: `activities`, `orders` or none."""
     text = data.removeprefix(b"\xef\xbb\xbf").decode("latin-1")
-    for _, cells in records(text, delimiter_of(text)):
-        if cells is None:
-            return "unknown"
+    for _, cells in closed_records(text, delimiter_of(text)):
         keys = [lower(cell.strip(BLANKS).encode("latin-1").decode("utf-8", "replace")) for cell in cells]
         if any(keys):
             if "duration" in [COLUMNS.get(key, KINDS.get(key)) for key in keys]:
@@ -649,9 +652,15 @@ def plain_rows(found, given):
         columns, names, _ = open_columns(found, given)
     except Refused:
         return found, []
-    notes = [k for k, key in columns.items() if key == "slack" or key not in SUCCESSORS
-             and any(cell_at(cells, k) and number_of(cell_at(cells, k)) is None for _, cells in found[1:])]
+    notes = [k for k, key in columns.items() if is_note(key, [cell_at(cells, k) for _, cells in found[1:]])]
     return with_waits(without(found, notes), given), [names[k] for k in notes]
+
+
+def is_note(key, cells):
+    """Whether a column that has no capacity is a note."""
+    if key in ASSIGNMENTS and not any(cells) or key == "slack":
+        return True
+    return key not in SUCCESSORS and any(cell and number_of(cell) is None for cell in cells)
 
 
 def plain_list(found, is_list, given):
@@ -1025,14 +1034,8 @@ def try_drawn_tables(count, seed):
         options = drawn_options(draw, headers) if draw.random() < 0.2 else None
         words = [f"--capacity={name}={amount}" for name, amount in given.items()] + (options.words() if options else [])
         answer, right = imported(data, words), wanted(data, given, options)
-        if answer != right and not (options and is_misnamed(answer, right)):
+        if answer != right:
             raise Wrong(f"table {n} of seed {seed}, {words}: {data!r}\n  gave {answer!r}\n  not {right!r}")
-
-
-def is_misnamed(answer, right):
-    """Whether a list is refused for its length and not for its header (docs/known-gaps.md, "Options of
-    lists"): with options, a text is T1 if its first row isn't the header that it seems to be."""
-    return answer == (1, b"", b"T1 too long\n") and right[:2] == (1, b"") and right[2].startswith(b"T3 ")
 
 
 def main():

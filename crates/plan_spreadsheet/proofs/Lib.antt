@@ -1,4 +1,5 @@
 pub mod RowLemmas
+pub mod SpellingLemmas
 pub mod AcceptanceLemmas
 pub mod ListLemmas
 pub mod PreparedLemmas

@@ -1,4 +1,4 @@
--- What a file becomes.
+-- The plain list of a file.
 use Rattle.std.proofs.Common.{◌≡◌, ◌⊎◌, inl, inr, ℕ, List, [], Option, Some, None, Vec, Result, Ok, Err, map, refl, sym, ap, ◌∙◌, subst}
 use Rattle.std.specs.Prelude.{IfSome, IsNone}
 use Rattle.std.specs.Option.{option_map_or}
@@ -18,7 +18,7 @@ use Rattle.plan_table.specs.Reading.{Fault}
 use Rattle.plan_spreadsheet.specs.declared.fault.SpreadsheetFault.{SpreadsheetFault}
 use Rattle.plan_spreadsheet.specs.declared.list.PlainList.{PlainList}
 use Rattle.plan_spreadsheet.specs.declared.rewriting.Rewriting.{Rewriting}
-use Rattle.plan_spreadsheet.specs.PlainLists.{IsDecoded, IsNoPlain, IsNoText, IsPlain, IsReadable, IsRefused, IsRewritten, IsTextOf, IsWant, KeepsAccepted, KeepsFiles, Stays, fault_of, joined, or_else, text_in, text_of}
+use Rattle.plan_spreadsheet.specs.PlainLists.{IsDecoded, IsNoPlain, IsNoText, IsPlain, IsReadable, IsRefused, IsRewritten, IsTextOf, IsUnrewritten, IsUnwritten, KeepsAccepted, KeepsFiles, Stays, fault_of, joined, or_else, text_in, text_of}
 use Rattle.plan_spreadsheet.proofs.AcceptanceLemmas.{not_refused}
 use Rattle.plan_spreadsheet.specs.PlainRows.{ignored_headers, plain_rows}
 use Rattle.plan_spreadsheet.specs.Rows.{Spells, filled}
@@ -77,11 +77,20 @@ pub unread : (overrides : List Override) (text : List ℕ) (fault : Fault) (r : 
     → IsNone r.text → r.ignored.items ≡ [] → IsRewritten overrides text (rows_read text) r
 unread overrides text fault r is none empty = subst (λ read. IsRewritten overrides text read r) (sym is) (none, empty)
 
+-- a list with rows can't be rewritten if its plain rows can't be written
+pub unrewritten : (overrides : List Override) (text : List ℕ) (rows : List Row) (fault : SpreadsheetFault) → rows_read text ≡ Ok rows
+    → IsUnwritten (plain_rows overrides rows) fault → IsUnrewritten overrides (rows_read text) fault
+unrewritten overrides text rows fault is none = subst (λ read. IsUnrewritten overrides read fault) (sym is) (by_fault none)
+  where
+    by_fault : IsUnwritten (plain_rows overrides rows) fault → IsUnrewritten overrides (Ok rows) fault
+    by_fault (inl memory) = inl memory
+    by_fault (inr long) = inr long
+
 -- a list that is refused can have no text
 pub no_text : (overrides : List Override) (text : List ℕ) (fault : SpreadsheetFault) → IsRefused overrides text
-    → IsWant fault → IsNoText overrides text fault
+    → IsUnrewritten overrides (rows_read text) fault → IsNoText overrides text fault
 no_text overrides text fault refused (inl memory) = inl memory
-no_text overrides text fault refused (inr long) = inr (long, refused)
+no_text overrides text fault refused (inr long) = inr (long.0, refused, long.1)
 
 -- the same for the text of a file
 pub no_text_of : (overrides : List Override) (bytes text : List ℕ) (d : Decoded) (fault : SpreadsheetFault)

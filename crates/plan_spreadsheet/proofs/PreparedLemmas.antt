@@ -12,14 +12,16 @@ use Rattle.plan_table.specs.Kinds.{Decides, IsPlanFile}
 use Rattle.plan_table.specs.Listing.{rows_read}
 use Rattle.plan_table.specs.Overrides.{Override}
 use Rattle.plan_table.specs.Reading.{Fault}
+use Rattle.plan_spreadsheet.specs.declared.fault.SpreadsheetFault.{SpreadsheetFault}
 use Rattle.plan_spreadsheet.specs.declared.fault.SpreadsheetFault.TheVariants as faults
 use Rattle.plan_spreadsheet.specs.declared.list.PlainList.{PlainList}
 use Rattle.plan_spreadsheet.specs.declared.prepared.OptionsFault.{OptionsFault}
 use Rattle.plan_spreadsheet.specs.declared.prepared.OptionsFault.TheVariants as refusal
 use Rattle.plan_spreadsheet.specs.Options.{Options, are_none, prepared}
-use Rattle.plan_spreadsheet.specs.PlainLists.{IsPlain}
+use Rattle.plan_spreadsheet.specs.PlainLists.{IsPlain, IsUnwritten}
 use Rattle.plan_spreadsheet.specs.PreparedLists.{HasHeaders, IsNoList, IsNoPlainBy, IsNoPlainText, IsNoPlainWith, IsPlainWith, IsPreparedBy, IsPreparedList, IsUntouched, KeepsPlain, of_file}
 use Rattle.plan_spreadsheet.specs.Rows.{Spells, filled}
+use Rattle.plan_spreadsheet.specs.Spelling.{IsTooLong}
 
 -- ---- files that options don't change
 
@@ -65,7 +67,15 @@ list_made o overrides e rows new given text read q p has deref is spells same pl
 abbrev pub IsMemory : OptionsFault → Type 0
 IsMemory e = e ≡ refusal.Plain faults.Memory
 
--- or the text of the rows becomes none
+-- or the rows have no text
+pub no_room : (o : Options) (overrides : List Override) (rows new given : List Row) (fault : SpreadsheetFault) (e : OptionsFault)
+    → given ≡ new → new ≡ prepared o overrides rows → IsUnwritten given fault → e ≡ refusal.Plain fault
+    → IsMemory e ⊎ IsNoList o overrides rows e
+no_room o overrides rows new given fault e deref is (inl memory) made = inl (made ∙ ap refusal.Plain memory)
+no_room o overrides rows new given fault e deref is (inr long) made =
+    inr (inr (inl (made ∙ ap refusal.Plain long.0, subst IsTooLong (deref ∙ is) long.1)))
+
+-- or their text becomes no plain list
 pub no_list : (o : Options) (overrides : List Override) (rows new given : List Row) (text read : List ℕ) (e : OptionsFault)
     → given ≡ new → new ≡ prepared o overrides rows → Spells text given → read ≡ text → IsNoPlainText overrides read e
     → IsMemory e ⊎ IsNoList o overrides rows e

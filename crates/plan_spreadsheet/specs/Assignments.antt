@@ -1,5 +1,5 @@
--- Assignments: cells such as `crew[2],digger` in a column with names of resources. A column for each
--- name stands in its place.
+-- Assignments: cells such as `crew[2],digger` in a column with names of resources. A column for
+-- each name stands in its place.
 use Rattle.std.specs.Prelude.{ℕ, ◌+◌, ◌-◌, ◌==◌, ◌&&◌, ◌||◌, Bool, if◌then◌else◌, List, [], ◌∷◌, ◌++◌, Option, Some, None, Result, Ok, Err, codes, drop, is_some, length, map, nat_lt, not, take}
 use Rattle.std.specs.List.{list_any, position}
 use Rattle.plan_psplib.specs.Lines.{trim}
@@ -66,7 +66,8 @@ amount_of part = amount_at (bracket part) part
 
 -- names with that of a part, if it is a new one
 abbrev pub with_name : List (List ℕ) → List ℕ → List (List ℕ)
-with_name before name = if list_any (λ other. same_name other name) before then before else before ++ name ∷ []
+with_name before name =
+    if list_any (λ other. same_name other name) before then before else before ++ name ∷ []
 
 -- the names of parts, behind others
 unfoldable pub names_in : List (List ℕ) → List (List ℕ) → List (List ℕ)
@@ -131,7 +132,8 @@ is_assignments body k head =
 -- the first of the columns from column k on that has names of resources
 unfoldable pub place_from : Body → ℕ → List Head → Option ℕ
 place_from body k [] = None
-place_from body k (head ∷ heads) = if is_assignments body k head then Some k else place_from body (k + 1) heads
+place_from body k (head ∷ heads) =
+    if is_assignments body k head then Some k else place_from body (k + 1) heads
 
 -- ---- the list
 
@@ -162,15 +164,18 @@ abbrev pub assigned_under : Body → List Head → Row → List Row
 assigned_under body heads first = assigned_at body heads first (place_from body 0 heads)
 
 abbrev pub body_in : List Override → List Row → List Head → Body
-body_in overrides rows heads = record { overrides = overrides; rows = rows; place = ids_place overrides heads }
+body_in overrides rows heads =
+    record { overrides = overrides; rows = rows; place = ids_place overrides heads }
 
 -- a list whose header can't be read stays
 abbrev pub assigned_by : List Override → Row → List Row → Result (List Head) Fault → List Row
 assigned_by overrides first rows (Err fault) = first ∷ rows
-assigned_by overrides first rows (Ok heads) = assigned_under (body_in overrides rows heads) (settled overrides rows heads) first
+assigned_by overrides first rows (Ok heads) =
+    assigned_under (body_in overrides rows heads) (settled overrides rows heads) first
 
 abbrev pub assigned_behind : List Override → Row → List Row → List Row
-assigned_behind overrides first rows = assigned_by overrides first rows (heads_at first.line [] first.cells)
+assigned_behind overrides first rows =
+    assigned_by overrides first rows (heads_at first.line [] first.cells)
 
 -- a list with columns in place of the names of resources; the first row is the header
 abbrev pub with_assignments : List Override → List Row → List Row

@@ -13,7 +13,8 @@ use Rattle.plan_spreadsheet.specs.Rows.{emptied}
 
 -- headers of columns with levels, and with numbers such as 1.2 (Microsoft Project, GanttProject)
 abbrev pub is_level_word : List ℕ → Bool
-is_level_word key = same_name (codes "outline level") key || same_name (codes "gliederungsebene") key
+is_level_word key =
+    same_name (codes "outline level") key || same_name (codes "gliederungsebene") key
 
 abbrev pub is_outline_word : List ℕ → Bool
 is_outline_word key =
@@ -33,7 +34,8 @@ with_outline body before k head = if is_outline body k head then before ++ k ∷
 -- which of the columns from column k on tell how deep the rows are, behind others
 unfoldable pub outlines_from : Body → List ℕ → ℕ → List Head → List ℕ
 outlines_from body before k [] = before
-outlines_from body before k (head ∷ heads) = outlines_from body (with_outline body before k head) (k + 1) heads
+outlines_from body before k (head ∷ heads) =
+    outlines_from body (with_outline body before k head) (k + 1) heads
 
 -- a column that tells how deep the rows are: by levels, or by numbers such as 1.2
 pub record Outline : Type 0 where
@@ -102,18 +104,22 @@ ungrouped_under body heads =
 
 -- a list without groups, and without the columns that tell which they are
 abbrev pub under : Body → List Head → Row → List Row
-under body heads first = map (emptied (outlines_from body [] 0 heads)) (first ∷ ungrouped_under body heads)
+under body heads first =
+    map (emptied (outlines_from body [] 0 heads)) (first ∷ ungrouped_under body heads)
 
 abbrev pub body_in : List Override → List Row → List Head → Body
-body_in overrides rows heads = record { overrides = overrides; rows = rows; place = ids_place overrides heads }
+body_in overrides rows heads =
+    record { overrides = overrides; rows = rows; place = ids_place overrides heads }
 
 -- a list whose header can't be read stays
 abbrev pub under_if : List Override → Row → List Row → Result (List Head) Fault → List Row
 under_if overrides first rows (Err fault) = first ∷ rows
-under_if overrides first rows (Ok heads) = under (body_in overrides rows heads) (settled overrides rows heads) first
+under_if overrides first rows (Ok heads) =
+    under (body_in overrides rows heads) (settled overrides rows heads) first
 
 abbrev pub without_groups_behind : List Override → Row → List Row → List Row
-without_groups_behind overrides first rows = under_if overrides first rows (heads_at first.line [] first.cells)
+without_groups_behind overrides first rows =
+    under_if overrides first rows (heads_at first.line [] first.cells)
 
 -- a list without its groups; the first row is the header
 abbrev pub without_groups : List Override → List Row → List Row

@@ -1,4 +1,5 @@
 pub mod Rows
+pub mod Spelling
 pub mod Notes
 pub mod Groups
 pub mod Lags

@@ -1,4 +1,5 @@
--- Options: how the headers of a list are called, which columns are left out, and the unit of durations.
+-- Options: new words for the headers of a list, columns that are left out, and the unit of
+-- durations.
 use Rattle.std.specs.Prelude.{ℕ, ◌+◌, ◌==◌, ◌&&◌, Bool, if◌then◌else◌, List, [], ◌∷◌, Option, Some, None, is_none, length, map, not}
 use Rattle.std.specs.List.{list_any}
 use Rattle.plan_psplib.specs.Lines.{trim}
@@ -7,6 +8,7 @@ use Rattle.plan_table.specs.Csv.{Row}
 use Rattle.plan_table.specs.Overrides.{Override}
 use Rattle.plan_spreadsheet.specs.declared.options.Options as declared
 use Rattle.plan_spreadsheet.specs.declared.options.Rename as renaming
+use Rattle.plan_spreadsheet.specs.Rows.{filled}
 use Rattle.plan_spreadsheet.specs.Scaling.{scaled}
 use Rattle.plan_spreadsheet.specs.Units.{decimal}
 
@@ -19,7 +21,8 @@ pub record Rename : Type 0 where
 abbrev pub rename_of : renaming.Rename → Rename
 rename_of r = record { header = r.header.now; word = r.word.now }
 
--- new words for headers, the headers of columns that are left out, and a unit in thousandths of a day
+-- new words for headers, the headers of columns that are left out, and a unit in thousandths of a
+-- day
 pub record Options : Type 0 where
   pub renames : List Rename
   pub ignored : List (List ℕ)
@@ -94,12 +97,14 @@ header_cells (first ∷ rows) = first.cells
 
 abbrev pub in_unit : Option ℕ → List Override → Row → List Row → List Row
 in_unit None overrides first rows = rows
-in_unit (Some unit) overrides first rows = if unit == 0 then rows else scaled unit overrides first rows
+in_unit (Some unit) overrides first rows =
+    if unit == 0 then rows else scaled unit overrides first rows
 
 abbrev pub prepared_under : Options → List Override → Row → List Row → List Row
-prepared_under o overrides first rows = first ∷ in_unit o.unit overrides first rows
+prepared_under o overrides first rows = filled (first ∷ in_unit o.unit overrides first rows)
 
--- rows as the options say; the first one is the header
+-- rows with content as the options say; the first one is the header, unless all its columns are
+-- left out
 abbrev pub prepared : Options → List Override → List Row → List Row
 prepared o overrides [] = []
 prepared o overrides (first ∷ rows) = prepared_under o overrides (header_row o first) rows

@@ -1,4 +1,4 @@
--- What a file becomes before it is read as a list.
+-- The plain list of a file, which is read in its place.
 use Rattle.std.specs.Prelude.{◌≡◌, ◌≢◌, ◌⊎◌, ℕ, List, [], Option, Some, None, Result, Ok, Err, Vec, IsNone, map}
 use Rattle.std.specs.Option.{option_map_or}
 use Rattle.std.specs.String.{string_bytes}
@@ -24,6 +24,7 @@ use Rattle.plan_spreadsheet.specs.declared.list.PlainList as declared
 use Rattle.plan_spreadsheet.specs.declared.rewriting.Rewriting as rewriting
 use Rattle.plan_spreadsheet.specs.PlainRows.{ignored_headers, plain_rows}
 use Rattle.plan_spreadsheet.specs.Rows.{Spells}
+use Rattle.plan_spreadsheet.specs.Spelling.{IsTooLong}
 
 -- a text is refused as a list, and not for a cycle
 abbrev pub IsRefused : List Override → List ℕ → Type 0
@@ -44,7 +45,8 @@ abbrev pub text_in : rewriting.Rewriting → List ℕ → List ℕ
 text_in r text = option_map_or (λ new. new.items) r.text text
 
 -- a list of activities becomes its plain rows; a text without rows stays
-abbrev pub IsRewritten : List Override → List ℕ → Result (List Row) Fault → rewriting.Rewriting → Type 0
+abbrev pub IsRewritten : List Override → List ℕ → Result (List Row) Fault → rewriting.Rewriting
+    → Type 0
 IsRewritten overrides text (Err fault) r = IsNone r.text × (r.ignored.items ≡ [])
 IsRewritten overrides text (Ok rows) r =
     Spells (text_in r text) (plain_rows overrides rows)
@@ -94,7 +96,8 @@ IsPlain overrides bytes p =
 
 -- a list that plan_table accepts stays
 abbrev pub KeepsAccepted : List Override → List ℕ → declared.PlainList → Type 0
-KeepsAccepted overrides bytes p = (t : Table) → table_read_with overrides bytes ≡ Ok t → IsNone p.text
+KeepsAccepted overrides bytes p =
+    (t : Table) → table_read_with overrides bytes ≡ Ok t → IsNone p.text
 
 -- a project file and a job shop file stay
 abbrev pub KeepsFiles : List ℕ → declared.PlainList → Type 0
@@ -107,14 +110,26 @@ fault_of books.OldExcel = faults.OldExcel
 fault_of books.OpenDocument = faults.OpenDocument
 fault_of books.Project = faults.Project
 
--- the errors of writing a list: out of memory may come at any time
-abbrev pub IsWant : SpreadsheetFault → Type 0
-IsWant fault = (fault ≡ faults.Memory) ⊎ (fault ≡ faults.TooLong)
+-- the errors of writing rows: out of memory may come at any time
+abbrev pub IsUnwritten : List Row → SpreadsheetFault → Type 0
+IsUnwritten rows fault = (fault ≡ faults.Memory) ⊎ ((fault ≡ faults.TooLong) × IsTooLong rows)
+
+-- a list with rows becomes too long; a text without rows stays
+abbrev pub BecomesTooLong : List Override → Result (List Row) Fault → Type 0
+BecomesTooLong overrides (Err fault) = ⊥
+BecomesTooLong overrides (Ok rows) = IsTooLong (plain_rows overrides rows)
+
+-- the errors of rewriting a list
+abbrev pub IsUnrewritten : List Override → Result (List Row) Fault → SpreadsheetFault → Type 0
+IsUnrewritten overrides read fault =
+    (fault ≡ faults.Memory) ⊎ ((fault ≡ faults.TooLong) × BecomesTooLong overrides read)
 
 -- only a list that is refused can become too long
 abbrev pub IsNoText : List Override → List ℕ → SpreadsheetFault → Type 0
 IsNoText overrides text fault =
-    (fault ≡ faults.Memory) ⊎ ((fault ≡ faults.TooLong) × IsRefused overrides text)
+    (fault ≡ faults.Memory)
+    ⊎ ((fault ≡ faults.TooLong) × IsRefused overrides text
+    × BecomesTooLong overrides (rows_read text))
 
 -- what a file is refused for: it is a workbook, or there is no text
 abbrev pub IsNoPlain : List Override → List ℕ → SpreadsheetFault → Type 0

@@ -1,4 +1,4 @@
--- What a file becomes with options.
+-- The plain list of a file with options.
 use Rattle.std.specs.Prelude.{◌≡◌, ◌⊎◌, ℕ, true, List, Option, Some, None, Result, Ok, Err, Vec}
 use Rattle.std.specs.declared.alloc.Global.{Global}
 use Rattle.plan_encoding.specs.declared.encoding.Encoding.{Encoding}
@@ -17,6 +17,7 @@ use Rattle.plan_spreadsheet.specs.declared.prepared.OptionsFault.TheVariants as 
 use Rattle.plan_spreadsheet.specs.Options.{Options, are_none, header_cells, missing_ignored, missing_rename, prepared}
 use Rattle.plan_spreadsheet.specs.PlainLists.{IsNoPlain, IsPlain, or_else, text_of}
 use Rattle.plan_spreadsheet.specs.Rows.{Spells, filled}
+use Rattle.plan_spreadsheet.specs.Spelling.{IsTooLong}
 
 -- options change nothing: none is given, or the file is no list
 abbrev pub IsUntouched : Options → List ℕ → Type 0
@@ -35,15 +36,18 @@ HasHeaders o rows =
     (missing_rename (header_cells rows) 0 o.renames ≡ None) × (missing_ignored (header_cells rows) 0 o.ignored ≡ None)
 
 -- rows become the plain list of a text that spells them as the options say
-abbrev pub IsPreparedList : Options → List Override → Encoding → List Row → declared.PlainList → Type 0
+abbrev pub IsPreparedList : Options → List Override → Encoding → List Row → declared.PlainList
+    → Type 0
 IsPreparedList o overrides e rows p =
     HasHeaders o rows × ((text : Vec ℕ Global) × Spells text.items (prepared o overrides rows)
     × ((q : declared.PlainList) × IsPlain overrides text.items q × (p ≡ of_file q e text)))
 
 -- a text without records becomes what it becomes without options
-abbrev pub IsPreparedBy : Options → List Override → List ℕ → Result (List Row) Fault → declared.PlainList → Type 0
+abbrev pub IsPreparedBy : Options → List Override → List ℕ → Result (List Row) Fault
+    → declared.PlainList → Type 0
 IsPreparedBy o overrides bytes (Err fault) p = IsPlain overrides bytes p
-IsPreparedBy o overrides bytes (Ok rows) p = IsPreparedList o overrides (encoding bytes) (filled rows) p
+IsPreparedBy o overrides bytes (Ok rows) p =
+    IsPreparedList o overrides (encoding bytes) (filled rows) p
 
 -- what a file becomes
 abbrev pub IsPlainWith : Options → List Override → List ℕ → declared.PlainList → Type 0
@@ -69,13 +73,16 @@ IsNoPlainText overrides text (refusal.Plain fault) = IsNoPlain overrides text fa
 IsNoPlainText overrides text (refusal.NoRenamed k) = ⊥
 IsNoPlainText overrides text (refusal.NoIgnored k) = ⊥
 
--- no text is long enough for the rows, or the text that spells them becomes no plain list
+-- a header is missing, or the text of the rows is too long, or the text that spells them becomes no
+-- plain list
 abbrev pub IsNoList : Options → List Override → List Row → OptionsFault → Type 0
 IsNoList o overrides rows fault =
-    IsMissingIn o rows fault ⊎ (fault ≡ refusal.Plain faults.TooLong)
+    IsMissingIn o rows fault
+    ⊎ ((fault ≡ refusal.Plain faults.TooLong) × IsTooLong (prepared o overrides rows))
     ⊎ ((text : List ℕ) × Spells text (prepared o overrides rows) × IsNoPlainText overrides text fault)
 
-abbrev pub IsNoPlainBy : Options → List Override → List ℕ → Result (List Row) Fault → OptionsFault → Type 0
+abbrev pub IsNoPlainBy : Options → List Override → List ℕ → Result (List Row) Fault
+    → OptionsFault → Type 0
 IsNoPlainBy o overrides bytes (Err read) fault = IsNoPlainText overrides bytes fault
 IsNoPlainBy o overrides bytes (Ok rows) fault = IsNoList o overrides (filled rows) fault
 

@@ -29,7 +29,8 @@ scaled_unknown unit labels word (Some plus) =
 
 -- a word of predecessors in another unit; one that names an activity stays
 unfoldable pub scaled_word : ℕ → List Label → List ℕ → List ℕ
-scaled_word unit labels word = if is_named labels word then word else scaled_unknown unit labels word (plus_in word)
+scaled_word unit labels word =
+    if is_named labels word then word else scaled_unknown unit labels word (plus_in word)
 
 -- words in another unit behind others, with a space behind each
 unfoldable pub scaled_words : ℕ → List Label → List ℕ → List (List ℕ) → List ℕ
@@ -37,12 +38,21 @@ scaled_words unit labels before [] = before
 scaled_words unit labels before (word ∷ words) =
     scaled_words unit labels ((before ++ scaled_word unit labels word) ++ 32 ∷ []) words
 
+-- a text, or a cell in the place of an empty one
+abbrev pub or_cell : List ℕ → List ℕ → List ℕ
+or_cell text cell = if length text == 0 then cell else text
+
+-- a cell of predecessors in another unit; one without words stays
+abbrev pub scaled_predecessors : ℕ → List Label → List ℕ → List ℕ
+scaled_predecessors unit labels cell =
+    or_cell (scaled_words unit labels [] (words (spaced_from [] cell))) cell
+
 -- ---- rows
 
 -- a cell of a column in another unit
 abbrev pub scaled_cell : ℕ → List Label → Column → List ℕ → List ℕ
 scaled_cell unit labels columns.Duration cell = in_units unit (trim cell)
-scaled_cell unit labels columns.Predecessors cell = scaled_words unit labels [] (words (spaced_from [] cell))
+scaled_cell unit labels columns.Predecessors cell = scaled_predecessors unit labels cell
 scaled_cell unit labels columns.Id cell = cell
 scaled_cell unit labels columns.Name cell = cell
 scaled_cell unit labels columns.Resource cell = cell
@@ -55,13 +65,15 @@ kind_of [] = columns.Nothing
 kind_of (head ∷ heads) = head.column
 
 -- cells from column k on in another unit, behind others
-unfoldable pub scaled_from : ℕ → List Label → List Head → List (List ℕ) → ℕ → List (List ℕ) → List (List ℕ)
+unfoldable pub scaled_from : ℕ → List Label → List Head → List (List ℕ) → ℕ → List (List ℕ)
+    → List (List ℕ)
 scaled_from unit labels heads before k [] = before
 scaled_from unit labels heads before k (cell ∷ cells) =
     scaled_from unit labels heads (before ++ scaled_cell unit labels (kind_of (drop k heads)) cell ∷ []) (k + 1) cells
 
 abbrev pub scaled_row : ℕ → List Label → List Head → Row → Row
-scaled_row unit labels heads row = record { line = row.line; cells = scaled_from unit labels heads [] 0 row.cells }
+scaled_row unit labels heads row =
+    record { line = row.line; cells = scaled_from unit labels heads [] 0 row.cells }
 
 -- ---- the list
 
@@ -85,4 +97,5 @@ scaled_by unit overrides rows (Ok heads) = scaled_under unit (settled overrides 
 
 -- the rows behind a header in another unit
 abbrev pub scaled : ℕ → List Override → Row → List Row → List Row
-scaled unit overrides first rows = scaled_by unit overrides rows (heads_at first.line [] first.cells)
+scaled unit overrides first rows =
+    scaled_by unit overrides rows (heads_at first.line [] first.cells)

@@ -45,17 +45,20 @@ decimal_at most None text = whole (small greatest (number text))
 decimal_at most (Some end) text =
     if is_pointed (drop end text) then joined_if most (take end text) (drop 1 (drop end text)) else None
 
--- the thousandths of a decimal number below 1,000,001, with at most so many digits behind its point or comma
+-- the thousandths of a decimal number below 1,000,001, with at most so many digits behind its point
+-- or comma
 abbrev pub decimal : ℕ → List ℕ → Option ℕ
 decimal most text = decimal_at most (digits_end text) text
 
 -- where the number at the front of a cell ends, if something follows it
 abbrev pub number_end : List ℕ → Option ℕ
-number_end cell = position (λ byte. not (is_digit byte) && not (byte == 44) && not (byte == 46)) cell
+number_end cell =
+    position (λ byte. not (is_digit byte) && not (byte == 44) && not (byte == 46)) cell
 
 abbrev pub value_at : Option ℕ → List ℕ → Option ℕ
 value_at None cell = decimal 2 cell
-value_at (Some end) cell = if is_unit (trim (drop end cell)) then decimal 2 (take end cell) else None
+value_at (Some end) cell =
+    if is_unit (trim (drop end cell)) then decimal 2 (take end cell) else None
 
 -- the thousandths in a cell: a number with at most two digits behind its point, and perhaps a word
 -- for days. With three digits it could be one of thousands

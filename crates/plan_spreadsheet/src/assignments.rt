@@ -187,8 +187,8 @@ fn all_assigned(
     Ok(all)
 }
 
-// Whether a header is a word for a column with names of resources.
-fn is_assignment_word(key: &[u8]) -> bool
+/// Whether a header is a word for a column with names of resources.
+pub fn is_assignment_word(key: &[u8]) -> bool
     ensures { result ≡ spec.is_assignment_word key.now }
 {
     same_name(b"resource names", key)

@@ -50,7 +50,7 @@ pub fn is_digit(byte: u8) -> bool
     byte >= 48 && byte <= 57
 }
 
-/// Where the digits at the front of a text end, if something follows them.
+/// Returns the place behind the digits at the front of a text, if something follows them.
 pub fn digits_end(text: &[u8]) -> Option<usize>
     ensures { result ≡ durations.digits_end text.now }
 {

@@ -59,7 +59,7 @@ fn workbook_fault(book: Workbook) -> SpreadsheetFault
     }
 }
 
-// What becomes of a list of a kind.
+// Rewrites a list of a kind.
 fn text_of_kind(
     alloc: Global,
     kind: ListKind,
@@ -101,7 +101,7 @@ fn joined(decoded: Decoded, rewriting: Rewriting) -> PlainList
     }
 }
 
-// What becomes of a file that is no workbook, and can't be read as it is.
+// Returns the plain list of a file that is no workbook, and can't be read as it is.
 #[tactic(auto, using(crate::proofs::ListLemmas::stays_if, crate::proofs::ListLemmas::becomes_if, crate::proofs::ListLemmas::no_text_of))]
 fn decoded_list(
     alloc: Global,
@@ -125,8 +125,8 @@ fn decoded_list(
 
 /// Returns the plain list that a file becomes, with given capacities.
 ///
-/// A project file, a job shop file, and a list that plan_table reads stay as they are. A workbook is
-/// refused (T18). Another file is decoded. If it is no list then, its bytes stay. A list of
+/// A project file, a job shop file, and a list that plan_table reads stay as they are. A workbook
+/// is refused (T18). Another file is decoded. If it is no list then, its bytes stay. A list of
 /// activities that plan_table still refuses is rewritten without its groups and notes; T1 if the
 /// plain list has more than 1,048,576 bytes. Errors of the list itself are left to plan_table: each
 /// row keeps its line.
@@ -136,7 +136,7 @@ pub fn plain_list(
     overrides: &[Override<'_>],
     bytes: &[u8],
 ) -> Result<PlainList, SpreadsheetFault>
-    // What the text becomes, and that a file that can be read stays.
+    // The text is the plain list; a file that can be read stays.
     ensures plain { IfOk result (spec.IsPlain (map override_of overrides.now) bytes.now) }
     // A list that plan_table accepts means the same.
     ensures accepted { IfOk result

@@ -9,6 +9,7 @@ ghost use Rattle.std.specs.String.{string_bytes};
 ghost use Rattle.std.specs.Str.Lossy.{utf8_lossy};
 ghost use Rattle.plan_spreadsheet.specs.Notes as spec;
 
+use crate::assignments::is_assignment_word;
 use plan_psplib::number;
 use plan_table::{
     Body, Column, Head, Override, ReadError, Row, cell_of, gives_successors, has_capacity,
@@ -35,6 +36,25 @@ fn has_text(rows: &[Row], k: usize) -> bool
     false
 }
 
+// Whether column `k` has no entry.
+fn is_vacant(rows: &[Row], k: usize) -> bool
+    ensures { result ≡ spec.is_vacant (map row_of rows.now) k }
+{
+    for row in rows {
+        if !cell_of(row, k).is_empty() {
+            return false;
+        }
+    }
+    true
+}
+
+// Whether a column with a word for names of resources names none.
+fn names_none(body: &Body<'_>, k: usize, head: &Head) -> bool
+    ensures { result ≡ spec.names_none (body_of body.now) k (head_of head.now) }
+{
+    is_assignment_word(&head.key) && is_vacant(body.rows, k)
+}
+
 // Whether a header is that of the slack of activities.
 fn is_slack_word(key: &[u8]) -> bool
     ensures { result ≡ spec.is_slack_word key.now }
@@ -49,7 +69,7 @@ fn is_note(body: &Body<'_>, k: usize, head: &Head) -> bool
     same_kind(Column::Resource, head.column)
         && !has_capacity(body, k, head)
         && !gives_successors(body, k, head)
-        && (has_text(body.rows, k) || is_slack_word(&head.key))
+        && (has_text(body.rows, k) || is_slack_word(&head.key) || names_none(body, k, head))
 }
 
 // Puts the number of column `k` behind others, if it is a note.
@@ -101,7 +121,8 @@ fn notes_under(
 }
 
 /// Returns the numbers of the columns that are notes: they would be resources by their headers
-/// alone, but contain text and have no capacity. Columns of successors aren't notes.
+/// alone, but contain text and have no capacity. So are columns of slack, and columns for names of
+/// resources without entries. Columns of successors aren't notes.
 pub fn notes(
     alloc: Global,
     overrides: &[Override<'_>],

@@ -6,7 +6,7 @@ ghost use Rattle.plan_table.specs.Csv.{row_of};
 ghost use Rattle.plan_table.specs.Overrides.{override_of};
 ghost use Rattle.plan_spreadsheet.specs.Options as spec;
 
-use crate::rows::{copy_rows, with_first};
+use crate::rows::{copy_rows, filled, with_first};
 use crate::scaling::scaled;
 use crate::units::decimal;
 use plan_psplib::trim;
@@ -178,7 +178,7 @@ fn in_unit(
     }
 }
 
-/// Returns rows as the options say. The first row is the header.
+/// Returns the rows with content as the options say. The first of the given rows is the header.
 pub fn prepared(
     alloc: Global,
     options: &Options<'_>,
@@ -192,7 +192,8 @@ pub fn prepared(
         [first, rest @ ..] => {
             let header = header_row(alloc, options, first)?;
             let behind = in_unit(alloc, options.unit, overrides, &header, rest)?;
-            with_first(alloc, &header, behind)
+            let all = with_first(alloc, &header, behind)?;
+            filled(alloc, &all)
         }
         [] => Ok(Vec::new(alloc)),
     }

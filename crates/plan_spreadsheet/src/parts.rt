@@ -49,7 +49,7 @@ pub fn parts(alloc: Global, cell: &[u8]) -> Result<Vec<Vec<u8>>, AllocError>
     Ok(parts)
 }
 
-// Where the first bracket of a part is.
+// Returns the place of the first bracket of a part.
 fn bracket(part: &[u8]) -> Option<usize>
     ensures place { result ≡ spec.bracket part.now }
     ensures within { IfSome result (λ k. k < length part.now) }
@@ -57,7 +57,7 @@ fn bracket(part: &[u8]) -> Option<usize>
     part.iter().position(|&byte| byte == b'[')
 }
 
-// What stands behind the bracket at `k`, without the last byte.
+// Returns the bytes behind the bracket at `k`, without the last one.
 fn inside(k: usize, part: &[u8]) -> &[u8]
     requires { k < length part.now }
     ensures { result.now ≡ spec.inside k part.now }

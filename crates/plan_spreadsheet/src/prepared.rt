@@ -123,7 +123,7 @@ fn of_file(plain: PlainList, encoding: Encoding, text: Vec<u8>) -> PlainList
 }
 
 // The plain list of rows, as the options say.
-#[tactic(auto, using(crate::proofs::PreparedLemmas::no_list))]
+#[tactic(auto, using(crate::proofs::PreparedLemmas::no_list, crate::proofs::PreparedLemmas::no_room))]
 fn of_rows(
     alloc: Global,
     options: &Options<'_>,
@@ -173,8 +173,9 @@ fn with_options(
 /// Returns the plain list that a file becomes with options and given capacities.
 ///
 /// Without options it is that of `plain_list`, and so it is for a project file, a job shop file and
-/// a workbook. Otherwise the options change the rows of the list first: headers are renamed, columns
-/// are left out, and durations and lags are counted in the unit.
+/// a workbook. Otherwise the options change the rows of the list first: headers are renamed,
+/// columns are left out, and durations and lags are counted in the unit. T1 if the text of these
+/// rows, or that of the plain list, has more than 1,048,576 bytes.
 #[tactic(auto, using(crate::proofs::PreparedLemmas::untouched_list, crate::proofs::PreparedLemmas::touched_list, crate::proofs::PreparedLemmas::keeps_plain, crate::proofs::PreparedLemmas::untouched_refused, crate::proofs::PreparedLemmas::touched_refused))]
 pub fn plain_list_with(
     alloc: Global,

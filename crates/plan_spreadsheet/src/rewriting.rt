@@ -20,7 +20,7 @@ use crate::waiting::with_waits;
 use plan_table::{Override, ReadError, Row, read_rows_of};
 use std::alloc::{AllocError, Global};
 
-/// What becomes of the text of a list: a new text, or `None` if it stays, and the headers of the
+/// A list after its rewriting: its new text, or `None` if its text stays, and the headers of the
 /// columns that are ignored.
 #[derive(Drop)]
 pub struct Rewriting {
@@ -83,7 +83,7 @@ fn write_plain(
         Spells text.items (map row_of rows.now))) }
     ensures none { IfOk result (λ text. IsNone text → (map row_of before.now
         ≡ map row_of rows.now)) }
-    ensures errors { IfErr result lists.IsWant }
+    ensures errors { IfErr result (lists.IsUnwritten (map row_of rows.now)) }
 {
     if same_rows(before, rows) {
         return Ok(None);
@@ -105,7 +105,8 @@ fn rewrite_rows(
         ≡ spec.plain_rows (map override_of overrides.now) (map row_of rows.now))) }
     ensures ignored { IfOk result (λ r. map string_bytes r.ignored.items
         ≡ spec.ignored_headers (map override_of overrides.now) (map row_of rows.now)) }
-    ensures errors { IfErr result lists.IsWant }
+    ensures errors { IfErr result (lists.IsUnwritten
+        (spec.plain_rows (map override_of overrides.now) (map row_of rows.now))) }
 {
     let before = filled(alloc, rows)?;
     let ungrouped = without_groups(alloc, overrides, &before)?;
@@ -121,7 +122,7 @@ fn rewrite_rows(
 }
 
 // Rewrites a list of activities that is refused.
-#[tactic(auto, using(crate::proofs::ListLemmas::rewritten, crate::proofs::ListLemmas::unread))]
+#[tactic(auto, using(crate::proofs::ListLemmas::rewritten, crate::proofs::ListLemmas::unread, crate::proofs::ListLemmas::unrewritten))]
 fn rewrite(
     alloc: Global,
     overrides: &[Override<'_>],
@@ -129,7 +130,8 @@ fn rewrite(
 ) -> Result<Rewriting, SpreadsheetFault>
     ensures text { IfOk result (lists.IsRewritten (map override_of overrides.now) text.now
         (rows_read text.now)) }
-    ensures errors { IfErr result lists.IsWant }
+    ensures errors { IfErr result (lists.IsUnrewritten (map override_of overrides.now)
+        (rows_read text.now)) }
 {
     match read_rows_of(alloc, text) {
         Ok(rows) => {
@@ -141,7 +143,7 @@ fn rewrite(
     }
 }
 
-/// Returns what becomes of a list of activities: if it is refused, its plain rows.
+/// Rewrites a list of activities as its plain rows, if it is refused.
 #[tactic(auto, using(crate::proofs::ListLemmas::no_text))]
 pub fn plain_text(
     alloc: Global,

@@ -91,7 +91,7 @@ fn scaled_words(
     Ok(text)
 }
 
-// A cell of predecessors in another unit.
+// A cell of predecessors in another unit. A cell without words stays.
 fn scaled_predecessors(
     alloc: Global,
     unit: u64,
@@ -100,11 +100,15 @@ fn scaled_predecessors(
 ) -> Result<Vec<u8>, AllocError>
     requires few { length labels.now ≤ most_rows }
     requires unit { 0 < unit }
-    ensures { IfOk result (λ v. v.items ≡ spec.scaled_cell unit (map label_of labels.now)
-        Column.Predecessors cell.now) }
+    ensures { IfOk result (λ v. v.items
+        ≡ spec.scaled_predecessors unit (map label_of labels.now) cell.now) }
 {
     let words = spaced(alloc, cell)?;
-    scaled_words(alloc, unit, labels, &words)
+    let text = scaled_words(alloc, unit, labels, &words)?;
+    if text.is_empty() {
+        return Vec::from_slice(alloc, cell);
+    }
+    Ok(text)
 }
 
 // A cell of a column in another unit.

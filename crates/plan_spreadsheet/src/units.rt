@@ -61,8 +61,8 @@ fn joined_if(most: usize, front: &[u8], digits: &[u8]) -> Option<u64>
     }
 }
 
-/// Returns the thousandths of a decimal number up to 1,000,000, with at most so many digits behind its
-/// point or comma.
+/// Returns the thousandths of a decimal number up to 1,000,000, with at most so many digits behind
+/// its point or comma.
 pub fn decimal(most: usize, text: &[u8]) -> Option<u64>
     ensures { result ≡ spec.decimal most text.now }
 {
@@ -78,7 +78,7 @@ pub fn decimal(most: usize, text: &[u8]) -> Option<u64>
     }
 }
 
-// Where the number at the front of a cell ends, if something follows it.
+// Returns the place behind the number at the front of a cell, if something follows it.
 fn number_end(cell: &[u8]) -> Option<usize>
     ensures { result ≡ spec.number_end cell.now }
 {

@@ -86,7 +86,7 @@ fn push_wait(
     Ok(())
 }
 
-/// Where the first plus sign of a word is.
+/// Returns the place of the first plus sign of a word.
 pub fn plus_in(word: &[u8]) -> Option<usize>
     ensures { result ≡ spec.plus_in word.now }
 {
