@@ -22,7 +22,7 @@ loop-x-preserved c =
     let there = slice_get_read a.rows.now (length a.rows.now) c.loop-x.x c.in-Some.row.now refl inside c.in-Some.ensures.lookup.1 in
     let old = rows_of c.loop-x.made.items in
     let pushed = subst (λ (cells : List declared.Cell). rows_of c.push_timed.new.made.items ≡ old ++ spec.timed_row names step (cells_of cells))
-        c.deref.ensures.value c.in_ok-push_timed.ensures in
+    c.deref.ensures.value c.in_ok-push_timed.ensures in
     rows_more names a.shop.now.steps a.rows.now c.loop-x.x step c.in-Some.row.now old (rows_of c.push_timed.new.made.items) _
     c.step.ensures.value there pushed c.loop-x.invariant
 
