@@ -18,3 +18,5 @@ pub mod CheckLemmas
 pub mod SearchLemmas
 pub mod ListTaskLemmas
 pub mod OrderTableLemmas
+pub mod ListTimeLemmas
+pub mod ListTextLemmas

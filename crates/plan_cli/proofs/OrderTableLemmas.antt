@@ -1,9 +1,9 @@
 -- The rows of the steps that take time, one step after the other.
-use Rattle.std.proofs.Common.{◌≡◌, ℕ, ◌+◌, ◌<◌, ◌≤◌, List, [], ◌∷◌, ◌++◌, Some, None, Vec, length, map, drop, refl, sym, ap, ◌∙◌, append_assoc, append-nil, arith}
+use Rattle.std.proofs.Common.{◌≡◌, ℕ, ◌+◌, ◌≤◌, List, [], ◌∷◌, ◌++◌, Some, Vec, length, drop, refl, sym, ap, ◌∙◌, append_assoc, append-nil, drop_of_length-le}
 use Rattle.std.specs.Prelude.{get_or}
 use Rattle.std.specs.Global.{Global}
 use Rattle.std.specs.List.{slice_get}
-use Rattle.std.proofs.lemmas.List.{drop_more, drop_of_length-le}
+use Rattle.std.proofs.lemmas.List.{drop_more}
 use Rattle.std.proofs.lemmas.Option.{get_or_from_slice_get, slice_get_within}
 use Rattle.plan_orlib.specs.declared.steps.Step.{Step}
 use Rattle.plan_table.specs.Names.{Name}
@@ -42,3 +42,20 @@ no_rows names (step ∷ steps) = refl
 pub no_steps : (names : List Name) (rows : List (List Cell)) → timed_rows names [] rows ≡ []
 unfolding timed_rows
 no_steps names rows = refl
+
+-- the rows, if no step or no row is left
+pub all_rows : (names : List Name) (steps : List Step) (rows : List (Vec declared.Cell Global)) (k : ℕ) (made whole : List (List Cell))
+    → length rows ≤ k → made ++ timed_rows names (drop k steps) (rows_of (drop k rows)) ≡ whole → made ≡ whole
+all_rows names steps rows k made whole past so_far =
+    let none : timed_rows names (drop k steps) (rows_of (drop k rows)) ≡ [] =
+    ap (λ (rs : List (Vec declared.Cell Global)). timed_rows names (drop k steps) (rows_of rs)) (drop_of_length-le rows past)
+    ∙ no_rows names (drop k steps) in
+    sym (append-nil made) ∙ ap (λ (more : List (List Cell)). made ++ more) (sym none) ∙ so_far
+
+pub all_steps : (names : List Name) (steps : List Step) (rows : List (Vec declared.Cell Global)) (k : ℕ) (made whole : List (List Cell))
+    → length steps ≤ k → made ++ timed_rows names (drop k steps) (rows_of (drop k rows)) ≡ whole → made ≡ whole
+all_steps names steps rows k made whole past so_far =
+    let none : timed_rows names (drop k steps) (rows_of (drop k rows)) ≡ [] =
+    ap (λ (ss : List Step). timed_rows names ss (rows_of (drop k rows))) (drop_of_length-le steps past)
+    ∙ no_steps names (rows_of (drop k rows)) in
+    sym (append-nil made) ∙ ap (λ (more : List (List Cell)). made ++ more) (sym none) ∙ so_far

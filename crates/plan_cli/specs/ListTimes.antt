@@ -1,12 +1,18 @@
 -- The times of the activities of a list in a schedule, as texts (docs/definitions.md, "Runs").
 use Rattle.std.specs.Prelude.{◌≡◌, ℕ, ◌+◌, zero, suc, Bool, if◌then◌else◌, List, [], ◌∷◌, ◌++◌, Option, Some, None, get_or, length, slice_get, IfSome}
 use Rattle.std.specs.Fmt.{decimal}
+use Rattle.std.specs.Option.{option_map}
+use denote.Ref.{Bor}
 use Rattle.jiff_core.specs.declared.civil.date.Date.{Date}
 use Rattle.jiff.specs.Words.{date_text}
 use Rattle.plan_calendar.specs.WorkingDay.{Workdays, IsWorkingDay}
 use Rattle.plan_gantt.specs.CalendarTable.{ShowsBeyond}
 use Rattle.plan_table.specs.Table.{Activity, Table}
 use Rattle.plan_list_back.specs.ListBack.{Times}
+
+-- the calendar behind a reference, if there is one
+abbrev pub calendar_in : Option (Bor Workdays) → Option Workdays
+calendar_in calendar = option_map (λ c. c.now) calendar
 
 -- a text is the working day of an instant
 abbrev pub IsDayText : Workdays → ℕ → List ℕ → Type 0
@@ -37,7 +43,7 @@ pub record AreTimesOf (calendar : Option Workdays) (own : Bool) (a : Activity) (
   pub line : times.line ≡ a.line
   pub id : times.id ≡ id_in own a.id
   pub texts : AreTexts calendar start a.duration times.start times.finish
-  pub slack : times.slack ≡ decimal slack
+  pub slack_text : times.slack ≡ decimal slack
 
 -- the same for activity k of a table, from 0: it has the number k + 2 in the project file
 abbrev pub AreTimesAt : Option Workdays → Table → List ℕ → List ℕ → ℕ → Times → Type 0

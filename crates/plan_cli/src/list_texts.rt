@@ -2,7 +2,7 @@
 //! activities.
 
 ghost use Rattle.std.specs.Prelude.{◌≡◌, ◌⊎◌, [], ◌≤◌, All, EachIndex, IfOk, IfErr};
-ghost use Rattle.std.specs.Prelude.{length, map, option_map, slice_index};
+ghost use Rattle.std.specs.Prelude.{length, map, slice_index};
 ghost use Rattle.plan_gantt.specs.Limits.{latest_start};
 ghost use Rattle.plan_list_back.specs.ListBack.{IsReadAs, times_of};
 ghost use Rattle.plan_net.specs.Network as networks;
@@ -18,7 +18,7 @@ ghost use Rattle.plan_documents.specs.Documents.{IsOfSubject, RefusesSubject};
 ghost use Rattle.plan_documents.specs.ListOptions.{RefusesOfPrepared};
 ghost use Rattle.plan_documents.specs.Lists.{RefusesReading};
 ghost use Rattle.plan_cli.specs.DaysRun.{TellsBeyond};
-ghost use Rattle.plan_cli.specs.ListTimes.{AreTimes, HasDayBeyond};
+ghost use Rattle.plan_cli.specs.ListTimes.{AreTimes, HasDayBeyond, calendar_in};
 ghost use Rattle.plan_cli.specs.ListRun as spec;
 
 use crate::calendar_refusals::days_refusal;
@@ -92,7 +92,10 @@ fn slacks_in(alloc: Global, instance: &Instance, starts: &[u64]) -> Result<Vec<u
     ensures refused { IfErr result (Refuses
         (spec.TellsNoSlackIn (Plan.Project instance.now []) starts.now)) }
 {
-    schedule_slack(alloc, instance, starts).map_err(|fault| slack_refusal(alloc, fault))
+    match schedule_slack(alloc, instance, starts) {
+        Ok(slacks) => Ok(slacks),
+        Err(fault) => Err(slack_refusal(alloc, fault)),
+    }
 }
 
 // Returns the calendar of the dates, if there are any.
@@ -115,15 +118,16 @@ fn dated_times<'a>(
     slacks: &[u64],
 ) -> Result<Vec<Times<'a>>, CliFault>
     requires { EachIndex starts.now (λ k. slice_index starts.now k ≤ latest_start) }
-    ensures times { IfOk result (λ all. AreTimes (option_map (λ c. c.now) calendar) table.now
+    ensures times { IfOk result (λ all. AreTimes (calendar_in calendar.entry) table.now
         starts.now slacks.now (map times_of all.items)) }
     ensures refused { IfErr result (Refuses (TellsBeyond
-        (HasDayBeyond (option_map (λ c. c.now) calendar) table.now starts.now))) }
+        (HasDayBeyond (calendar_in calendar.entry) table.now starts.now))) }
 {
     list_times(alloc, calendar, table, starts, slacks).map_err(|fault| days_refusal(alloc, fault))
 }
 
-// Returns the times of the activities of a table in a plan's schedule. A job shop has no activities.
+// Returns the times of the activities of a table in a plan's schedule. A job shop has no
+// activities.
 fn plan_times<'a, V: ProofWatcher + SolveWatcher, L: Log>(
     alloc: Global,
     origin: Origin<'_>,

@@ -1,6 +1,6 @@
 //! The times of the activities of a list in a schedule, as texts.
 
-ghost use Rattle.std.specs.Prelude.{◌≡◌, ◌≤◌, None, get_or, map, option_map};
+ghost use Rattle.std.specs.Prelude.{◌≡◌, ◌≤◌, None, get_or, map};
 ghost use Rattle.std.specs.Prelude.{EachIndex, IfOk, IsErrOf, slice_index, string_bytes};
 ghost use Rattle.plan_calendar.specs.WorkingDay.{IsBeyond};
 ghost use Rattle.plan_gantt.specs.CalendarTable.{ShowsBeyond};
@@ -65,10 +65,10 @@ fn texts_of(
     duration: u32,
 ) -> Result<(String, String), DaysFault>
     requires { start ≤ latest_start }
-    ensures texts { IfOk result (λ texts. spec.AreTexts (option_map (λ c. c.now) calendar) start
+    ensures texts { IfOk result (λ texts. spec.AreTexts (spec.calendar_in calendar.entry) start
         duration (string_bytes texts.0) (string_bytes texts.1)) }
     ensures beyond { IsErrOf result DaysFault.BeyondCalendar →
-        spec.IsBeyondIf (option_map (λ c. c.now) calendar) start duration }
+        spec.IsBeyondIf (spec.calendar_in calendar.entry) start duration }
 {
     match calendar {
         Some(calendar) => day_texts(alloc, calendar, start, duration),
@@ -93,10 +93,10 @@ fn times_of_activity<'a>(
     slack: u64,
 ) -> Result<Times<'a>, DaysFault>
     requires { start ≤ latest_start }
-    ensures times { IfOk result (λ times. spec.AreTimesOf (option_map (λ c. c.now) calendar)
+    ensures times { IfOk result (λ times. spec.AreTimesOf (spec.calendar_in calendar.entry)
         own_ids (activity_of activity.now) start slack (times_of times)) }
     ensures beyond { IsErrOf result DaysFault.BeyondCalendar →
-        spec.IsBeyondIf (option_map (λ c. c.now) calendar) start activity.now.duration }
+        spec.IsBeyondIf (spec.calendar_in calendar.entry) start activity.now.duration }
 {
     let (start, finish) = texts_of(alloc, calendar, start, activity.duration)?;
     Ok(Times {
@@ -129,10 +129,10 @@ pub(crate) fn list_times<'a>(
     slacks: &[u64],
 ) -> Result<Vec<Times<'a>>, DaysFault>
     requires { EachIndex starts.now (λ k. slice_index starts.now k ≤ latest_start) }
-    ensures times { IfOk result (λ all. spec.AreTimes (option_map (λ c. c.now) calendar) table.now
+    ensures times { IfOk result (λ all. spec.AreTimes (spec.calendar_in calendar.entry) table.now
         starts.now slacks.now (map times_of all.items)) }
     ensures beyond { IsErrOf result DaysFault.BeyondCalendar →
-        spec.HasDayBeyond (option_map (λ c. c.now) calendar) table.now starts.now }
+        spec.HasDayBeyond (spec.calendar_in calendar.entry) table.now starts.now }
 {
     let mut all = Vec::new(alloc);
     for (k, activity) in table.activities.iter().enumerate() {
@@ -140,7 +140,7 @@ pub(crate) fn list_times<'a>(
         let slack = number_at(slacks, k + 1);
         let own = table.own_ids;
         let times = times_of_activity(alloc, calendar, own, activity, start, slack)?;
-        all.push(times)?;
+        all.push(times).map_err(AllocError::from)?;
     }
     Ok(all)
 }

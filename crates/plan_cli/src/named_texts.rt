@@ -182,6 +182,17 @@ fn with_holidays<'a>(task: Task<'a>, holidays: &'a [u8]) -> Task<'a>
             style,
             subject,
         },
+        Task::List {
+            origin,
+            dates,
+            subject,
+            options,
+        } => Task::List {
+            origin,
+            dates: dates_if(dates, holidays),
+            subject,
+            options,
+        },
         _ => task,
     }
 }
@@ -199,17 +210,6 @@ fn with_old<'a>(task: Task<'a>, text: &'a [u8]) -> Task<'a>
             old: text,
             starts,
             subject,
-        },
-        Task::List {
-            origin,
-            dates,
-            subject,
-            options,
-        } => Task::List {
-            origin,
-            dates: dates_if(dates, holidays),
-            subject,
-            options,
         },
         _ => task,
     }

@@ -95,7 +95,6 @@ fn push_timed<'a>(
 
 // Returns the rows of the steps that take time, each with the name of its machine. Row `k` is that
 // of the step with flat number `k`; rows behind the last step are left out.
-#[tactic(auto, using(crate::proofs::OrderTableLemmas::rows_more, crate::proofs::OrderTableLemmas::no_rows, crate::proofs::OrderTableLemmas::no_steps))]
 fn timed_rows<'a>(
     alloc: Global,
     shop: &Shop,
