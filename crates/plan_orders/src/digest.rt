@@ -2,4 +2,4 @@
 
 /// The digest of all sources of the program but this file, in hexadecimal digits, as
 /// `./release --digest` prints it.
-pub(crate) const SOURCES: &str = "e132125c726a81ca0b1df534f6a3d438cc3f2459aeb0147f187d70808c81634e";
+pub(crate) const SOURCES: &str = "31d847b7a88c486fa8a9a25f86fc79ff65ed50a43b37bf9a7e50fc1b2fe42bb0";
