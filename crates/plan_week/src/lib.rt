@@ -20,6 +20,7 @@ pub use laws::{limits_are_enough, overloaded_weeks_have_no_plan, plain_weeks_sta
 pub use limit::limit_of;
 pub use overload::{Overload, first_overload};
 pub use solving::solve_week;
+pub use state::{end_of, state_of};
 pub use tardiness::{SolvedTardiness, TardyAnswer, solve_tardiness};
 pub use tightening::{Tightened, tighten};
 pub use week::{State, Week};

@@ -46,6 +46,13 @@ pub fn rest_of(week: &Week, activity: usize) -> u32
     rest(at(&week.durations, activity), state_of(week, activity))
 }
 
+/// Returns the end of an activity.
+pub fn end_of(week: &Week, starts: &[u32], activity: usize) -> u64
+    ensures { result ≡ spec.end_of week.now starts.now activity }
+{
+    at(starts, activity) as u64 + rest_of(week, activity) as u64
+}
+
 /// Whether an activity is still to be started.
 pub fn is_open(state: State) -> bool
     ensures { result ≡ spec.is_open state }
