@@ -1,6 +1,6 @@
 -- Rows and activities behind others.
 use Rattle.std.proofs.Common.{◌≡◌, ℕ, ◌≤◌, ◌-◌, Bool, arith, List, [], None, length, map, drop, take, ap, sym, ◌∙◌}
-use Rattle.std.proofs.lemmas.List.{drop-map, drop_all, length-drop, length-map, take_all}
+use Rattle.std.proofs.lemmas.List.{drop-map, drop_all, length-drop, length-map, take_all, take-map}
 use Rattle.plan_psplib.specs.Head.{most_resources}
 use Rattle.plan_table.specs.declared.table.Activity as declared_activity
 use Rattle.plan_table.specs.declared.table.Resource as declared_resource
@@ -39,3 +39,7 @@ few_rows own activities resources is = omega (arith, is.limits.rows, length-map 
 pub few_columns : (own : Bool) (activities : List declared_activity.Activity) (resources : List declared_resource.Resource)
     → IsTable (table_of own activities resources) → length resources ≤ most_resources
 few_columns own activities resources is = omega (arith, is.limits.columns, length-map resources resource_of)
+
+-- the first activities
+pub those_taken : (all : List declared_activity.Activity) (n : ℕ) → map activity_of (take n all) ≡ take n (map activity_of all)
+those_taken all n = sym (take-map activity_of n all)

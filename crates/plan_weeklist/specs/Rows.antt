@@ -46,8 +46,12 @@ absence_of a = record { line = a.line; from = a.from; until = a.until; shortages
 abbrev pub dated_of : declared_row.DatedRow → DatedRow
 dated_of r = record { id = r.id.items; dates = r.dates }
 
+abbrev pub rows_of : List declared_row.DatedRow → List declared_absence.AbsenceRow → WeekRows
+rows_of rows absences =
+    record { rows = map dated_of rows; absences = map absence_of absences }
+
 abbrev pub week_rows_of : declared.WeekRows → WeekRows
-week_rows_of r = record { rows = map dated_of r.rows.items; absences = map absence_of r.absences.items }
+week_rows_of r = rows_of r.rows.items r.absences.items
 
 -- ---- absences
 

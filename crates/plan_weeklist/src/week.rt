@@ -1,7 +1,9 @@
 //! The week of a list: the table of its activities, and what its rows say.
 
-ghost use Rattle.std.specs.Prelude.{◌≡◌, ◌≤◌, [], drop, length, map, IfErr, IfOk};
-ghost use Rattle.plan_table.specs.Table.{activity_of, resource_of};
+ghost use Rattle.std.specs.Prelude.{◌≡◌, ◌≤◌, [], drop, length, map, take, IfErr, IfOk};
+ghost use Rattle.plan_psplib.specs.Head.{most_resources};
+ghost use Rattle.plan_table.specs.Limits.{most_rows};
+ghost use Rattle.plan_table.specs.Table.{activity_of, resource_of, table_of};
 ghost use Rattle.plan_weeklist.specs.ListedWeeks as spec;
 ghost use Rattle.plan_weeklist.specs.Rows as listed;
 
@@ -9,7 +11,7 @@ use crate::absences::absences_of;
 use crate::arcs::arcs_of;
 use crate::dates::{Beginning, Dates, number_or};
 use crate::fault::WeekError;
-use crate::rows::{DatedRow, WeekRows};
+use crate::rows::{AbsenceRow, DatedRow, WeekRows};
 use plan_table::{Activity, Resource, Table, same};
 use plan_week::{State, Week};
 use std::alloc::{AllocError, Global};
@@ -218,6 +220,48 @@ fn capacities_of(alloc: Global, resources: &[Resource]) -> Result<Vec<u64>, Allo
     Ok(capacities)
 }
 
+// The first activities.
+#[tactic(auto, using(crate::proofs::ListedWeekLemmas::those_taken))]
+fn first_ones(all: &[Activity], count: usize) -> &[Activity]
+    requires { count ≤ length all.now }
+    ensures { map activity_of result.now ≡ take count (map activity_of all.now) }
+{
+    &all[..count]
+}
+
+// Returns the week of the first activities of a list, which have these rows.
+fn week_in(
+    alloc: Global,
+    list: Rows<'_>,
+    all: &[Activity],
+    resources: &[Resource],
+    absences: &[AbsenceRow],
+    today: Option<u32>,
+) -> Result<Week, WeekError>
+    requires rows { length all.now ≤ most_rows }
+    requires columns { length resources.now ≤ most_resources }
+    ensures week { IfOk result (spec.IsWeekOf
+        (table_of list.entry.own_ids all.now resources.now)
+        (listed.rows_of list.entry.rows.now absences.now) today) }
+    ensures refused { IfErr result (spec.IsNoWeek
+        (table_of list.entry.own_ids all.now resources.now)
+        (listed.rows_of list.entry.rows.now absences.now)) }
+{
+    let count = planned_count(list, all);
+    let activities = first_ones(all, count);
+    let now = number_or(0, today);
+    Ok(Week {
+        durations: durations_of(alloc, list, activities)?,
+        arcs: arcs_of(alloc, count, all, activities)?,
+        needs: needs_of(alloc, activities)?,
+        capacities: capacities_of(alloc, resources)?,
+        states: states_of(alloc, list, now, activities)?,
+        dues: dues_of(alloc, list, activities)?,
+        absences: absences_of(alloc, resources, absences)?,
+        today: now,
+    })
+}
+
 /// Returns the week of a table, whose list has these rows. Instants before `today` are over.
 #[tactic(auto, using(crate::proofs::ListedWeekLemmas::few_rows, crate::proofs::ListedWeekLemmas::few_columns))]
 pub fn week_of(
@@ -233,17 +277,12 @@ pub fn week_of(
         own_ids: table.own_ids,
         rows: &read.rows,
     };
-    let count = planned_count(list, &table.activities);
-    let activities = &table.activities[..count];
-    let now = number_or(0, today);
-    Ok(Week {
-        durations: durations_of(alloc, list, activities)?,
-        arcs: arcs_of(alloc, count, &table.activities, activities)?,
-        needs: needs_of(alloc, activities)?,
-        capacities: capacities_of(alloc, &table.resources)?,
-        states: states_of(alloc, list, now, activities)?,
-        dues: dues_of(alloc, list, activities)?,
-        absences: absences_of(alloc, &table.resources, &read.absences)?,
-        today: now,
-    })
+    week_in(
+        alloc,
+        list,
+        &table.activities,
+        &table.resources,
+        &read.absences,
+        today,
+    )
 }
