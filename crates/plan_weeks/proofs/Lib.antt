@@ -1,2 +1,3 @@
 mod PlanLemmas
+mod ViewLemmas
 mod WeekTextLemmas

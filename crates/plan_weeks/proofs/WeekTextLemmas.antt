@@ -1,8 +1,10 @@
 -- Texts of plans, and their errors.
-use Rattle.std.proofs.Common.{◌≡◌, ℕ, ◌≤◌, List, [], Option, length, map, drop, ap, ◌∙◌, subst, sym}
-use Rattle.std.proofs.lemmas.List.{drop-map, drop_all}
+use Rattle.std.proofs.Common.{◌≡◌, ℕ, ◌≤◌, Bool, List, [], Option, length, map, drop, take, ap, ◌∙◌, subst, sym, arith}
+use Rattle.std.proofs.lemmas.List.{drop-map, drop_all, length-map, take-map, take_all}
+use Rattle.plan_table.specs.declared.table.Activity as declared_activity
 use Rattle.plan_table.specs.declared.table.Resource as declared_resource
-use Rattle.plan_table.specs.Table.{resource_of}
+use Rattle.plan_table.specs.Limits.{IsTable}
+use Rattle.plan_table.specs.Table.{activity_of, resource_of, table_of}
 use Rattle.plan_weeklist.specs.declared.listed.ListFault.{ListFault}
 use Rattle.plan_weeklist.specs.declared.listed.ListFault.TheVariants as lists
 use Rattle.plan_weeklist.specs.declared.listed.ListedWeek.{ListedWeek}
@@ -31,7 +33,7 @@ refused_list now conflicts bytes fault error h is =
 pub refused_plan : (now : Option ℕ) (conflicts : ℕ) (bytes : List ℕ) (listed : ListedWeek) (error : WeekTextFault)
     → IsListedWeek [] now bytes listed → IsUnplannedBy conflicts listed error → IsNoWeekText now conflicts bytes error
 refused_plan now conflicts bytes listed texts.Memory is h = tt
-refused_plan now conflicts bytes listed (texts.List f) is h = absurd h.2.1
+refused_plan now conflicts bytes listed (texts.List f) is h = absurd h.2
 refused_plan now conflicts bytes listed texts.BadConflicts is h = (listed, is, h)
 refused_plan now conflicts bytes listed texts.NoPlan is h = (listed, is, h)
 refused_plan now conflicts bytes listed texts.NotFound is h = (listed, is, h)
@@ -45,6 +47,19 @@ unplanned conflicts listed fault error h is = (fault, h, is)
 -- the name of the resources that are left
 pub name_dropped : (resources : List declared_resource.Resource) (n : ℕ) → name_at (map resource_of resources) n ≡ first_name (map resource_of (drop n resources))
 name_dropped resources n = ap first_name (drop-map resource_of n resources)
+
+-- the first activities
+pub those_planned : (activities : List declared_activity.Activity) (n : ℕ) → map activity_of (take n activities) ≡ take n (map activity_of activities)
+those_planned activities n = sym (take-map activity_of n activities)
+
+-- all activities
+pub all_planned : (activities : List declared_activity.Activity) (n : ℕ) → length activities ≤ n → map activity_of activities ≡ take n (map activity_of activities)
+all_planned activities n all = sym (take_all n (map activity_of activities) (omega (arith, all, length-map activities activity_of)))
+
+-- a table has few activities
+pub few_planned : (own : Bool) (activities : List declared_activity.Activity) (resources : List declared_resource.Resource)
+    → IsTable (table_of own activities resources) → length activities ≤ 500
+few_planned own activities resources is = omega (arith, is.limits.rows, length-map activities activity_of)
 
 -- no resource is left
 pub no_name_left : (resources : List declared_resource.Resource) (n : ℕ) → length resources ≤ n → name_at (map resource_of resources) n ≡ []

@@ -1,12 +1,11 @@
 -- Plans for a goal: the shortest plan of a week, or the shortest one among the least tardy.
-use Rattle.std.specs.Prelude.{ℕ, ◌-◌, ◌≤◌, List, Option, Some, None}
-use Rattle.plan_solve.specs.declared.plans.TheConstants.{LATEST_COST}
+use Rattle.std.specs.Prelude.{ℕ, List, Option, Some, None}
 use Rattle.plan_solve.specs.Solutions.{IsConflictLimit}
 use Rattle.plan_week.specs.declared.week.Week.{Week}
 use Rattle.plan_week.specs.Overloads.{IsFirstOverload}
 use Rattle.plan_week.specs.TardinessAnswers.{IsTardinessBound}
 use Rattle.plan_week.specs.Tightening.{IsTightest}
-use Rattle.plan_week.specs.WeekAnswers.{IsBoundedOf, limit_of}
+use Rattle.plan_week.specs.WeekAnswers.{IsBoundedOf}
 use Rattle.plan_week.specs.Weeks.{IsWeekPlan}
 use Rattle.plan_weeks.specs.declared.planning.Goal.{Goal}
 use Rattle.plan_weeks.specs.declared.planning.Goal.TheVariants as goals
@@ -31,14 +30,9 @@ IsPlanFor week p goals.Tardiness (Some lateness) = IsTimely week p lateness
 abbrev pub IsPlanned : Goal → Week → WeekPlan → Type 0
 IsPlanned goal week p = IsPlanFor week p goal p.lateness
 
--- the latest due date of a week that is planned
-abbrev pub latest_date : ℕ
-latest_date = 10000000
-
--- a week has no plan at all; the search covers all plans if the limit of a week is not too far
+-- a week has no plan at all
 abbrev pub HasNoPlan : Week → Type 0
-HasNoPlan week =
-    limit_of week ≤ LATEST_COST - latest_date → (starts : List ℕ) → IsWeekPlan week starts → ⊥
+HasNoPlan week = (starts : List ℕ) → IsWeekPlan week starts → ⊥
 
 -- why there is no plan; nothing is claimed if none was found, or if memory ran out
 abbrev pub IsNoPlan : ℕ → Week → PlanFault → Type 0

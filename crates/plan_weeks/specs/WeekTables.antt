@@ -1,5 +1,6 @@
 -- The table of a plan of a week.
-use Rattle.std.specs.Prelude.{ℕ, ◌+◌, ◌==◌, Bool, if◌then◌else◌, List, [], ◌∷◌, ◌++◌, Option, Some, None, codes, get_or, length, map, nat_lt}
+use Rattle.std.specs.Prelude.{ℕ, ◌+◌, ◌==◌, Bool, if◌then◌else◌, List, [], ◌∷◌, ◌++◌}
+use Rattle.std.specs.Prelude.{Option, Some, None, codes, filter, get_or, length, map, nat_lt, take}
 use Rattle.std.specs.List.{list_all, range_with_len}
 use Rattle.plan_formats.specs.Cells.{Cell, number, empty}
 use Rattle.plan_formats.specs.Columns.{Column}
@@ -8,16 +9,19 @@ use Rattle.plan_formats.specs.NamedTables.{with_names}
 use Rattle.plan_formats.specs.TableLines.{Line, optimal, between, makespan, tardiness, late}
 use Rattle.plan_formats.specs.Tables.{Table}
 use Rattle.plan_formats.specs.declared.column.Layout.TheVariants as layout
-use Rattle.plan_sgs.specs.Problem.{total}
 use Rattle.plan_table.specs.Names.{Name}
 use Rattle.plan_table.specs.Table.{Activity}
 use Rattle.plan_week.specs.declared.week.State.{State}
 use Rattle.plan_week.specs.declared.week.State.TheVariants.{Open, Begun, Done}
 use Rattle.plan_week.specs.declared.week.Week.{Week}
 use Rattle.plan_week.specs.Tardiness.{tardiness_of}
-use Rattle.plan_week.specs.Weeks.{state_of}
+use Rattle.plan_week.specs.Weeks.{end_of, state_of}
 use Rattle.plan_weeks.specs.declared.planning.Lateness.{Lateness}
 use Rattle.plan_weeks.specs.declared.planning.WeekPlan.{WeekPlan}
+
+-- the places of the activities of a week
+abbrev pub places : Week → List ℕ
+places week = range_with_len 0 (length week.durations.items)
 
 -- ---- rows
 
@@ -31,12 +35,6 @@ start_cell (Open earliest fixed) start = number start
 start_cell (Begun began remaining) start = number began
 start_cell (Done ended) start = empty
 
--- when an activity ends, or when it ended
-abbrev pub end_number : State → ℕ → ℕ → ℕ
-end_number (Open earliest fixed) lasts start = start + lasts
-end_number (Begun began remaining) lasts start = start + remaining
-end_number (Done ended) lasts start = ended
-
 -- how late an activity is, in a plan of the least tardy
 abbrev pub late_cells : Week → List ℕ → ℕ → Option Lateness → List Cell
 late_cells week starts k None = []
@@ -46,8 +44,7 @@ late_cells week starts k (Some lateness) = number (tardiness_of week starts k) �
 unfoldable pub week_row : Week → List ℕ → Option Lateness → ℕ → List Cell
 week_row week starts lateness k =
     number (k + 2) ∷ number (lasts_of week k) ∷ start_cell (state_of week k) (get_or starts k 0)
-    ∷ number (end_number (state_of week k) (lasts_of week k) (get_or starts k 0))
-    ∷ late_cells week starts k lateness
+    ∷ number (end_of week starts k) ∷ late_cells week starts k lateness
 
 -- ---- columns
 
@@ -78,13 +75,9 @@ lines_above p None = bound_line p.lower p.makespan ∷ []
 lines_above p (Some lateness) =
     tardiness lateness.least lateness.late ∷ bound_line p.lower p.makespan ∷ []
 
--- 1 for a late activity
-abbrev pub late_one : Week → List ℕ → ℕ → ℕ
-late_one week starts k = if nat_lt 0 (tardiness_of week starts k) then 1 else 0
-
 -- how many activities are late
 abbrev pub late_count : Week → List ℕ → ℕ
-late_count week starts = total (length week.durations.items) (late_one week starts)
+late_count week starts = length (filter (nat_lt 0) (map (tardiness_of week starts) (places week)))
 
 -- the lines below the rows: the makespan, and how many activities are late
 abbrev pub lines_below : Week → WeekPlan → Option Lateness → List Line
@@ -96,8 +89,7 @@ lines_below week p (Some lateness) =
 
 -- the rows of all activities
 abbrev pub week_rows : Week → WeekPlan → List (List Cell)
-week_rows week p =
-    map (week_row week p.starts.items p.lateness) (range_with_len 0 (length week.durations.items))
+week_rows week p = map (week_row week p.starts.items p.lateness) (places week)
 
 -- the table of a plan, with numbers of activities
 unfoldable pub week_view : Week → WeekPlan → Table
@@ -125,7 +117,12 @@ are_nameless activities = list_all (λ a. length a.name == 0) activities
 abbrev pub named : List Activity → Table → Table
 named activities t = if are_nameless activities then t else with_names (names_from 2 activities) t
 
+-- the activities of a week, which are the first ones of its list; the others are waits
+abbrev pub planned : Week → List Activity → List Activity
+planned week activities = take (length week.durations.items) activities
+
 -- the table of a plan, with the ids and the names of the activities
 abbrev pub listed_view : List Activity → Week → WeekPlan → Table
 listed_view activities week p =
-    with_ids (ids_from 2 activities) (named activities (week_view week p))
+    with_ids (ids_from 2 (planned week activities))
+    (named (planned week activities) (week_view week p))

@@ -8,5 +8,5 @@ mod view;
 
 pub use fault::{PlanFault, WeekTextFault};
 pub use planning::{Goal, Lateness, WeekPlan, plan_week};
-pub use text::{listed_view, week_text};
+pub use text::{ids_of, listed_view, named, week_text};
 pub use view::week_view;

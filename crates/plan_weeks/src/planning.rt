@@ -1,22 +1,20 @@
 //! Plans of a week for a goal.
 
-ghost use Rattle.std.specs.Prelude.{◌≡◌, ◌≤◌, IfErr, IfOk};
+ghost use Rattle.std.specs.Prelude.{◌≡◌, ◌≤◌, ◌-◌, ℕ, min, IfErr, IfOk};
 ghost use Rattle.plan_solve.specs.Progress.{HearsNothing};
 ghost use Rattle.plan_week.specs.Tardiness.{latest_due as latest};
 ghost use Rattle.plan_week.specs.TardinessAnswers.{IsTardyOf};
+ghost use Rattle.plan_week.specs.WeekAnswers.{NoneEndsBy, limit_of};
 ghost use Rattle.plan_weeks.specs.WeekPlans as spec;
 ghost use Rattle.plan_weeks.specs.declared.planning.Goal.TheVariants as goals;
 
 use crate::fault::PlanFault;
-use plan_solve::Watcher;
+use plan_solve::{LATEST_COST, Watcher};
 use plan_week::{
     TardyAnswer, Week, WeekAnswer, first_overload, latest_due, limits_are_enough, solve_tardiness,
     solve_week, tighten,
 };
 use std::alloc::Global;
-
-/// The latest due date of a week that is planned.
-const LATEST_DATE: u32 = 10_000_000;
 
 /// A plan is to be the shortest one, or the shortest one among the least tardy.
 #[derive(Clone, Copy, Debug, PartialEq, Eq)]
@@ -43,8 +41,24 @@ pub struct WeekPlan {
     pub lateness: Option<Lateness>,
 }
 
+// Returns the error of a week of which no plan ends by a limit. There is no plan at all, unless the
+// limit is the greatest one of a search: then a plan can end later.
+#[tactic(auto, using(crate::proofs::PlanLemmas::no_plan))]
+fn refuted(week: &Week, limit: u32, greatest: u32) -> PlanFault
+    requires none { NoneEndsBy week.now limit }
+    requires limit { limit ≡ min (limit_of week.now) greatest }
+    ensures { (conflicts : ℕ) → spec.IsNoPlan conflicts week.now result }
+{
+    limits_are_enough();
+    if limit < greatest {
+        PlanFault::Impossible
+    } else {
+        PlanFault::NotFound
+    }
+}
+
 // Returns the shortest plan of a week, as far as a search finds it.
-#[tactic(auto, using(crate::proofs::PlanLemmas::refused_search, crate::proofs::PlanLemmas::bounded, crate::proofs::PlanLemmas::no_plan))]
+#[tactic(auto, using(crate::proofs::PlanLemmas::refused_search, crate::proofs::PlanLemmas::bounded))]
 fn plan_shortest<W: Watcher>(
     alloc: Global,
     week: &Week,
@@ -55,7 +69,6 @@ fn plan_shortest<W: Watcher>(
     ensures refused { IfErr result (spec.IsNoPlan conflicts week.now) }
     ensures told { HearsNothing (W.was_told watcher.old) (W.was_told watcher.new) }
 {
-    limits_are_enough();
     let solved = solve_week(alloc, week, conflicts, watcher)?;
     match solved.answer {
         WeekAnswer::Shortest { starts, makespan } => Ok(WeekPlan {
@@ -74,7 +87,7 @@ fn plan_shortest<W: Watcher>(
             lower: lower as u64,
             lateness: None,
         }),
-        WeekAnswer::Impossible => Err(PlanFault::Impossible),
+        WeekAnswer::Impossible => Err(refuted(week, solved.limit, LATEST_COST)),
         WeekAnswer::NotFound { .. } => Err(PlanFault::NotFound),
     }
 }
@@ -104,19 +117,19 @@ fn plan_tighter<W: Watcher>(
 }
 
 // Returns the shortest plan of a week among the least tardy, as far as a search finds it.
-#[tactic(auto, using(crate::proofs::PlanLemmas::refused_search, crate::proofs::PlanLemmas::no_timely_plan))]
+#[tactic(auto, using(crate::proofs::PlanLemmas::refused_search))]
 fn plan_timely<W: Watcher>(
     alloc: Global,
     week: &Week,
     conflicts: u64,
     watcher: &mut W,
 ) -> Result<WeekPlan, PlanFault>
-    requires { latest week.now ≤ LATEST_DATE }
+    requires { latest week.now ≤ LATEST_COST }
     ensures plan { IfOk result (spec.IsPlanned goals.Tardiness week.now) }
     ensures refused { IfErr result (spec.IsNoPlan conflicts week.now) }
     ensures told { HearsNothing (W.was_told watcher.old) (W.was_told watcher.new) }
 {
-    limits_are_enough();
+    let greatest = LATEST_COST - latest_due(week);
     let solved = solve_tardiness(alloc, week, conflicts, watcher)?;
     match solved.answer {
         TardyAnswer::Tardy {
@@ -127,7 +140,7 @@ fn plan_timely<W: Watcher>(
             let lateness = Lateness { late, least };
             plan_tighter(alloc, week, &starts, lateness, conflicts, watcher)
         }
-        TardyAnswer::NotOnTime => Err(PlanFault::Impossible),
+        TardyAnswer::NotOnTime => Err(refuted(week, solved.limit, greatest)),
         TardyAnswer::NotKnown { .. } => Err(PlanFault::NotFound),
     }
 }
@@ -147,7 +160,7 @@ fn plan_for<W: Watcher>(
     match goal {
         Goal::Makespan => plan_shortest(alloc, week, conflicts, watcher),
         Goal::Tardiness => {
-            if latest_due(week) > LATEST_DATE {
+            if latest_due(week) > LATEST_COST {
                 return Err(PlanFault::NotFound);
             }
             plan_timely(alloc, week, conflicts, watcher)
@@ -156,8 +169,8 @@ fn plan_for<W: Watcher>(
 }
 
 /// Returns the plan of a week for a goal that a search with at most so many conflicts finds, and
-/// what it proves of all plans. For [`Goal::Tardiness`] there are two such searches, and no due
-/// date is after 10,000,000.
+/// what it proves of all plans. For [`Goal::Tardiness`] there are two such searches, and no plan is
+/// found if a due date is after 1,000,000,000.
 pub fn plan_week<W: Watcher>(
     alloc: Global,
     goal: Goal,

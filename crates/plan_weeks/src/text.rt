@@ -19,8 +19,11 @@ use plan_table::{Activity, NameLine};
 use plan_weeklist::{ListedWeek, read_week};
 use std::alloc::{AllocError, Global};
 
-// Returns the ids of activities, of which the first one has the number 2.
-fn ids_of<'a>(alloc: Global, activities: &'a [Activity]) -> Result<Vec<NameLine<'a>>, AllocError>
+/// Returns the ids of activities, of which the first one has the number 2.
+pub fn ids_of<'a>(
+    alloc: Global,
+    activities: &'a [Activity],
+) -> Result<Vec<NameLine<'a>>, AllocError>
     requires { length activities.now ≤ 500 }
     ensures { IfOk result (λ v. map name_of v.items
         ≡ tables.ids_from 2 (map activity_of activities.now)) }
@@ -63,8 +66,8 @@ fn are_nameless(activities: &[Activity]) -> bool
     true
 }
 
-// Returns a table with the names of activities, if there are any.
-fn named<'a>(
+/// Returns a table with the names of activities, if there are any.
+pub fn named<'a>(
     alloc: Global,
     activities: &'a [Activity],
     table: Table<'a>,
@@ -80,6 +83,21 @@ fn named<'a>(
     with_names(alloc, table, &names)
 }
 
+// Returns the activities of a week, which are the first ones of its list. The others are waits.
+#[tactic(auto, using(crate::proofs::WeekTextLemmas::those_planned, crate::proofs::WeekTextLemmas::all_planned, crate::proofs::WeekTextLemmas::few_planned))]
+fn planned(listed: &ListedWeek) -> &[Activity]
+    ensures activities { map activity_of result.now
+        ≡ tables.planned listed.now.week listed.now.table.activities }
+    ensures few { length result.now ≤ 500 }
+{
+    let count = listed.week.durations.len();
+    if count < listed.table.activities.len() {
+        &listed.table.activities[..count]
+    } else {
+        &listed.table.activities
+    }
+}
+
 /// Returns the table of a plan of a week, with the ids and the names of the activities.
 pub fn listed_view<'a>(
     alloc: Global,
@@ -89,7 +107,7 @@ pub fn listed_view<'a>(
     ensures { IfOk result (λ made. table_of made
         ≡ tables.listed_view listed.now.table.activities listed.now.week plan.now) }
 {
-    let activities = &listed.table.activities;
+    let activities = planned(listed);
     let view = week_view(alloc, &listed.week, plan)?;
     let named = named(alloc, activities, view)?;
     let ids = ids_of(alloc, activities)?;

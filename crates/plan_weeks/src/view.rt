@@ -5,12 +5,11 @@ ghost use Rattle.plan_formats.specs.Cells.{cell_of};
 ghost use Rattle.plan_formats.specs.Columns.{column_of};
 ghost use Rattle.plan_formats.specs.TableLines.{line_of};
 ghost use Rattle.plan_formats.specs.Tables.{cells_of, rows_of, table_of};
-ghost use Rattle.plan_week.specs.Weeks as weeks;
 ghost use Rattle.plan_weeks.specs.WeekTables as spec;
 
 use crate::planning::{Lateness, WeekPlan};
 use plan_formats::{Cell, Column, Layout, Line, Table};
-use plan_week::{State, Week, tardiness_of};
+use plan_week::{State, Week, end_of, state_of, tardiness_of};
 use std::alloc::{AllocError, Global};
 
 // Returns the number at a place, 0 if there is none.
@@ -18,20 +17,6 @@ fn at(list: &[u32], place: usize) -> u32
     ensures { result ≡ slice_index list.now place }
 {
     if place < list.len() { list[place] } else { 0 }
-}
-
-// Returns the state of an activity.
-fn state_of(week: &Week, activity: usize) -> State
-    ensures { result ≡ weeks.state_of week.now activity }
-{
-    if activity < week.states.len() {
-        week.states[activity]
-    } else {
-        State::Open {
-            earliest: 0,
-            fixed: None,
-        }
-    }
 }
 
 // Returns the cell of a start.
@@ -42,17 +27,6 @@ fn start_cell<'a>(state: State, start: u32) -> Cell<'a>
         State::Open { .. } => Cell::Number(start as u64),
         State::Begun { began, .. } => Cell::Number(began as u64),
         State::Done { .. } => Cell::Empty,
-    }
-}
-
-// Returns the end of an activity.
-fn end_number(state: State, lasts: u32, start: u32) -> u64
-    ensures { result ≡ spec.end_number state lasts start }
-{
-    match state {
-        State::Open { .. } => start as u64 + lasts as u64,
-        State::Begun { remaining, .. } => start as u64 + remaining as u64,
-        State::Done { ended } => ended as u64,
     }
 }
 
@@ -69,14 +43,12 @@ fn row<'a>(
     ensures { IfOk result (λ cells.
         cells_of cells.items ≡ spec.week_row week.now starts.now lateness k) }
 {
-    let state = state_of(week, k);
-    let lasts = at(&week.durations, k);
-    let start = at(starts, k);
+    let start = start_cell(state_of(week, k), at(starts, k));
     let mut row = Vec::new(alloc);
     row.push(Cell::Number(k as u64 + 2))?;
-    row.push(Cell::Number(lasts as u64))?;
-    row.push(start_cell(state, start))?;
-    row.push(Cell::Number(end_number(state, lasts, start)))?;
+    row.push(Cell::Number(at(&week.durations, k) as u64))?;
+    row.push(start)?;
+    row.push(Cell::Number(end_of(week, starts, k)))?;
     if lateness.is_some() {
         row.push(Cell::Number(tardiness_of(week, starts, k)))?;
     }
@@ -84,6 +56,7 @@ fn row<'a>(
 }
 
 // Returns the rows of all activities.
+#[tactic(auto, using(crate::proofs::ViewLemmas::rows_more))]
 fn rows<'a>(alloc: Global, week: &Week, plan: &WeekPlan) -> Result<Vec<Vec<Cell<'a>>>, AllocError>
     ensures { IfOk result (λ rows. rows_of rows.items ≡ spec.week_rows week.now plan.now) }
 {
@@ -144,25 +117,16 @@ fn above(alloc: Global, plan: &WeekPlan) -> Result<Vec<Line>, AllocError>
     Ok(lines)
 }
 
-// Returns 1 for a late activity.
-fn late_one(week: &Week, starts: &[u32], k: usize) -> u64
-    ensures value { result ≡ spec.late_one week.now starts.now k }
-    ensures one { result ≤ 1 }
-{
-    if tardiness_of(week, starts, k) > 0 {
-        1
-    } else {
-        0
-    }
-}
-
 // Returns how many activities are late.
+#[tactic(auto, using(crate::proofs::ViewLemmas::late_more, crate::proofs::ViewLemmas::late_same))]
 fn late_count(week: &Week, starts: &[u32]) -> u64
     ensures { result ≡ spec.late_count week.now starts.now }
 {
     let mut count: u64 = 0;
     for k in 0..week.durations.len() {
-        count += late_one(week, starts, k);
+        if tardiness_of(week, starts, k) > 0 {
+            count += 1;
+        }
     }
     count
 }
