@@ -10,7 +10,7 @@ use Rattle.serde_json.specs.Written.{has_float, members_have_float, items_have_f
 use Rattle.serde_json.specs.View.{items_of}
 use Rattle.plan_formats.specs.Cells.{Cell, number, above, below, text, flag, empty, value_of}
 use Rattle.plan_formats.specs.Columns.{Column}
-use Rattle.plan_formats.specs.TableLines.{Line, optimal, between, budget, duration, makespan, chain, id_chain, moved, id_list, summary}
+use Rattle.plan_formats.specs.TableLines.{Line, optimal, between, budget, duration, makespan, chain, id_chain, moved, tardiness, late, id_list, summary}
 use Rattle.plan_formats.specs.Tables.{Table, cells_of}
 use Rattle.plan_formats.specs.JsonData as json
 use Rattle.plan_formats.specs.declared.cell.Cell as declared
@@ -120,6 +120,9 @@ line_fits (chain js) ms fit = put_fits 2 (codes "chain") (json.chain_data js) ms
 line_fits (id_chain js ids) ms fit =
     put_fits 2 (codes "chain_ids") (json.words_data ids) _ (words_fit ids) (put_fits 2 (codes "chain") (json.chain_data (Some js)) ms (chain_fits (Some js)) fit)
 line_fits (moved n count) ms fit = number_fits (codes "compared") count _ (number_fits (codes "moved") n ms fit)
+line_fits (tardiness lower upper) ms fit =
+    number_fits (codes "tardiness_upper_bound") upper _ (number_fits (codes "tardiness_lower_bound") lower ms fit)
+line_fits (late n count) ms fit = number_fits (codes "activities") count _ (number_fits (codes "late") n ms fit)
 line_fits (id_list word ids) ms fit = put_fits 2 word (json.words_data ids) ms (words_fit ids) fit
 line_fits (summary name n verdict) ms fit =
     string_fits (codes "verdict_" ++ name) verdict _ (number_fits (codes "makespan_" ++ name) n ms fit)

@@ -1,0 +1,10 @@
+mod ListLemmas
+mod WeekLemmas
+mod PlainLemmas
+mod AnswerLemmas
+mod OverloadLemmas
+mod TardinessLemmas
+mod LimitedLemmas
+mod TardyAnswerLemmas
+mod LimitLemmas
+mod TighteningLemmas

@@ -1,0 +1,31 @@
+use Rattle.std.proofs.Common.{map}
+use Rattle.std.proofs.lemmas.Result.{err_from_is_err_and}
+use Rattle.plan_table.specs.Overrides.{override_of}
+use Rattle.plan_weeklist.proofs.ListedLemmas.{listed_by, plain_refused_by, table_refused_by, week_refused_by}
+use Rattle.plan_weeklist.proofs.listed.read_week.Goals as goal
+
+pub returns-clause-listed : goal.returns-clause-listed
+returns-clause-listed c =
+    listed_by (map override_of c.args.overrides.now) c.args.today c.args.bytes.now c.text-text.result.now c.utf8-2.result.now
+    c.in_ok-list.list c.in_ok-plain.plain (record { table = c.in_ok-table.table; week = c.in_ok-week.week }) c.in_ok-list.ensures.list c.text-text.ensures
+    c.in_ok-plain.ensures.plain c.utf8-2.ensures c.in_ok-table.ensures.found c.in_ok-week.ensures.week
+
+pub returns-in_err-plain-clause-refused : goal.returns-in_err-plain-clause-refused
+returns-in_err-plain-clause-refused c =
+    let error = err_from_is_err_and c.from_residual-in_err-plain.result c.from_residual-in_err-plain.ensures.1 in
+    rw error.1 (plain_refused_by (map override_of c.args.overrides.now) c.args.today c.args.bytes.now c.text-text.result.now
+    c.in_ok-list.list c.in_err-plain.field-0.0 error.0 c.in_ok-list.ensures.list c.text-text.ensures c.in_err-plain.ensures.refused error.2)
+
+pub returns-in_err-table-clause-refused : goal.returns-in_err-table-clause-refused
+returns-in_err-table-clause-refused c =
+    let error = err_from_is_err_and c.from_residual-in_err-table.result c.from_residual-in_err-table.ensures.1 in
+    rw error.1 (table_refused_by (map override_of c.args.overrides.now) c.args.today c.args.bytes.now c.text-text.result.now c.utf8-2.result.now
+    c.in_ok-list.list c.in_ok-plain.plain c.in_err-table.field-0.0 error.0 c.in_ok-list.ensures.list c.text-text.ensures
+    c.in_ok-plain.ensures.plain c.utf8-2.ensures c.in_err-table.ensures.refused error.2)
+
+pub returns-in_err-week-clause-refused : goal.returns-in_err-week-clause-refused
+returns-in_err-week-clause-refused c =
+    let error = err_from_is_err_and c.from_residual-in_err-week.result c.from_residual-in_err-week.ensures.1 in
+    rw error.1 (week_refused_by (map override_of c.args.overrides.now) c.args.today c.args.bytes.now c.text-text.result.now c.utf8-2.result.now
+    c.in_ok-list.list c.in_ok-plain.plain c.in_ok-table.table c.in_err-week.field-0.0 error.0 c.in_ok-list.ensures.list c.text-text.ensures
+    c.in_ok-plain.ensures.plain c.utf8-2.ensures c.in_ok-table.ensures.found c.in_err-week.ensures.refused error.2)

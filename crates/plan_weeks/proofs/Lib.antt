@@ -1,0 +1,3 @@
+mod PlanLemmas
+mod ViewLemmas
+mod WeekTextLemmas

@@ -1,0 +1,27 @@
+-- Plans of a week by the answers of plan_week.
+use Rattle.std.proofs.Common.{◌≡◌, ℕ, ◌<◌, List, min, arith, subst, sym}
+use Rattle.plan_solve.specs.declared.fault.SolveFault.{SolveFault}
+use Rattle.plan_solve.specs.declared.fault.SolveFault.TheVariants as solving
+use Rattle.plan_solve.specs.Solutions.{RefusesSolving}
+use Rattle.plan_week.specs.declared.week.Week.{Week}
+use Rattle.plan_week.specs.WeekAnswers.{IsBoundedOf, IsShortestOf, LimitsAreEnough, NoneEndsBy, limit_of}
+use Rattle.plan_weeks.specs.declared.fault.PlanFault.{PlanFault}
+use Rattle.plan_weeks.specs.Faults.{plan_fault_of}
+use Rattle.plan_weeks.specs.WeekPlans.{HasNoPlan, IsNoPlan}
+
+-- an error of a search is one of a plan
+pub refused_search : (conflicts : ℕ) (week : Week) (error : SolveFault) (fault : PlanFault) → RefusesSolving conflicts error
+    → fault ≡ plan_fault_of error → IsNoPlan conflicts week fault
+refused_search conflicts week solving.NoMemory fault h is = subst (IsNoPlan conflicts week) (sym is) tt
+refused_search conflicts week solving.BadConflicts fault h is = subst (IsNoPlan conflicts week) (sym is) h
+
+-- a shortest plan has its makespan as bound
+pub bounded : (week : Week) (starts : List ℕ) (n : ℕ) → IsShortestOf week starts n → IsBoundedOf week starts n n
+bounded week starts n h = record { plan = h.plan; bound = h.least }
+
+-- no plan ends by the limit of a week, so there is none
+pub no_plan : (week : Week) (limit greatest : ℕ) → LimitsAreEnough → NoneEndsBy week limit → limit ≡ min (limit_of week) greatest
+    → limit < greatest → HasNoPlan week
+unfolding LimitsAreEnough
+no_plan week limit greatest enough none is below starts plan =
+    let other = enough week starts plan in omega (arith, is, below, other.2, none other.0 other.1)
