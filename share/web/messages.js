@@ -79,9 +79,13 @@ const MESSAGES = {
     "It has more steps than the list has machines."],
   T16: ({ word }) => ["Give the predecessors of each row instead.",
     `The column ${word} gives successors. If it is a resource, add its capacity.`],
+  T17: ({ row }) => ["Give today's instant with --now.", `${row} has begun or is done.`],
   T18: () => ["Save its sheet as CSV (UTF-8), and drop that.", "It is a workbook, not a text."],
   T19: ({ row, word, capacity }) => [`Raise the capacity of ${word}, or lower what ${row} needs.`,
     `It needs more than the capacity ${capacity}, so it can never start.`],
+  T20: ({ row }) => [`Write a whole number for each date and amount of ${row}.`, CELL],
+  T21: ({ row }) => [`Correct one of the dates of ${row}, or delete it.`,
+    "They contradict each other."],
 
   S1: ({ activity, resource }) => [
     `Raise the capacity of ${resource}, or lower what ${activity} needs.`,
@@ -94,6 +98,11 @@ const MESSAGES = {
   S9: () => ["Start the activities earlier, or use larger time units.",
     "The schedule ends after 10,000,000."],
   S10: ({ verdict }) => verdict,
+  S11: () => ["Interrupt begun work, or move an appointment.",
+    "Together they need more of a resource than there is."],
+  S12: () => ["Move an appointment, raise a capacity, or shorten an absence.",
+    "No plan keeps all of them."],
+  S13: () => ["Search for longer.", "The search has found no plan. There may be one."],
 
   G1: () => ["Choose a date from 1900-01-01 to 2199-12-31.", "The first date is another one."],
   G2: () => ["Mark a working day.", "None is marked."],

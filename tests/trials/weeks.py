@@ -1,308 +1,313 @@
-"""A model of the working week: the shortest plan and the least greatest tardiness of at most seven
-activities, by trying all orders. `plans_by_starts` tries all starts of very small weeks, so that
-the model itself can be tested: `python3 tests/trials/weeks.py`."""
+#!/usr/bin/env python3
+"""Plans drawn lists with dates and compares `plan solve` with a brute force: the least makespan, the
+least greatest tardiness and the least makespan with it, overloads, lists without a plan, and errors
+of dates. The starts must be a plan by its definition, and the text must show them.
 
-import itertools
+    tests/trials/weeks.py               500 lists; prints nothing on success
+    tests/trials/weeks.py CASES SEED    so many, drawn from this seed; prints what they were
+
+The program is the one that ./plan runs, or the one that PLAN_PROGRAM names.
+"""
+
+import collections
+import json
+import os
 import random
+import sys
+import tempfile
+
+sys.dont_write_bytecode = True
+sys.path.insert(0, os.path.dirname(os.path.abspath(__file__)))
+
+from answers import Wrong, plan, printed, refused, same, written
+from model import weeks
+
+COLUMNS = ["id", "duration", "predecessors", "earliest", "fixed", "begun", "remaining", "done", "due"]
+DATES = COLUMNS[3:]
+BAD = ["x", "-1", "1.5", "10000001", "3 d", "1234567890"]
+MOST = 10_000_000
 
 
-class Open:
-    """An activity that is still to be started."""
+class Drawn:
+    """A drawn week as a list. Its rows are dictionaries from columns to cells."""
 
-    def __init__(self, earliest=0, fixed=None):
-        self.earliest, self.fixed = earliest, fixed
+    def __init__(self, seed):
+        self.draw = draw = random.Random(seed)
+        self.week = week = weeks.drawn(seed)
+        self.crews = [f"crew {'ABCDEFGH'[k]}" for k in range(len(week.capacities))]
+        self.names = [f"Task {i}" if draw.random() < 0.7 else "" for i in range(week.count())]
+        self.has_names = draw.random() < 0.5
+        self.now = None if draw.random() < (0.03 if self.has_history() else 0.3) else week.today
+        self.rows = [self.row(i) for i in range(week.count())]
+        self.rows += [self.absence(absence) for absence in week.absences]
+        self.given = self.capacity() if draw.random() < 0.1 else None
+        self.header = self.draw.choice(DATES) if draw.random() < 0.1 else None
+        self.is_remarked = draw.random() < 0.05
+        if draw.random() < 0.15:
+            self.spoil()
 
+    def capacity(self):
+        """A resource and another capacity for it."""
+        return self.draw.randrange(len(self.crews)), self.draw.randint(0, 4)
 
-class Begun:
-    """An activity that began, and what is left of it."""
+    def has_history(self):
+        return any(not isinstance(state, weeks.Open) for state in self.week.states)
 
-    def __init__(self, began, remaining):
-        self.began, self.remaining = began, remaining
+    def row(self, i):
+        """The row of an activity; what is planned anew may have been interrupted."""
+        week, state = self.week, self.week.states[i]
+        before = [
+            f"a{first}" + (f"+{lag}d" if lag else "")
+            for first, second, lag in week.arcs
+            if second == i
+        ]
+        cells = {"id": f"a{i}", "duration": week.durations[i], "predecessors": " ".join(before)}
+        if isinstance(state, weeks.Begun):
+            cells |= {"begun": state.began, "remaining": state.remaining}
+        elif isinstance(state, weeks.Done):
+            cells |= {"done": state.ended}
+        else:
+            cells |= {"earliest": state.earliest or ""}
+            cells |= {} if state.fixed is None else {"fixed": state.fixed}
+            if self.now is not None and self.draw.random() < 0.1:
+                cells |= {"begun": "interrupted", "remaining": week.durations[i]}
+                cells["duration"] = week.durations[i] + self.draw.randint(0, 3)
+                cells["duration"] = max(cells["duration"], 1)
+        cells |= {} if week.dues[i] is None else {"due": week.dues[i]}
+        cells |= {crew: need for crew, need in zip(self.crews, week.needs[i])}
+        return cells | {"name": self.names[i]}
 
+    def absence(self, absence):
+        cells = {"id": "absence", "duration": absence.duration, "earliest": absence.earliest or ""}
+        return cells | {self.crews[absence.resource]: absence.amount, "name": "ill"}
 
-class Done:
-    """An activity that ended."""
+    def spoil(self):
+        """Replaces a date, or adds one."""
+        row = self.draw.choice(self.rows)
+        column = self.draw.choice(DATES if row["id"] != "absence" else ["earliest", "duration"])
+        row[column] = self.draw.choice([*BAD, "interrupted", "2", "0", str(self.week.today + 2)])
 
-    def __init__(self, ended):
-        self.ended = ended
+    def columns(self):
+        return COLUMNS[:1] + ["name"] * self.has_names + COLUMNS[1:] + self.crews
 
+    def text(self):
+        columns = self.columns() + ["remark"] * self.is_remarked
+        capacities = {"id": "capacity"} | dict(zip(self.crews, self.week.capacities))
+        rows = [capacities, *({"remark": "see 2"} | row for row in self.rows)]
+        lines = [[str(row.get(column, "")) for column in columns] for row in rows]
+        heads = ["Tag" if column == self.header else column for column in columns]
+        return "".join(",".join(line) + "\n" for line in [heads, *lines])
 
-class Absence:
-    """So much of a resource is missing for a time."""
-
-    def __init__(self, resource, earliest, duration, amount):
-        self.resource, self.earliest = resource, earliest
-        self.duration, self.amount = duration, amount
-
-
-class Week:
-    """Activities and resources are numbered from 0. An arc is (from, to, lag)."""
-
-    def __init__(self, durations, arcs, needs, capacities, states, dues, absences, today):
-        self.durations, self.arcs = durations, arcs
-        self.needs, self.capacities = needs, capacities
-        self.states, self.dues = states, dues
-        self.absences, self.today = absences, today
-
-    def count(self):
-        return len(self.durations)
-
-    def rest(self, i):
-        """How long an activity lasts from today on."""
-        state = self.states[i]
-        if isinstance(state, Open):
-            return self.durations[i]
-        return state.remaining if isinstance(state, Begun) else 0
-
-    def settled(self, i):
-        """The start of an activity that can't move, or None."""
-        state = self.states[i]
-        if isinstance(state, Open):
-            return state.fixed
-        return self.today if isinstance(state, Begun) else min(state.ended, self.today)
-
-    def missing(self, resource, instant):
-        """What is absent of a resource at an instant."""
-        return sum(
-            a.amount
-            for a in self.absences
-            if a.resource == resource and a.earliest <= instant < a.earliest + a.duration
-        )
-
-    def latest_due(self):
-        """The latest due date, or None."""
-        return max((due for due in self.dues if due is not None), default=None)
-
-    def due(self, i):
-        """The due date of an activity; without one it is due at the latest due date."""
-        return self.latest_due() if self.dues[i] is None else self.dues[i]
-
-    def horizon(self):
-        """From this instant on nothing is wished and nobody is absent, and all can be done one
-        after another."""
-        wished = [s.earliest for s in self.states if isinstance(s, Open)]
-        wished += [s.fixed for s in self.states if isinstance(s, Open) and s.fixed is not None]
-        returns = [a.earliest + a.duration for a in self.absences]
-        work = sum(self.rest(i) for i in range(self.count()))
-        return max([self.today] + wished + returns) + work + sum(lag for _, _, lag in self.arcs)
-
-
-def ends(week, starts):
-    return [starts[i] + week.rest(i) for i in range(week.count())]
+    def options(self):
+        words = [] if self.now is None else ["--now", str(self.now)]
+        if self.given is not None:
+            place, amount = self.given
+            name = [self.crews[place], str(place + 1), f"R{place + 1}"][(place + amount) % 3]
+            words += ["--capacity", f"{name}={amount}"]
+        words += ["--ignore", "remark"] if self.is_remarked else []
+        return words + (["--map", f"Tag={self.header}"] if self.header else [])
 
 
-def makespan(week, starts):
-    return max(ends(week, starts), default=0)
+# ---- errors of dates
 
 
-def tardiness(week, starts):
-    """The tardiness of each activity."""
-    return [max(0, end - week.due(i)) for i, end in enumerate(ends(week, starts))]
+def number(cell):
+    """The number in a cell; None if it is empty."""
+    cell = str(cell)
+    if not cell:
+        return None
+    if not (cell.isdigit() and len(cell) <= 9 and int(cell) <= MOST):
+        raise ValueError
+    return int(cell)
 
 
-def fits_at(week, starts, instant):
-    """Whether needs and absences are at most the capacities. `starts` may have None."""
-    for resource, capacity in enumerate(week.capacities):
-        used = week.missing(resource, instant)
-        for i, start in enumerate(starts):
-            if start is not None and start <= instant < start + week.rest(i):
-                used += week.needs[i][resource]
-        if used > capacity:
-            return False
-    return True
+def check_row(row, now, line):
+    """Raises the line of the first check that a row fails."""
+    cells = {column: str(row.get(column, "")) for column in DATES}
+    fixed = begun = remaining = done = earliest = None
+    try:
+        earliest, fixed = number(cells["earliest"]), number(cells["fixed"])
+        if cells["begun"] and now is None:
+            raise Wrong(f"T17 line {line} begun")
+        begun = cells["begun"] if cells["begun"] == "interrupted" else number(cells["begun"])
+        remaining = number(cells["remaining"])
+        if cells["done"] and now is None:
+            raise Wrong(f"T17 line {line} begun")
+        done = number(cells["done"])
+        number(cells["due"])
+    except ValueError:
+        raise Wrong(f"T20 line {line} number") from None
+    is_ahead = done is None and begun in (None, "interrupted")
+    if is_ahead and fixed is not None and fixed < max(now or 0, earliest or 0):
+        raise Wrong(f"T21 line {line} dates")
+    if remaining is not None and begun is None:
+        raise Wrong(f"T21 line {line} dates")
 
 
-def is_plan(week, starts):
-    """Whether starts are a plan, straight from the definition."""
-    for i, state in enumerate(week.states):
-        if not isinstance(state, Open):
-            if starts[i] != week.settled(i):
-                return False
-        elif starts[i] < max(week.today, state.earliest):
-            return False
-        elif state.fixed is not None and starts[i] != state.fixed:
-            return False
-    for first, second, lag in week.arcs:
-        if isinstance(week.states[second], Open):
-            if starts[first] + week.rest(first) + lag > starts[second]:
-                return False
-    last = max([week.today] + ends(week, starts) + [a.earliest + a.duration for a in week.absences])
-    return all(fits_at(week, starts, t) for t in range(week.today, last + 1))
+def check_absence(row, line):
+    try:
+        number(row.get("earliest", ""))
+        if number(row["duration"]) is None:
+            raise ValueError
+    except ValueError:
+        raise Wrong(f"T20 line {line} number") from None
 
 
-def overload(week):
-    """The first instant and its least resource where what can't move is too much, or None."""
-    settled = [week.settled(i) for i in range(week.count())]
-    for instant in range(week.today, week.horizon() + 1):
-        for resource, capacity in enumerate(week.capacities):
-            used = week.missing(resource, instant)
-            for i, start in enumerate(settled):
-                if start is not None and start <= instant < start + week.rest(i):
-                    used += week.needs[i][resource]
-            if used > capacity:
-                return instant, resource
+def error_of(case):
+    """The error of the dates of a list, or None."""
+    try:
+        for place, row in enumerate(case.rows):
+            if row["id"] == "absence":
+                check_absence(row, place + 3)
+            else:
+                check_row(row, case.now, place + 3)
+    except Wrong as wrong:
+        return str(wrong)
     return None
 
 
-def placed(week, order):
-    """The starts if activities that can move come in this order, each as early as it can be, or
-    None if that is no plan."""
-    starts = [week.settled(i) for i in range(week.count())]
-    horizon = week.horizon()
-    for i in order:
-        start = max(week.today, week.states[i].earliest)
-        for first, second, lag in week.arcs:
-            if second == i:
-                if starts[first] is None:
-                    return None
-                start = max(start, starts[first] + week.rest(first) + lag)
-        while start <= horizon:
-            starts[i] = start
-            if all(fits_at(week, starts, t) for t in range(start, start + week.rest(i))):
-                break
-            start += 1
+def week_of(case):
+    """The week that a list says, whose dates are right."""
+    week, states, durations, dues = case.week, [], [], []
+    today, absences = case.now or 0, []
+    for row in case.rows:
+        cell = {column: row.get(column, "") for column in [*DATES, "duration"]}
+        if row["id"] == "absence":
+            (resource,) = [k for k, crew in enumerate(case.crews) if crew in row]
+            first = number(cell["earliest"]) or 0
+            lasts, amount = number(cell["duration"]), int(row[case.crews[resource]])
+            absences.append(weeks.Absence(resource, first, lasts, amount))
+            continue
+        lasts, remaining = int(cell["duration"]), number(cell["remaining"])
+        dues.append(number(cell["due"]))
+        durations.append(lasts)
+        if str(cell["done"]):
+            states.append(weeks.Done(number(cell["done"])))
+        elif str(cell["begun"]) not in ("", "interrupted"):
+            began = number(cell["begun"])
+            rest = max(0, lasts - max(0, today - began))
+            states.append(weeks.Begun(began, rest if remaining is None else remaining))
         else:
-            return None
-    return starts if is_plan(week, starts) else None
+            states.append(weeks.Open(number(cell["earliest"]) or 0, number(cell["fixed"])))
+        if str(cell["begun"]) == "interrupted" and remaining is not None:
+            durations[-1] = remaining
+    arcs, needs, capacities = week.arcs, week.needs, list(week.capacities)
+    if case.given is not None:
+        capacities[case.given[0]] = case.given[1]
+    return weeks.Week(durations, arcs, needs, capacities, states, dues, absences, today)
 
 
-def plans(week):
-    """The plans that can be best: each activity as early as it can be in some order."""
-    free = [i for i in range(week.count()) if week.settled(i) is None]
-    if not is_possible(week):
-        return []
-    found = (placed(week, order) for order in itertools.permutations(free))
-    return [starts for starts in found if starts is not None]
+# ---- plans
 
 
-def is_possible(week):
-    """Whether nothing that can't move stands against a plan by itself."""
-    for state in week.states:
-        if isinstance(state, Open) and state.fixed is not None:
-            if state.fixed < max(week.today, state.earliest):
-                return False
-    return overload(week) is None
-
-
-def plans_by_starts(week):
-    """All plans of a very small week: every start up to the horizon."""
-    horizon = week.horizon()
-    choices = [
-        range(week.today, horizon + 1) if week.settled(i) is None else [week.settled(i)]
-        for i in range(week.count())
-    ]
-    return [starts for starts in map(list, itertools.product(*choices)) if is_plan(week, starts)]
-
-
-def least_makespan(week, found=None):
-    """The least makespan, or None if there is no plan."""
-    found = plans(week) if found is None else found
-    return min((makespan(week, starts) for starts in found), default=None)
-
-
-def least_tardiness(week, found=None):
-    """The least greatest tardiness and the least makespan with it, or None if there is no plan.
-    Some activity has a due date."""
-    found = plans(week) if found is None else found
-    return min(
-        ((max(tardiness(week, starts), default=0), makespan(week, starts)) for starts in found),
-        default=None,
-    )
-
-
-def drawn(seed, most=7, long=4):
-    """A week of at most so many activities."""
-    draw = random.Random(seed)
-    count = draw.randint(1, most)
-    kinds = draw.randint(1, 2)
-    capacities = [draw.randint(1, 3) for _ in range(kinds)]
-    durations = [draw.randint(0 if draw.random() < 0.1 else 1, long) for _ in range(count)]
-    needs = [
-        [draw.randint(0, capacity) if durations[i] else 0 for capacity in capacities]
-        for i in range(count)
-    ]
-    arcs = [
-        (first, second, draw.choice([0, 0, 0, 1, 2]))
-        for second in range(count)
-        for first in range(second)
-        if draw.random() < 0.25
-    ]
-    today = draw.choice([0, 0, 1, 3, 6])
-    states = [drawn_state(draw, durations[i], today) for i in range(count)]
-    dues = [draw.randint(1, today + 10) if draw.random() < 0.5 else None for _ in range(count)]
-    absences = [
-        Absence(
-            resource,
-            draw.randint(0, today + 8),
-            draw.randint(1, 5),
-            draw.randint(1, capacities[resource]),
-        )
-        for resource in (draw.randrange(kinds) for _ in range(draw.choice([0, 1, 1, 2])))
-    ]
-    return Week(durations, arcs, needs, capacities, states, dues, absences, today)
-
-
-def drawn_state(draw, duration, today):
-    """A state, mostly one that is still to be started."""
-    chance = draw.random()
-    if today > 0 and chance < 0.15:
-        return Done(draw.randint(0, today))
-    if today > 0 and chance < 0.3:
-        began = draw.randint(0, today)
-        rest = max(0, duration - (today - began))
-        return Begun(began, draw.choice([rest, rest, draw.randint(0, 4)]))
-    if chance < 0.45:
-        return Open(fixed=draw.randint(max(0, today - 1), today + 8))
-    if chance < 0.6:
-        return Open(earliest=draw.randint(0, today + 6))
-    return Open()
-
-
-def words_of(week, i):
-    """The cells of a row: id, duration, predecessors, earliest, fixed, begun, remaining, done, due
-    and the needs."""
+def start_shown(week, i, start):
     state = week.states[i]
-    before = [
-        f"a{first}" + (f"+{lag}d" if lag else "") for first, second, lag in week.arcs if second == i
-    ]
-    cells = [f"a{i}", str(week.durations[i]), " ".join(before), "", "", "", "", ""]
-    if isinstance(state, Open):
-        cells[3] = str(state.earliest) if state.earliest else ""
-        cells[4] = "" if state.fixed is None else str(state.fixed)
-    elif isinstance(state, Begun):
-        cells[5], cells[6] = str(state.began), str(state.remaining)
-    else:
-        cells[7] = str(state.ended)
-    due = "" if week.dues[i] is None else str(week.dues[i])
-    return cells + [due] + [str(need) for need in week.needs[i]]
+    if isinstance(state, weeks.Done):
+        return None
+    return state.began if isinstance(state, weeks.Begun) else start
 
 
-def list_of(week):
-    """The text of the list of a week, for `plan solve LIST --now TODAY`."""
-    crews = [f"crew {'ABCDEFGH'[k]}" for k in range(len(week.capacities))]
-    head = ["id", "duration", "predecessors", "earliest", "fixed", "begun", "remaining", "done"]
-    rows = [head + ["due"] + crews, ["capacity"] + [""] * 8 + [str(c) for c in week.capacities]]
-    rows += [words_of(week, i) for i in range(week.count())]
-    for absence in week.absences:
-        amounts = ["" for _ in week.capacities]
-        amounts[absence.resource] = str(absence.amount)
-        times = ["absence", str(absence.duration), "", str(absence.earliest)]
-        rows.append(times + [""] * 5 + amounts)
-    return "".join(",".join(row) + "\n" for row in rows)
+def end_shown(week, i, start):
+    state = week.states[i]
+    return state.ended if isinstance(state, weeks.Done) else start + week.rest(i)
 
 
-def test(cases):
-    """Compares both ways to find plans, on very small weeks."""
-    none = 0
-    for seed in range(cases):
-        week = drawn(seed, most=3, long=3)
-        one, other = plans(week), plans_by_starts(week)
-        assert least_makespan(week, one) == least_makespan(week, other), f"seed {seed}"
-        if week.latest_due() is not None:
-            assert least_tardiness(week, one) == least_tardiness(week, other), f"seed {seed}"
-        none += not other
-    return none
+def starts_in(week, rows):
+    """The starts of a plan in JSON; what can't move starts where the definition says."""
+    settled = [week.settled(i) for i in range(week.count())]
+    return [row["start"] if at is None else at for at, row in zip(settled, rows)]
+
+
+def cells_of(case, week, starts, is_late):
+    """The rows that a plan shows: the id, the duration, the start, the end, how late it is, and the
+    name."""
+    late = weeks.tardiness(week, starts) if is_late else [None] * week.count()
+    for i, start in enumerate(starts):
+        numbers = [week.durations[i], start_shown(week, i, start), end_shown(week, i, start)]
+        yield [f"a{i}", *numbers, *([late[i]] if is_late else [])], case.names[i]
+
+
+def text_of(case, week, starts, is_late, bound):
+    """The text of a plan."""
+    heads = ["d", "start", "end"] + ["late"] * is_late
+    has_names = case.has_names and any(case.names)
+    # The ids of waits, such as wait+0, aren't shown, and count for the places of the column.
+    places = 6 if any(lag for _, _, lag in week.arcs) else 4
+    lines = ["id".rjust(places) + "".join(f"{head:>8}" for head in heads) + " name" * has_names]
+    for (word, *numbers), name in cells_of(case, week, starts, is_late):
+        cells = "".join(f"{'-' if n is None else n:>8}" for n in numbers)
+        lines.append(f"{word:>{places}}{cells}" + (f" {name}" if has_names and name else ""))
+    ends = weeks.makespan(week, starts)
+    lines = [*bound, f"optimal {ends}", *lines, f"makespan {ends}"]
+    if is_late:
+        late = sum(tardy > 0 for tardy in weeks.tardiness(week, starts))
+        lines.append(f"late {late} of {week.count()}")
+    return "".join(line.rstrip() + "\n" for line in lines)
+
+
+def goal_words(is_late):
+    return ["--goal", "tardiness"] if is_late else []
+
+
+def try_plan(case, week, folder, name, is_late, wanted):
+    """Compares the plan of a list for a goal with what is wanted."""
+    words = ["solve", *case.options(), *goal_words(is_late), name]
+    what = f"{words} of\n{case.text()}"
+    status, output, errors = plan(folder, *words, "--format", "json")
+    same(f"{what}: the status and the errors", (status, errors), (0, b""))
+    found = json.loads(output)
+    starts = starts_in(week, found["rows"])
+    if not weeks.is_plan(week, starts):
+        raise Wrong(f"{what}: no plan: {starts}")
+    tardy, ends = wanted if is_late else (None, wanted)
+    same(f"{what}: the makespan", weeks.makespan(week, starts), ends)
+    same(f"{what}: the bounds", (found["lower_bound"], found["upper_bound"]), (ends, ends))
+    bound = []
+    if is_late:
+        same(f"{what}: the tardiness", max(weeks.tardiness(week, starts)), tardy)
+        bound = [f"tardiness optimal {tardy}"]
+    text = text_of(case, week, starts, is_late, bound)
+    status, output, errors = plan(folder, *words)
+    lines = "".join(line.rstrip() + "\n" for line in output.decode().splitlines())
+    same(f"{what}: the text", (status, lines.encode(), errors), printed(text))
+
+
+def wanted_error(case, week, found):
+    """The line of the error of a list whose dates are right, or None."""
+    overload = weeks.overload(week)
+    if overload is not None:
+        return f"S11 {case.crews[overload[1]]} {overload[0]}"
+    return None if found else "S12 no plan"
+
+
+def try_list(seed, folder):
+    case = Drawn(seed)
+    name = written(folder, "week.csv", case.text().encode())
+    error = error_of(case)
+    if error is None:
+        week = week_of(case)
+        found = weeks.plans(week)
+        error = wanted_error(case, week, found)
+    if error is not None:
+        for goal in (False, True):
+            words = ["solve", *case.options(), *goal_words(goal), name]
+            what = f"{words} of\n{case.text()}"
+            same(what, plan(folder, *words), refused(error))
+        return error.split()[0]
+    try_plan(case, week, folder, name, False, weeks.least_makespan(week, found))
+    if week.latest_due() is not None:
+        try_plan(case, week, folder, name, True, weeks.least_tardiness(week, found))
+    return "planned"
+
+
+def try_weeks(cases=500, seed=1, is_verbose=False):
+    tally = collections.Counter()
+    with tempfile.TemporaryDirectory() as folder:
+        for number in range(cases):
+            tally[try_list(seed * 1_000_000 + number, folder)] += 1
+    if is_verbose:
+        print(f"{cases} lists by seed {seed}: {dict(tally)}")
 
 
 if __name__ == "__main__":
-    print(f"2,000 weeks, {test(2000)} without a plan")
+    try_weeks(*map(int, sys.argv[1:]), is_verbose=len(sys.argv) > 1)

@@ -26,12 +26,15 @@ pub use documents::{
 };
 pub use imports::{file_import_text, file_shop_text};
 pub use infeasible::{infeasible_refusal, shop_infeasible_refusal};
-pub use list_options::{Prepared, prepare};
+pub use list_options::{Prepared, options_refusal, prepare};
 pub use lists::{Reading, readable};
-pub use notes::notes_of;
+pub use notes::{note_line, notes_of};
 pub use plan_spreadsheet::{Options, Rename, unit_of};
 pub use projects::{instance_with, read_project};
+pub use quotes::quoted;
 pub use refusals::{file_refusal, need_refusal, rule_refusal};
 pub use sentences::with_names;
 pub use shops::{open_shop, read_instance};
+pub use spreadsheets::{plain_of, spreadsheet_refusal};
 pub use starts::{read_starts, starts_of};
+pub use table_faults::table_refusal;

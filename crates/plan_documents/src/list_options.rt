@@ -73,8 +73,8 @@ fn ignored_header<'a>(ignored: &[&'a [u8]], k: usize) -> &'a [u8]
     }
 }
 
-// Returns the error of a file that becomes no plain list with options.
-fn options_refusal(alloc: Global, options: &Options<'_>, fault: OptionsFault) -> CliFault
+/// Returns the error of a file that becomes no plain list with options.
+pub fn options_refusal(alloc: Global, options: &Options<'_>, fault: OptionsFault) -> CliFault
     ensures { Refuses (spec.TellsOptions (options_of options.now) fault) result }
 {
     match fault {

@@ -39,8 +39,11 @@ pub enum Code {
     NoListResource,
     ManySteps,
     SuccessorColumn,
+    NoToday,
     Workbook,
     HighNeed,
+    BadInstant,
+    BadDates,
     NeedsTooMuch,
     UnknownRule,
     MachineClosed,
@@ -50,6 +53,9 @@ pub enum Code {
     NoResource,
     LateEnd,
     Infeasible,
+    Overload,
+    NoPlan,
+    NoneFound,
     BadDate,
     BadDays,
     BeyondCalendar,
@@ -124,8 +130,11 @@ impl Code {
             "T14" => Some(Code::NoListResource),
             "T15" => Some(Code::ManySteps),
             "T16" => Some(Code::SuccessorColumn),
+            "T17" => Some(Code::NoToday),
             "T18" => Some(Code::Workbook),
             "T19" => Some(Code::HighNeed),
+            "T20" => Some(Code::BadInstant),
+            "T21" => Some(Code::BadDates),
             "S1" => Some(Code::NeedsTooMuch),
             "S3" => Some(Code::UnknownRule),
             "S4" => Some(Code::MachineClosed),
@@ -135,6 +144,9 @@ impl Code {
             "S8" => Some(Code::NoResource),
             "S9" => Some(Code::LateEnd),
             "S10" => Some(Code::Infeasible),
+            "S11" => Some(Code::Overload),
+            "S12" => Some(Code::NoPlan),
+            "S13" => Some(Code::NoneFound),
             "G1" => Some(Code::BadDate),
             "G2" => Some(Code::BadDays),
             "G3" => Some(Code::BeyondCalendar),
@@ -209,8 +221,11 @@ impl Code {
             Code::NoListResource => "T14",
             Code::ManySteps => "T15",
             Code::SuccessorColumn => "T16",
+            Code::NoToday => "T17",
             Code::Workbook => "T18",
             Code::HighNeed => "T19",
+            Code::BadInstant => "T20",
+            Code::BadDates => "T21",
             Code::NeedsTooMuch => "S1",
             Code::UnknownRule => "S3",
             Code::MachineClosed => "S4",
@@ -220,6 +235,9 @@ impl Code {
             Code::NoResource => "S8",
             Code::LateEnd => "S9",
             Code::Infeasible => "S10",
+            Code::Overload => "S11",
+            Code::NoPlan => "S12",
+            Code::NoneFound => "S13",
             Code::BadDate => "G1",
             Code::BadDays => "G2",
             Code::BeyondCalendar => "G3",
@@ -293,8 +311,11 @@ impl Code {
             Code::NoListResource => "no such resource in the list",
             Code::ManySteps => "an order has too many steps",
             Code::SuccessorColumn => "a column of successors: give predecessors instead",
+            Code::NoToday => "begun and done require --now",
             Code::Workbook => "the file is a workbook, not a text",
             Code::HighNeed => "a need exceeds the capacity",
+            Code::BadInstant => "a date or an amount isn't a number",
+            Code::BadDates => "the dates of a row contradict each other",
             Code::NeedsTooMuch => "a need exceeds the capacity",
             Code::UnknownRule => "no such priority rule",
             Code::MachineClosed => "a machine is closed",
@@ -304,6 +325,9 @@ impl Code {
             Code::NoResource => "the project has no such resource",
             Code::LateEnd => "the schedule ends too late",
             Code::Infeasible => "the start times aren't feasible",
+            Code::Overload => "what can't move exceeds the capacity",
+            Code::NoPlan => "appointments and absences leave no plan",
+            Code::NoneFound => "the search ended before it found a plan",
             Code::BadDate => "the first date is invalid",
             Code::BadDays => "the weekday marks are invalid",
             Code::BeyondCalendar => "the last day is after 9999-12-31",
@@ -384,8 +408,11 @@ impl Code {
             Code::NoListResource => "T14 no resource NAME",
             Code::ManySteps => "T15 steps ORDER",
             Code::SuccessorColumn => "T16 column NAME",
+            Code::NoToday => "T17 line N begun",
             Code::Workbook => "T18 WORKBOOK",
             Code::HighNeed => "T19 line N need RESOURCE above CAPACITY",
+            Code::BadInstant => "T20 line N number",
+            Code::BadDates => "T21 line N dates",
             Code::NeedsTooMuch => "S1 activity A resource R",
             Code::UnknownRule => "S3 unknown rule",
             Code::MachineClosed => "S4 machine M closed",
@@ -395,6 +422,9 @@ impl Code {
             Code::NoResource => "S8 no resource NAME",
             Code::LateEnd => "S9 late",
             Code::Infeasible => "S10 VERDICT",
+            Code::Overload => "S11 RESOURCE INSTANT",
+            Code::NoPlan => "S12 no plan",
+            Code::NoneFound => "S13 none found",
             Code::BadDate => "G1 date",
             Code::BadDays => "G2 days",
             Code::BeyondCalendar => "G3 beyond calendar",
@@ -504,15 +534,24 @@ impl Code {
                 "Line N has more cells than the header, or a quote that opens in line N isn't closed."
             }
             Code::NoListResource => {
-                "The option --capacity names a resource that no column of the list has."
+                "The option --capacity names a resource that no column of the list has, or an absence has an amount in a column that isn't a resource."
             }
             Code::ManySteps => "The order has more steps than the list has machines.",
             Code::SuccessorColumn => "The column gives successors, and a list has predecessors.",
+            Code::NoToday => {
+                "Line N has a cell in the column begun or done, and the option --now is missing."
+            }
             Code::Workbook => {
                 "The file is a workbook, not a text: an .xlsx, .xls or .ods file, or a project of Microsoft Project (.mpp)."
             }
             Code::HighNeed => {
                 "The activity in line N takes time and needs more of the resource than its capacity, so it can never start."
+            }
+            Code::BadInstant => {
+                "A cell of line N isn't a whole number of at most 10000000: a date, or the duration or an amount of an absence."
+            }
+            Code::BadDates => {
+                "The dates of line N contradict each other: fixed is before earliest or before --now, or remaining is given for an activity that hasn't begun."
             }
             Code::NeedsTooMuch => {
                 "Activity A takes time and needs more of resource R than its capacity, so it can never start. A is the first such activity and R its first such resource."
@@ -535,6 +574,11 @@ impl Code {
             Code::Infeasible => {
                 "The start times aren't feasible. The verdict is the line that plan check prints: the first activity that starts before a predecessor ends, else the first instant at which a resource or a machine is overloaded."
             }
+            Code::Overload => {
+                "From INSTANT on, begun work, appointments and absences together need more of the resource than its capacity. It is the first such instant from --now on."
+            }
+            Code::NoPlan => "No plan keeps the appointments, the capacities and the absences.",
+            Code::NoneFound => "The search has found no plan within its limit. There may be one.",
             Code::BadDate => {
                 "The first date isn't a date from 1900-01-01 to 2199-12-31 in the form 2024-03-01."
             }
@@ -659,13 +703,20 @@ impl Code {
             Code::BadCells => {
                 "Delete the extra cells, put quotes around a cell with a separator, or close the quote."
             }
-            Code::NoListResource => "Correct the name, or delete the option.",
+            Code::NoListResource => "Correct the name, or delete the option or the amount.",
             Code::ManySteps => "Merge steps of the order, or split the order.",
             Code::SuccessorColumn => {
                 "Give the predecessors of each row instead. If the column is a resource, add its capacity."
             }
+            Code::NoToday => {
+                "Add --now with the instant from which on is planned, for example --now 12; or leave the column out with --ignore."
+            }
             Code::Workbook => "Open it in its program, and save it as CSV UTF-8.",
             Code::HighNeed => "Raise the capacity, or lower the need.",
+            Code::BadInstant => {
+                "Correct the cell, or leave its column out with --ignore. In the column begun the word interrupted is allowed, too."
+            }
+            Code::BadDates => "Correct one of the dates, or delete it.",
             Code::NeedsTooMuch => "Raise the capacity, or lower the need.",
             Code::UnknownRule => {
                 "Use lft, slk, spt, mts or num for a project, spt, mwkr or fcfs for a job shop, in lower case."
@@ -683,6 +734,11 @@ impl Code {
             }
             Code::LateEnd => "Start the activities earlier, or use larger time units.",
             Code::Infeasible => "Correct the start times. Check them with plan check.",
+            Code::Overload => {
+                "Write interrupted in the column begun of one of these activities, or move an appointment."
+            }
+            Code::NoPlan => "Move an appointment, raise a capacity, or shorten an absence.",
+            Code::NoneFound => "Raise the limit, for example with --seconds 60.",
             Code::BadDate => "Correct the date.",
             Code::BadDays => "Write 1111100 for Monday to Friday. plan days also takes mon-fri.",
             Code::BeyondCalendar => "Mark more working days, or choose a coarser time unit.",

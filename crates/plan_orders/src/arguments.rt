@@ -37,6 +37,9 @@ const FORMATS: &[&str] = &["text", "json", "csv"];
 // The formats of a schedule of a list.
 const LIST_FORMATS: &[&str] = &["text", "json", "csv", "list"];
 
+// The goals of the plan of a list of activities.
+const GOALS: &[&str] = &["makespan", "tardiness"];
+
 // The lines of the chart of a job shop's report.
 const LINES: &[&str] = &["machine", "job"];
 
@@ -69,6 +72,10 @@ enum Form {
     SearchSeconds,
     /// An option with the conflict limit of a search, or none.
     Conflicts,
+    /// An option with the instant from which on a list of activities is planned.
+    Now,
+    /// An option with the goal of the plan of a list of activities.
+    Goal,
     /// An option with the capacity of a resource, any number of times.
     Capacity,
     /// The same for a command that also takes job shops, which have no such resources.
@@ -237,6 +244,21 @@ const CAPACITY_IF_PROJECT: Argument = Argument {
     name: "capacity",
     form: Form::CapacityIfProject,
     help: CAPACITY_HELP,
+};
+
+// The options of a list with dates.
+const NOW: Argument = Argument {
+    name: "now",
+    form: Form::Now,
+    help: "for a list of activities: plan from the instant T on, 0 to 10000000; what has begun or \
+        is done stays as it is",
+};
+
+const GOAL: Argument = Argument {
+    name: "goal",
+    form: Form::Goal,
+    help: "for a list of activities: the least makespan, or first the least greatest tardiness \
+        [default: makespan]",
 };
 
 // The options of commands that read lists.
@@ -613,7 +635,8 @@ const SCHEDULE_COMMANDS: [Entry; 5] = [
             plan solve examples/house.csv\n  \
             plan solve --seconds 60 examples/house.sm\n  \
             plan solve --capacity R1=6 examples/house.sm\n  \
-            plan solve --conflicts 1000 examples/shops.txt ft06",
+            plan solve --conflicts 1000 examples/shops.txt ft06\n  \
+            plan solve --now 8 --goal tardiness examples/week.csv",
         arguments: &[
             FILE_OR_LIST,
             INSTANCE_IF_SHOP,
@@ -627,6 +650,8 @@ const SCHEDULE_COMMANDS: [Entry; 5] = [
                 form: Form::Conflicts,
                 help: "conflict limit of each search, 1 to 1000000000",
             },
+            NOW,
+            GOAL,
             CAPACITY_IF_PROJECT,
             MAP,
             IGNORE,
@@ -996,6 +1021,16 @@ fn arg_of<'a>(alloc: Global, argument: &Argument) -> Result<Arg<'a>, AllocError>
             .long(argument.name)
             .value_name("N")
             .value_parser(value_parser!(u32).range(1..=1000000000)),
+        Form::Now => arg
+            .long(argument.name)
+            .value_name("T")
+            .value_parser(value_parser!(u32).range(0..=10000000))
+            .conflicts_with("INSTANCE")?,
+        Form::Goal => arg
+            .long(argument.name)
+            .value_name("GOAL")
+            .value_parser(GOALS)
+            .conflicts_with("INSTANCE")?,
         Form::Capacity => arg
             .long(argument.name)
             .value_name("NAME=N")

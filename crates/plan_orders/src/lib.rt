@@ -13,8 +13,8 @@ mod styles;
 pub use arguments::{command, help, version};
 pub use list_options::{BadOption, ListOptions, list_options_of};
 pub use orders::{
-    FileOrder, Lists, OfficeOrder, Order, capacities_of, events_of, misplaced_option, order_of,
-    overrides_of, rows_of, texts_of,
+    FileOrder, Lists, OfficeOrder, Order, WeekWords, capacities_of, events_of, misplaced_option,
+    order_of, overrides_of, rows_of, texts_of,
 };
 pub use outputs::{FileId, Found, Way, way_to_write};
 pub use styles::{moments_of, style_of};

@@ -9,6 +9,7 @@ use plan_formats::Format;
 use plan_print::{DayStyle, Events, NamedOrigin, Print, Sheet};
 use plan_solve::MOST_CONFLICTS;
 use plan_table::Override;
+use plan_weekfile::Goal;
 use std::alloc::{AllocError, Global};
 
 /// The time limit of `solve` in seconds if no limit is given.
@@ -19,6 +20,15 @@ const GREATEST_CAPACITY: u64 = 10_000;
 
 /// The greatest capacity of a list.
 const GREATEST_IN_LIST: u32 = 10_000;
+
+/// The options of a list with dates.
+#[derive(Clone, Copy)]
+pub struct WeekWords {
+    /// The instant from which on is planned, if it is given.
+    pub now: Option<u32>,
+    /// The goal, if it is given.
+    pub goal: Option<Goal>,
+}
 
 /// An order on files.
 #[derive(Clone, Copy)]
@@ -34,6 +44,8 @@ pub enum FileOrder<'a> {
         file: &'a str,
         seconds: Option<u32>,
         log: Option<&'a str>,
+        /// The options of a list with dates.
+        week: WeekWords,
     },
     /// A task on the file with this name, and on texts in other files.
     Texts {
@@ -343,6 +355,23 @@ fn solve_task<'a>(arguments: &'a ArgMatches<'_>, conflicts: u64, lists: Lists<'a
     Task::Solve { conflicts, subject }
 }
 
+// Returns the goal with a name.
+fn goal_of(name: &str) -> Option<Goal> {
+    match name {
+        "makespan" => Some(Goal::Makespan),
+        "tardiness" => Some(Goal::Tardiness),
+        _ => None,
+    }
+}
+
+// Returns the options of a list with dates.
+fn week_words(arguments: &ArgMatches<'_>) -> WeekWords {
+    WeekWords {
+        now: arguments.get_one("now"),
+        goal: arguments.get_str("goal").and_then(goal_of),
+    }
+}
+
 // Returns the order of `solve`. A conflict limit replaces the default time limit.
 fn solve_order<'a>(arguments: &'a ArgMatches<'_>, lists: Lists<'a>) -> Option<FileOrder<'a>> {
     let conflicts: Option<u32> = arguments.get_one("conflicts");
@@ -357,6 +386,7 @@ fn solve_order<'a>(arguments: &'a ArgMatches<'_>, lists: Lists<'a>) -> Option<Fi
         file: arguments.get_str("FILE")?,
         seconds: limit,
         log: arguments.get_str("log"),
+        week: week_words(arguments),
     })
 }
 

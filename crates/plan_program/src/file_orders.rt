@@ -6,6 +6,7 @@ use crate::misuse::Misuse;
 use crate::progress::ProgressLine;
 use crate::status::Status;
 use crate::verification::do_verify;
+use crate::weeks::do_solve_file;
 use plan_cli::{
     CliFault, Log, NoteWatcher, Options, ProofWatcher, Rows, SolveWatcher, Subject, SystemInputs,
     Task, Unlogged, check_text, explain_run, explain_run_in, prepare, read_named, run_on_file,
@@ -13,7 +14,7 @@ use plan_cli::{
 };
 use plan_errors::{About, write_text};
 use plan_io::{Sink, StdSink};
-use plan_orders::FileOrder;
+use plan_orders::{FileOrder, WeekWords};
 use plan_print::print_on_files;
 use std::alloc::Global;
 use std::io;
@@ -68,14 +69,16 @@ fn do_solve(
     options: Option<Options<'_>>,
     task: Task<'_>,
     rows: Rows,
+    week: WeekWords,
     seconds: Option<u32>,
     log: Option<&str>,
     path: &str,
 ) -> Result<(), FileFault> {
     let mut line = ProgressLine::within(rt, seconds);
     let mut log = FileLog::create(rt, log, path)?;
-    let done = do_task(rt, options, task, rows, &mut line, &mut log, path);
-    let ended = log.end(rt, matches!(done, Ok(()) | Err(CliFault::Output)));
+    let done = do_solve_file(rt, options, task, rows, week, &mut line, &mut log, path);
+    let is_complete = matches!(done, Ok(()) | Err(FileFault::Task(CliFault::Output)));
+    let ended = log.end(rt, is_complete);
     done?;
     ended?;
     line.print_notes();
@@ -101,7 +104,8 @@ fn do_file_order(
             file,
             seconds,
             log,
-        } => do_solve(rt, options, task, rows, seconds, log, file)?,
+            week,
+        } => do_solve(rt, options, task, rows, week, seconds, log, file)?,
         FileOrder::Texts {
             task,
             file,

@@ -9,8 +9,10 @@ mod file_orders;
 mod hints;
 mod misuse;
 mod progress;
+mod read_input;
 mod status;
 mod verification;
+mod weeks;
 
 pub use command_line::{Offices, run_program};
 pub use hints::{asked_hints, has_hints, print_hint};

@@ -4,3 +4,4 @@ pub mod AcceptanceLemmas
 pub mod ListLemmas
 pub mod PreparedLemmas
 pub mod AssignmentLemmas
+mod OptionedLemmas

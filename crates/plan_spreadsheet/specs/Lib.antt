@@ -11,3 +11,4 @@ pub mod Options
 pub mod PlainRows
 pub mod PlainLists
 pub mod PreparedLists
+pub mod OptionedLists

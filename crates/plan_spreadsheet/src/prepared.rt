@@ -48,9 +48,13 @@ impl From<SpreadsheetFault> for OptionsFault {
     }
 }
 
-// Whether options change nothing.
+/// Whether options change nothing.
 #[tactic(auto, using(crate::proofs::PreparedLemmas::untouched_none, crate::proofs::PreparedLemmas::untouched_file, crate::proofs::PreparedLemmas::untouched_book, crate::proofs::PreparedLemmas::touched))]
-fn is_untouched(alloc: Global, options: &Options<'_>, bytes: &[u8]) -> Result<bool, AllocError>
+pub(crate) fn is_untouched(
+    alloc: Global,
+    options: &Options<'_>,
+    bytes: &[u8],
+) -> Result<bool, AllocError>
     ensures { IfOk result (λ is. Decides is (spec.IsUntouched (options_of options.now)
         bytes.now)) }
 {
@@ -67,8 +71,8 @@ fn is_untouched(alloc: Global, options: &Options<'_>, bytes: &[u8]) -> Result<bo
     }
 }
 
-// Checks that no header is missing.
-fn check_headers(options: &Options<'_>, rows: &[Row]) -> Result<(), OptionsFault>
+/// Checks that no header is missing.
+pub(crate) fn check_headers(options: &Options<'_>, rows: &[Row]) -> Result<(), OptionsFault>
     ensures has { IfOk result (λ _. spec.HasHeaders (options_of options.now)
         (map row_of rows.now)) }
     ensures missing { IfErr result (spec.IsMissingIn (options_of options.now)

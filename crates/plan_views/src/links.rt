@@ -81,8 +81,12 @@ fn push_need(
     push_word(text, &word)
 }
 
-// Returns the needs of an activity.
-fn needs_text(alloc: Global, names: &[NameLine<'_>], needs: &[u64]) -> Result<Vec<u8>, AllocError>
+/// Returns the needs of an activity by the names of the resources, such as `crew 2, digger 1`.
+pub fn needs_text(
+    alloc: Global,
+    names: &[NameLine<'_>],
+    needs: &[u64],
+) -> Result<Vec<u8>, AllocError>
     ensures { IfOk result (λ text.
         text.items ≡ spec.needs_text (map name_of names.now) needs.now) }
 {
@@ -106,8 +110,8 @@ fn arc_word<'a>(ids: &[NameLine<'a>], j: u32, arc: (u32, u32)) -> &'a [u8]
     }
 }
 
-// Returns the ids of the predecessors of activity `j`.
-fn predecessors_text(
+/// Returns the ids of the predecessors of activity `j` in the order of the arcs, such as `A, B`.
+pub fn predecessors_text(
     alloc: Global,
     ids: &[NameLine<'_>],
     j: u32,
