@@ -1,6 +1,7 @@
 -- Texts of plans, and their errors.
 use Rattle.std.proofs.Common.{◌≡◌, ℕ, ◌≤◌, Bool, List, [], Option, length, map, drop, take, ap, ◌∙◌, subst, sym, arith}
 use Rattle.std.proofs.lemmas.List.{drop-map, drop_all, length-map, take-map, take_all}
+use Rattle.plan_formats.specs.TableText.{text_of}
 use Rattle.plan_table.specs.declared.table.Activity as declared_activity
 use Rattle.plan_table.specs.declared.table.Resource as declared_resource
 use Rattle.plan_table.specs.Limits.{IsTable}
@@ -10,11 +11,15 @@ use Rattle.plan_weeklist.specs.declared.listed.ListFault.TheVariants as lists
 use Rattle.plan_weeklist.specs.declared.listed.ListedWeek.{ListedWeek}
 use Rattle.plan_weeklist.specs.ListedLists.{IsListedWeek, IsNoListedWeek}
 use Rattle.plan_weeks.specs.declared.fault.PlanFault.{PlanFault}
+use Rattle.plan_weeks.specs.declared.fault.PlanFault.TheVariants as plans
 use Rattle.plan_weeks.specs.declared.fault.WeekTextFault.{WeekTextFault}
 use Rattle.plan_weeks.specs.declared.fault.WeekTextFault.TheVariants as texts
+use Rattle.plan_weeks.specs.declared.planning.Goal.{Goal}
+use Rattle.plan_weeks.specs.declared.planning.WeekPlan.{WeekPlan}
 use Rattle.plan_weeks.specs.Faults.{IsTextFault, first_name, name_at, text_fault_of}
-use Rattle.plan_weeks.specs.WeekPlans.{IsNoPlan}
-use Rattle.plan_weeks.specs.WeekTexts.{IsNoWeekText, IsUnplannedBy}
+use Rattle.plan_weeks.specs.WeekPlans.{IsNoPlan, IsPlanned}
+use Rattle.plan_weeks.specs.WeekTables.{listed_view}
+use Rattle.plan_weeks.specs.WeekTexts.{IsListedText, IsNoWeekText, IsUnplannedBy, IsWeekText}
 
 -- an error of a list, as that of a text
 list_refused : (now : Option ℕ) (conflicts : ℕ) (bytes : List ℕ) (fault : ListFault) → IsNoListedWeek [] now bytes fault
@@ -28,6 +33,25 @@ pub refused_list : (now : Option ℕ) (conflicts : ℕ) (bytes : List ℕ) (faul
     → IsNoListedWeek [] now bytes fault → error ≡ text_fault_of fault → IsNoWeekText now conflicts bytes error
 refused_list now conflicts bytes fault error h is =
     subst (IsNoWeekText now conflicts bytes) (sym is) (list_refused now conflicts bytes fault h)
+
+pub unread : (now : Option ℕ) (bytes : List ℕ) (fault : ListFault) (error : WeekTextFault)
+    → IsNoListedWeek [] now bytes fault → error ≡ text_fault_of fault → (conflicts : ℕ) → IsNoWeekText now conflicts bytes error
+unread now bytes fault error h is conflicts = refused_list now conflicts bytes fault error h is
+
+-- the text of a plan
+pub planned_text : (goal : Goal) (listed : ListedWeek) (plan : WeekPlan) (text : List ℕ) → IsPlanned goal listed.week plan
+    → text ≡ text_of (listed_view listed.table.activities listed.week plan) → IsListedText goal listed text
+planned_text goal listed plan text is shown = (plan, is, shown)
+
+-- out of memory
+pub untold : (conflicts : ℕ) (listed : ListedWeek) (error : WeekTextFault) → error ≡ texts.Memory → IsUnplannedBy conflicts listed error
+untold conflicts listed error is = subst (IsUnplannedBy conflicts listed) (sym is) (plans.Memory, tt, tt)
+
+-- the text of a plan of a file
+pub week_told : (goal : Goal) (now : Option ℕ) (bytes text : List ℕ) (listed : ListedWeek) → IsListedWeek [] now bytes listed
+    → IsListedText goal listed text → IsWeekText goal now bytes text
+week_told goal now bytes text listed is told =
+    (listed, told.0, record { week = is; planned = told.1.0; shown = told.1.1 })
 
 -- an error of a plan, as that of a text
 pub refused_plan : (now : Option ℕ) (conflicts : ℕ) (bytes : List ℕ) (listed : ListedWeek) (error : WeekTextFault)

@@ -24,6 +24,12 @@ abbrev pub IsWeekText : Goal → Option ℕ → List ℕ → List ℕ → Type 0
 IsWeekText goal now bytes text =
     (listed : ListedWeek) × (plan : WeekPlan) × IsTextOf goal now bytes text listed plan
 
+-- a text is that of a plan for a goal of the week of a list
+abbrev pub IsListedText : Goal → ListedWeek → List ℕ → Type 0
+IsListedText goal listed text =
+    (plan : WeekPlan) × IsPlanned goal listed.week plan
+    × (text ≡ text_of (listed_view listed.table.activities listed.week plan))
+
 -- the week of a list has no plan
 abbrev pub IsUnplannedBy : ℕ → ListedWeek → WeekTextFault → Type 0
 IsUnplannedBy conflicts listed error =

@@ -1,12 +1,14 @@
 //! The text of a plan of a list.
 
-ghost use Rattle.std.specs.Prelude.{◌≡◌, ◌≤◌, map, length, IfErr, IfOk};
+ghost use Rattle.std.specs.Prelude.{◌≡◌, ◌≤◌, ℕ, [], map, length, IfErr, IfOk};
 ghost use Rattle.plan_formats.specs.Tables.{table_of};
 ghost use Rattle.plan_formats.specs.TableText.{text_of};
 ghost use Rattle.plan_solve.specs.Progress.{HearsNothing};
 ghost use Rattle.plan_table.specs.Names.{name_of};
 ghost use Rattle.plan_table.specs.Table.{activity_of};
+ghost use Rattle.plan_weeklist.specs.ListedLists.{IsListedWeek};
 ghost use Rattle.plan_weeks.specs.WeekPlans.{IsPlanned};
+ghost use Rattle.plan_weeks.specs.declared.fault.WeekTextFault.TheVariants as texts;
 ghost use Rattle.plan_weeks.specs.WeekTables as tables;
 ghost use Rattle.plan_weeks.specs.WeekTexts as spec;
 
@@ -133,9 +135,60 @@ fn plan_listed<W: Watcher>(
     }
 }
 
+// Reads a list with a week.
+#[tactic(auto, using(crate::proofs::WeekTextLemmas::unread))]
+fn read_listed(alloc: Global, now: Option<u32>, bytes: &[u8]) -> Result<ListedWeek, WeekTextFault>
+    ensures listed { IfOk result (IsListedWeek [] now bytes.now) }
+    ensures refused { IfErr result (λ error. (conflicts : ℕ)
+        → spec.IsNoWeekText now conflicts bytes.now error) }
+{
+    match read_week(alloc, &[], now, bytes) {
+        Ok(listed) => Ok(listed),
+        Err(fault) => Err(WeekTextFault::from(fault)),
+    }
+}
+
+// Returns the text of a table.
+fn text_of_table(alloc: Global, table: &Table<'_>) -> Result<Vec<u8>, WeekTextFault>
+    ensures text { IfOk result (λ text. text.items ≡ text_of (table_of table.now)) }
+    ensures memory { IfErr result (λ error. error ≡ texts.Memory) }
+{
+    let text = table_text(alloc, table)?;
+    Ok(text)
+}
+
+// Returns the text of a plan of the week of a list.
+fn plan_text(alloc: Global, listed: &ListedWeek, plan: &WeekPlan) -> Result<Vec<u8>, WeekTextFault>
+    ensures text { IfOk result (λ text. text.items ≡ text_of
+        (tables.listed_view listed.now.table.activities listed.now.week plan.now)) }
+    ensures memory { IfErr result (λ error. error ≡ texts.Memory) }
+{
+    let table = listed_view(alloc, listed, plan)?;
+    text_of_table(alloc, &table)
+}
+
+// Plans the week of a list, and returns the text.
+#[tactic(auto, using(crate::proofs::WeekTextLemmas::planned_text, crate::proofs::WeekTextLemmas::untold))]
+fn listed_text<W: Watcher>(
+    alloc: Global,
+    goal: Goal,
+    listed: &ListedWeek,
+    conflicts: u64,
+    watcher: &mut W,
+) -> Result<Vec<u8>, WeekTextFault>
+    ensures text { IfOk result (λ text. spec.IsListedText goal listed.now text.items) }
+    ensures refused { IfErr result (spec.IsUnplannedBy conflicts listed.now) }
+    ensures told { HearsNothing (W.was_told watcher.old) (W.was_told watcher.new) }
+{
+    match plan_listed(alloc, goal, listed, conflicts, watcher) {
+        Ok(plan) => plan_text(alloc, listed, &plan),
+        Err(fault) => Err(fault),
+    }
+}
+
 /// Returns the text of a plan of a list for a goal: the bounds, the table and the makespan. `now`
 /// is the instant from which on is planned, if it is known.
-#[tactic(auto, using(crate::proofs::WeekTextLemmas::refused_list, crate::proofs::WeekTextLemmas::refused_plan))]
+#[tactic(auto, using(crate::proofs::WeekTextLemmas::week_told, crate::proofs::WeekTextLemmas::refused_plan))]
 pub fn week_text<W: Watcher>(
     alloc: Global,
     goal: Goal,
@@ -148,9 +201,8 @@ pub fn week_text<W: Watcher>(
     ensures refused { IfErr result (spec.IsNoWeekText now conflicts bytes.now) }
     ensures told { HearsNothing (W.was_told watcher.old) (W.was_told watcher.new) }
 {
-    let listed = read_week(alloc, &[], now, bytes)?;
-    let plan = plan_listed(alloc, goal, &listed, conflicts, watcher)?;
-    let table = listed_view(alloc, &listed, &plan)?;
-    let text = table_text(alloc, &table)?;
-    Ok(text)
+    match read_listed(alloc, now, bytes) {
+        Ok(listed) => listed_text(alloc, goal, &listed, conflicts, watcher),
+        Err(fault) => Err(fault),
+    }
 }
