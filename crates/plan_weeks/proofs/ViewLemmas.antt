@@ -1,8 +1,9 @@
 -- Rows and numbers of late activities, one activity more.
-use Rattle.std.proofs.Common.{◌≡◌, ℕ, zero, suc, ◌+◌, ◌≤◌, ◌<◌, ◌++◌, List, [], ◌∷◌, Vec, length, map, refl, sym, ap, ◌∙◌, arith}
+use Rattle.std.proofs.Common.{◌≡◌, ℕ, zero, suc, ◌+◌, ◌≤◌, ◌<◌, ◌++◌, Bool, List, [], ◌∷◌, Vec, length, map, refl, sym, ap, ◌∙◌, arith}
 use Rattle.std.specs.Prelude.{cond, filter, nat_lt}
 use Rattle.std.specs.List.{range_with_len}
 use Rattle.std.specs.declared.alloc.Global.{Global}
+use Rattle.std.proofs.lemmas.Bool.{lt-ltb}
 use Rattle.std.proofs.lemmas.List.{length-append, map-append}
 use Rattle.std.proofs.lemmas.List.FromFn.{filter_of_map_range_with_len_more, map-range_with_len_more}
 use Rattle.plan_formats.specs.Cells.{Cell}
@@ -21,8 +22,7 @@ rows_more f k before after row so_far pushed is =
 
 -- a number above 0 counts
 one : (x : ℕ) → 0 < x → length (cond (nat_lt 0 x) (x ∷ []) []) ≡ 1
-one zero late = absurd (omega (arith, late))
-one (suc x) late = refl
+one x late = ap (λ (b : Bool). length (cond b (x ∷ []) [])) (lt-ltb 0 x late)
 
 -- no other number does
 none : (x : ℕ) → x ≤ 0 → length (cond (nat_lt 0 x) (x ∷ []) []) ≡ 0

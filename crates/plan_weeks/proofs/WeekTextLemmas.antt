@@ -51,7 +51,7 @@ untold conflicts listed error is = subst (IsUnplannedBy conflicts listed) (sym i
 pub week_told : (goal : Goal) (now : Option ℕ) (bytes text : List ℕ) (listed : ListedWeek) → IsListedWeek [] now bytes listed
     → IsListedText goal listed text → IsWeekText goal now bytes text
 week_told goal now bytes text listed is told =
-    (listed, told.0, record { week = is; planned = told.1.0; shown = told.1.1 })
+    (listed, told.0, record { week = is; planned = told.1; shown = told.2 })
 
 -- an error of a plan, as that of a text
 pub refused_plan : (now : Option ℕ) (conflicts : ℕ) (bytes : List ℕ) (listed : ListedWeek) (error : WeekTextFault)

@@ -181,7 +181,10 @@ fn listed_text<W: Watcher>(
     ensures told { HearsNothing (W.was_told watcher.old) (W.was_told watcher.new) }
 {
     match plan_listed(alloc, goal, listed, conflicts, watcher) {
-        Ok(plan) => plan_text(alloc, listed, &plan),
+        Ok(plan) => match plan_text(alloc, listed, &plan) {
+            Ok(text) => Ok(text),
+            Err(fault) => Err(fault),
+        },
         Err(fault) => Err(fault),
     }
 }
@@ -202,7 +205,10 @@ pub fn week_text<W: Watcher>(
     ensures told { HearsNothing (W.was_told watcher.old) (W.was_told watcher.new) }
 {
     match read_listed(alloc, now, bytes) {
-        Ok(listed) => listed_text(alloc, goal, &listed, conflicts, watcher),
+        Ok(listed) => match listed_text(alloc, goal, &listed, conflicts, watcher) {
+            Ok(text) => Ok(text),
+            Err(fault) => Err(fault),
+        },
         Err(fault) => Err(fault),
     }
 }
