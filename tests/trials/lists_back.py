@@ -22,8 +22,8 @@ sys.dont_write_bytecode = True
 sys.path.insert(0, os.path.dirname(os.path.abspath(__file__)))
 
 from answers import Wrong, plan, same, written
-from tables import BLANKS, cell_at, decoded, delimiter_of, drawn_bytes, drawn_table, header_of, kind_in, lower
-from tables import records, settled, without, without_groups
+from tables import BLANKS, Refused, cell_at, decoded, delimiter_of, drawn_bytes, drawn_table, header_of, kind_in, lower
+from tables import is_note, open_columns, records, settled, without, without_groups
 
 SOLVE = ("solve", "--conflicts", "50")
 DATES = ("2024-03-01", "mon-fri")
@@ -39,6 +39,14 @@ def text_of(data):
     return decoded(data)[0].removeprefix("\ufeff")
 
 
+def kind_of(data):
+    """What a file is a list of; nothing if it can't be read."""
+    try:
+        return kind_in(text_of(data).encode())
+    except Refused:
+        return None
+
+
 def rows_of(text):
     """The records with content of a list, each with its line."""
     return without(list(records(text, delimiter_of(text))), ())
@@ -47,6 +55,9 @@ def rows_of(text):
 def lines_of(found):
     """The lines of the rows of activities, in their order."""
     found = without_groups(found, {})
+    columns, _, _ = open_columns(found, {})
+    notes = [k for k, key in columns.items() if is_note(key, [cell_at(cells, k) for _, cells in found[1:]])]
+    found = without(found, notes)
     kinds, keys, names = header_of(*found[0])
     kinds = settled(kinds, keys, names, [cells for _, cells in found[1:]], {})
     rows = found[1:]
@@ -125,7 +136,7 @@ def try_list(what, folder, data):
     file = written(folder, "list.csv", data)
     plain = plan(folder, *SOLVE, "--format", "csv", file)
     found = plan(folder, *SOLVE, "--format", "list", file)
-    if kind_in(text_of(data).encode()) != "activities":
+    if kind_of(data) != "activities":
         same(what, found[:2], (1, b""))
         if plain[0] == 0 or not plain[2].startswith(b"T"):
             same(what, found[2], NO_LIST)
