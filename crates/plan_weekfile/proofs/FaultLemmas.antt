@@ -1,6 +1,5 @@
 -- Errors of lists with dates and of their plans, by their lines.
-use Rattle.std.proofs.Common.{◌≡◌, ℕ, List, [], ◌∷◌, Option, Result, Ok, Err, inl, inr}
-use Rattle.std.specs.Prelude.{IfErr, IfOk}
+use Rattle.std.proofs.Common.{ℕ, List, [], Option, inl, inr}
 use Rattle.plan_documents.proofs.ErrorLemmas.{refuses_as}
 use Rattle.plan_documents.specs.declared.capacities.Capacity.{Capacity}
 use Rattle.plan_errors.specs.declared.fault.CliFault.{CliFault}

@@ -80,7 +80,7 @@ fn with_capacities(week: Week, capacities: Vec<u64>) -> Week
 }
 
 // Reads a list as a week, with the given capacities in place of those of the list.
-#[tactic(auto, using(crate::proofs::FaultLemmas::no_sound, crate::proofs::FaultLemmas::no_given))]
+#[tactic(auto, using(crate::proofs::FaultLemmas::no_sound, crate::proofs::FaultLemmas::no_given, crate::proofs::WeekLemmas::given_made))]
 fn given_week(
     alloc: Global,
     given: &[Capacity<'_>],
