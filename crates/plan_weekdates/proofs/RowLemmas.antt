@@ -10,7 +10,6 @@ use Rattle.plan_table.specs.Csv.{row_of}
 use Rattle.plan_table.specs.declared.records.Row.{Row}
 use Rattle.plan_weekdates.specs.declared.columns.DateColumn.{DateColumn}
 use Rattle.plan_weekdates.specs.declared.fault.CellCode.{CellCode}
-use Rattle.plan_weekdates.specs.declared.fault.CellFault.{CellFault}
 use Rattle.plan_weekdates.specs.declared.fault.DateError.{DateError}
 use Rattle.plan_weekdates.specs.declared.fault.DateError.TheVariants as errors
 use Rattle.plan_weekdates.specs.DatedCells.{Fails, IsAllowed, IsDatedCell, IsDatedIn, IsFaultOf, IsInstant, RefusesCell, RefusesIn, RefusesText, begins_like_date, instant_in}

@@ -5,7 +5,7 @@ use Rattle.plan_table.specs.Csv.{Row}
 use Rattle.plan_table.specs.Header.{Head}
 use Rattle.plan_table.specs.Overrides.{Override}
 use Rattle.plan_table.specs.Settlement.{Body, ids_place}
-use Rattle.plan_weekdates.specs.Temp.{is_dated}
+use Rattle.plan_weeklist.specs.Columns.{is_dated}
 use Rattle.plan_weekdates.specs.declared.columns.DateColumn.{DateColumn}
 use Rattle.plan_weekdates.specs.declared.columns.DateColumn.TheVariants as columns
 

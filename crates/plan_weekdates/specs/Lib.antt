@@ -4,4 +4,3 @@ pub mod Sequences
 pub mod DatedCells
 pub mod DatedRows
 pub mod DatedLists
-pub mod Temp

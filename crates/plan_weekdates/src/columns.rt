@@ -3,7 +3,7 @@
 ghost use Rattle.std.specs.Prelude.{◌≡◌, [], map, IfOk};
 ghost use Rattle.plan_table.specs.Header.{head_of};
 ghost use Rattle.plan_table.specs.Settlement.{body_of};
-ghost use Rattle.plan_weekdates.specs.Temp as dates;
+ghost use Rattle.plan_weeklist.specs.Columns as dates;
 ghost use Rattle.plan_weekdates.specs.DateColumns as spec;
 
 use plan_table::{Body, Head, has_capacity, same};

@@ -1,4 +1,4 @@
-use Rattle.std.proofs.Common.{◌≡◌, ap, sym, ◌∙◌, pos, ℤ, ◌+ℤ◌}
+use Rattle.std.proofs.Common.{◌≡◌, ap, sym, ◌∙◌, pos, ◌+ℤ◌}
 use Rattle.jiff_core.specs.Date.{epoch_day}
 use Rattle.plan_calendar.specs.WorkingDay.{Workdays, working_days}
 use Rattle.plan_weekdates.proofs.CountLemmas.{before_is}

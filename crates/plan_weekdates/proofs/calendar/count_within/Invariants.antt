@@ -1,4 +1,4 @@
-use Rattle.std.proofs.Common.{ℕ, ◌-◌, ◌≤◌}
+use Rattle.std.proofs.Common.{◌-◌, ◌≤◌}
 use Rattle.jiff_core.specs.Date.{epoch_day}
 use Rattle.plan_calendar.specs.WorkingDay.{working_days}
 use Rattle.plan_weekdates.proofs.calendar.count_within.Given as goal

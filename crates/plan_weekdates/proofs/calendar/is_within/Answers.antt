@@ -1,6 +1,6 @@
-use Rattle.std.proofs.Common.{◌≡◌, ◌+◌, ap, sym, ◌∙◌, subst, false, pos, ◌+ℤ◌, ◌≤ℤ◌, nat_lt}
+use Rattle.std.proofs.Common.{◌≡◌, ◌+◌, ap, sym, ◌∙◌, subst, pos, ◌+ℤ◌, nat_lt}
 use Rattle.jiff_core.specs.Date.{epoch_day}
-use Rattle.plan_calendar.specs.WorkingDay.{Workdays, IsBeyond, IsWorkingDay, working_days}
+use Rattle.plan_calendar.specs.WorkingDay.{Workdays, IsBeyond, working_days}
 use Rattle.plan_weekdates.proofs.CountLemmas.{day_within, none_within}
 use Rattle.plan_weekdates.proofs.calendar.is_within.Goals as goal
 
