@@ -1,0 +1,5 @@
+pub mod DayLemmas
+pub mod CountLemmas
+pub mod SequenceLemmas
+pub mod RowLemmas
+pub mod ListLemmas

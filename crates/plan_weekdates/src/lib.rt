@@ -1,0 +1,15 @@
+//! Lists with calendar dates: a date in a column of dates becomes its instant.
+#![tactic(auto)]
+
+mod calendar;
+mod cells;
+mod columns;
+mod fault;
+mod list;
+mod rows;
+mod text;
+
+pub use calendar::InstantCalendar;
+pub use columns::DateColumn;
+pub use fault::{CellCode, CellFault, DateError};
+pub use list::{DatedList, dated_list};
