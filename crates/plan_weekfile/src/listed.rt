@@ -65,7 +65,8 @@ fn capacities_of(
 // Returns a week with other capacities.
 fn with_capacities(week: Week, capacities: Vec<u64>) -> Week
     requires { length capacities.items ≡ length week.capacities.items }
-    ensures { result ≡ spec.with_capacities week capacities }
+    ensures rest { spec.KeepsAllButCapacities week result }
+    ensures capacities { result.capacities ≡ capacities }
 {
     Week {
         durations: week.durations,
