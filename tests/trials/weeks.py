@@ -1,7 +1,8 @@
 #!/usr/bin/env python3
 """Plans drawn lists with dates and compares `plan solve` with a brute force: the least makespan, the
 least greatest tardiness and the least makespan with it, overloads, lists without a plan, and errors
-of dates. The starts must be a plan by its definition, and the text must show them.
+of dates. The starts must be a plan by its definition, and the text must show them. `plan days
+--solve` must show the working days of these starts.
 
     tests/trials/weeks.py               500 lists; prints nothing on success
     tests/trials/weeks.py CASES SEED    so many, drawn from this seed; prints what they were
@@ -10,6 +11,7 @@ The program is the one that ./plan runs, or the one that PLAN_PROGRAM names.
 """
 
 import collections
+import datetime
 import json
 import os
 import random
@@ -245,6 +247,72 @@ def text_of(case, week, starts, is_late, bound):
     return "".join(line.rstrip() + "\n" for line in lines)
 
 
+def unpadded(output):
+    """A text without blanks at the ends of its lines."""
+    return "".join(line.rstrip() + "\n" for line in output.decode().splitlines()).encode()
+
+
+class Calendar:
+    """A drawn calendar: the working days from a date on."""
+
+    def __init__(self, draw):
+        self.start = datetime.date(2024, 1, 1) + datetime.timedelta(draw.randrange(900))
+        self.marks = [draw.random() < 0.7 for _ in range(7)]
+        self.marks[draw.randrange(7)] = True
+        self.holidays = [
+            self.start + datetime.timedelta(draw.randrange(20)) for _ in range(draw.randrange(3))
+        ]
+
+    def words(self):
+        return [str(self.start), "".join("1" if mark else "0" for mark in self.marks)]
+
+    def day(self, instant):
+        """The working day with so many working days before it."""
+        date, left = self.start, instant
+        while True:
+            if self.marks[date.weekday()] and date not in self.holidays:
+                if left == 0:
+                    return str(date)
+                left -= 1
+            date += datetime.timedelta(1)
+
+
+def days_shown(calendar, begin, end):
+    """The first and the last day between two instants; what was done has no known begin."""
+    if end == 0 or begin is not None and begin >= end:
+        return ["-", "-"]
+    return ["-" if begin is None else calendar.day(begin), calendar.day(end - 1)]
+
+
+def days_text(case, week, starts, is_late, calendar):
+    """The text of the working days of a plan."""
+    has_names = case.has_names and any(case.names)
+    places = 6 if any(lag for _, _, lag in week.arcs) else 4
+    heads = f"{'id':>{places}}{'first':>12}{'last':>12}" + f"{'late':>8}" * is_late
+    lines = [heads + " name" * has_names]
+    late = weeks.tardiness(week, starts)
+    for i, start in enumerate(starts):
+        days = days_shown(calendar, start_shown(week, i, start), end_shown(week, i, start))
+        cells = "".join(f"{day:>12}" for day in days) + (f"{late[i]:>8}" if is_late else "")
+        name = f" {case.names[i]}" if has_names and case.names[i] else ""
+        lines.append(f"{f'a{i}':>{places}}{cells}{name}")
+    return "".join(line.rstrip() + "\n" for line in lines)
+
+
+def try_days(case, week, folder, name, starts, is_late):
+    """Compares the working days of the plan of a list with those of its starts."""
+    calendar = Calendar(case.draw)
+    words = ["days", "--solve", *case.options(), *goal_words(is_late)]
+    if calendar.holidays:
+        lines = "".join(f"{day}\n" for day in calendar.holidays)
+        words += ["--holidays", written(folder, "holidays.txt", lines.encode())]
+    words += [*calendar.words(), name]
+    status, output, errors = plan(folder, *words)
+    wanted = printed(days_text(case, week, starts, is_late, calendar))
+    what = f"{words} of\n{case.text()} on {calendar.holidays}"
+    same(what, (status, unpadded(output), errors), wanted)
+
+
 def goal_words(is_late):
     return ["--goal", "tardiness"] if is_late else []
 
@@ -268,8 +336,8 @@ def try_plan(case, week, folder, name, is_late, wanted):
         bound = [f"tardiness optimal {tardy}"]
     text = text_of(case, week, starts, is_late, bound)
     status, output, errors = plan(folder, *words)
-    lines = "".join(line.rstrip() + "\n" for line in output.decode().splitlines())
-    same(f"{what}: the text", (status, lines.encode(), errors), printed(text))
+    same(f"{what}: the text", (status, unpadded(output), errors), printed(text))
+    try_days(case, week, folder, name, starts, is_late)
 
 
 def wanted_error(case, week, found):

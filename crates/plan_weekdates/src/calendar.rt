@@ -89,6 +89,13 @@ impl InstantCalendar {
         }
     }
 
+    /// Returns the calendar.
+    pub fn calendar(&self) -> &Calendar
+        ensures { result.now ≡ self.now }
+    {
+        &self.calendar
+    }
+
     /// Returns the instant at which a date begins: the number of working days from the first date
     /// on that are before it.
     pub fn instant_before(&self, date: Date) -> u32

@@ -101,7 +101,7 @@ fn plain_refusal(alloc: Global, fault: &WeekFault) -> CliFault
 /// Returns the error of dates: `T1`, `T14`, `T17`, `T20` or `T21`. Its detail quotes a cell that
 /// isn't a number.
 #[tactic(auto, using(plan_documents::proofs::RefusalLemmas::detailed_refused))]
-pub(crate) fn dates_refusal(alloc: Global, fault: &WeekFault) -> CliFault
+pub fn dates_refusal(alloc: Global, fault: &WeekFault) -> CliFault
     ensures { Refuses (spec.TellsDates (fault_of fault.now)) result }
 {
     match detail_of(alloc, fault) {

@@ -117,7 +117,7 @@ fn own_week(alloc: Global, now: Option<u32>, text: &[u8]) -> Result<ListedWeek, 
 /// Reads a list as a week, with the given capacities in place of those of the list. With given
 /// capacities, needs may be above those of the list, as for the other commands. Errors: those of
 /// the list, then `S8` (no such resource).
-pub(crate) fn listed_week(
+pub fn listed_week(
     alloc: Global,
     given: &[Capacity<'_>],
     now: Option<u32>,

@@ -23,7 +23,7 @@ use std::alloc::{AllocError, Global};
 
 /// Returns a plan of a week for the goal of an order. Errors: `S11`, `S12`, `S13`.
 #[tactic(auto, using(crate::proofs::FaultLemmas::limited, crate::proofs::FaultLemmas::unplanned))]
-pub(crate) fn plan_of<W: Watcher>(
+pub fn plan_of<W: Watcher>(
     alloc: Global,
     order: &WeekOrder<'_>,
     listed: &ListedWeek,
