@@ -290,7 +290,7 @@ def days_text(case, week, starts, is_late, calendar):
     places = 6 if any(lag for _, _, lag in week.arcs) else 4
     heads = f"{'id':>{places}}{'first':>12}{'last':>12}" + f"{'late':>8}" * is_late
     lines = [heads + " name" * has_names]
-    late = weeks.tardiness(week, starts)
+    late = weeks.tardiness(week, starts) if is_late else []
     for i, start in enumerate(starts):
         days = days_shown(calendar, start_shown(week, i, start), end_shown(week, i, start))
         cells = "".join(f"{day:>12}" for day in days) + (f"{late[i]:>8}" if is_late else "")
