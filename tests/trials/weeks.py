@@ -233,12 +233,10 @@ def text_of(case, week, starts, is_late, bound):
     """The text of a plan."""
     heads = ["d", "start", "end"] + ["late"] * is_late
     has_names = case.has_names and any(case.names)
-    # The ids of waits, such as wait+0, aren't shown, and count for the places of the column.
-    places = 6 if any(lag for _, _, lag in week.arcs) else 4
-    lines = ["id".rjust(places) + "".join(f"{head:>8}" for head in heads) + " name" * has_names]
+    lines = ["  id" + "".join(f"{head:>8}" for head in heads) + " name" * has_names]
     for (word, *numbers), name in cells_of(case, week, starts, is_late):
         cells = "".join(f"{'-' if n is None else n:>8}" for n in numbers)
-        lines.append(f"{word:>{places}}{cells}" + (f" {name}" if has_names and name else ""))
+        lines.append(f"{word:>4}{cells}" + (f" {name}" if has_names and name else ""))
     ends = weeks.makespan(week, starts)
     lines = [*bound, f"optimal {ends}", *lines, f"makespan {ends}"]
     if is_late:
@@ -287,15 +285,14 @@ def days_shown(calendar, begin, end):
 def days_text(case, week, starts, is_late, calendar):
     """The text of the working days of a plan."""
     has_names = case.has_names and any(case.names)
-    places = 6 if any(lag for _, _, lag in week.arcs) else 4
-    heads = f"{'id':>{places}}{'first':>12}{'last':>12}" + f"{'late':>8}" * is_late
+    heads = f"  id{'first':>12}{'last':>12}" + f"{'late':>8}" * is_late
     lines = [heads + " name" * has_names]
     late = weeks.tardiness(week, starts) if is_late else []
     for i, start in enumerate(starts):
         days = days_shown(calendar, start_shown(week, i, start), end_shown(week, i, start))
         cells = "".join(f"{day:>12}" for day in days) + (f"{late[i]:>8}" if is_late else "")
         name = f" {case.names[i]}" if has_names and case.names[i] else ""
-        lines.append(f"{f'a{i}':>{places}}{cells}{name}")
+        lines.append(f"{f'a{i}':>4}{cells}{name}")
     return "".join(line.rstrip() + "\n" for line in lines)
 
 

@@ -7,6 +7,6 @@ mod planning;
 mod view;
 
 pub use fault::PlanFault;
-pub use names::{ids_of, listed_view, named};
+pub use names::{ids_of, listed_view, named, planned};
 pub use planning::{Goal, Lateness, WeekPlan, plan_week};
 pub use view::week_view;

@@ -77,9 +77,9 @@ pub fn named<'a>(
     with_names(alloc, table, &names)
 }
 
-// Returns the activities of a week, which are the first ones of its list. The others are waits.
+/// Returns the activities of a week, which are the first ones of its list. The others are waits.
 #[tactic(auto, using(crate::proofs::NameLemmas::those_planned, crate::proofs::NameLemmas::all_planned, crate::proofs::NameLemmas::few_planned))]
-fn planned(listed: &ListedWeek) -> &[Activity]
+pub fn planned(listed: &ListedWeek) -> &[Activity]
     ensures activities { map activity_of result.now
         ≡ tables.planned listed.now.week listed.now.table.activities }
     ensures few { length result.now ≤ 500 }

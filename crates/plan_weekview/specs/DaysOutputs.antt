@@ -17,16 +17,17 @@ use Rattle.plan_weekfile.specs.Weeks.{IsWeekWith}
 use Rattle.plan_weekfile.specs.declared.order.WeekOrder.{WeekOrder}
 use Rattle.plan_weeklist.specs.declared.listed.ListedWeek.{ListedWeek}
 use Rattle.plan_weeks.specs.WeekPlans.{IsPlanned}
-use Rattle.plan_weeks.specs.WeekTables.{ids_from, named}
+use Rattle.plan_weeks.specs.WeekTables.{ids_from, named, planned}
 use Rattle.plan_weeks.specs.declared.planning.WeekPlan.{WeekPlan}
 use Rattle.plan_weekview.specs.WeekDays.{AreWeekDays, HasWeekDayBeyond}
 use Rattle.plan_weekview.specs.declared.output.WeekDaysFault.{WeekDaysFault}
 use Rattle.plan_weekview.specs.declared.output.WeekDaysFault.TheVariants as fault
 
--- a table with the names and the ids of the activities
+-- a table with the names and the ids of the activities of the week
 abbrev pub labelled : ListedWeek → Table → Table
 labelled listed t =
-    with_ids (ids_from 2 listed.table.activities) (named listed.table.activities t)
+    with_ids (ids_from 2 (planned listed.week listed.table.activities))
+    (named (planned listed.week listed.table.activities) t)
 
 -- the same with their resources and predecessors
 abbrev pub linked : List Links → ListedWeek → Table → Table

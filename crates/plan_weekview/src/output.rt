@@ -20,7 +20,7 @@ use plan_solve::Watcher;
 use plan_views::with_links;
 use plan_weekfile::{WeekOrder, listed_week, plan_of, week_links};
 use plan_weeklist::ListedWeek;
-use plan_weeks::{WeekPlan, ids_of, named};
+use plan_weeks::{WeekPlan, ids_of, named, planned};
 use std::alloc::{AllocError, Global};
 
 /// Why the working days of a plan can't be shown.
@@ -41,7 +41,7 @@ fn plain_text<'a>(
     ensures { IfOk result (λ text. text.items
         ≡ spec.days_text None listed.now (table_of table.entry)) }
 {
-    let activities = &listed.table.activities;
+    let activities = planned(listed);
     let table = named(alloc, activities, table)?;
     let table = with_ids(alloc, table, &ids_of(alloc, activities)?)?;
     table_text(alloc, &table)
