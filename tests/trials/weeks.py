@@ -210,8 +210,9 @@ def start_shown(week, i, start):
 
 
 def end_shown(week, i, start):
+    """An end; what was done later than today counts as done today."""
     state = week.states[i]
-    return state.ended if isinstance(state, weeks.Done) else start + week.rest(i)
+    return min(state.ended, week.today) if isinstance(state, weeks.Done) else start + week.rest(i)
 
 
 def starts_in(week, rows):
