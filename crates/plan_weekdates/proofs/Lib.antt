@@ -3,3 +3,4 @@ pub mod CountLemmas
 pub mod SequenceLemmas
 pub mod RowLemmas
 pub mod ListLemmas
+pub mod LawLemmas

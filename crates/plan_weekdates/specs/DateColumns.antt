@@ -20,7 +20,8 @@ column_at body k head =
     else None
 
 -- the columns from column k on, behind others
-unfoldable pub columns_at : Body → List (Option DateColumn) → ℕ → List Head → List (Option DateColumn)
+unfoldable pub columns_at : Body → List (Option DateColumn) → ℕ → List Head
+    → List (Option DateColumn)
 columns_at body before k [] = before
 columns_at body before k (head ∷ heads) =
     columns_at body (before ++ column_at body k head ∷ []) (k + 1) heads
@@ -28,4 +29,5 @@ columns_at body before k (head ∷ heads) =
 -- the columns of rows under a header, with given capacities
 abbrev pub columns_of : List Override → List Row → List Head → List (Option DateColumn)
 columns_of overrides rows heads =
-    columns_at (record { overrides = overrides; rows = rows; place = ids_place overrides heads }) [] 0 heads
+    columns_at (record { overrides = overrides; rows = rows; place = ids_place overrides heads })
+    [] 0 heads

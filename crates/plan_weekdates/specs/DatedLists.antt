@@ -35,13 +35,15 @@ pub record SpellsDated (calendar : Workdays) (columns : List (Option DateColumn)
 -- ---- what becomes of a list
 
 -- there is such a text
-abbrev pub IsDatedText : Workdays → List (Option DateColumn) → Row → List Row → Option (Vec ℕ Global) → Type 0
+abbrev pub IsDatedText : Workdays → List (Option DateColumn) → Row → List Row
+    → Option (Vec ℕ Global) → Type 0
 IsDatedText calendar columns first rows None = ⊥
 IsDatedText calendar columns first rows (Some text) =
     SpellsDated calendar columns first rows text.items
 
 -- rows under a header; if it can't be read, the list stays
-abbrev pub IsDatedUnder : Workdays → List Override → Row → List Row → Result (List Head) tables.Fault → Option (Vec ℕ Global) → Type 0
+abbrev pub IsDatedUnder : Workdays → List Override → Row → List Row
+    → Result (List Head) tables.Fault → Option (Vec ℕ Global) → Type 0
 IsDatedUnder calendar overrides first rows (Err fault) text = text ≡ None
 IsDatedUnder calendar overrides first rows (Ok heads) text =
     IsDatedText calendar (columns_of overrides rows heads) first rows text
@@ -52,12 +54,14 @@ IsDatedBehind calendar overrides [] text = text ≡ None
 IsDatedBehind calendar overrides (first ∷ rows) text =
     IsDatedUnder calendar overrides first rows (heads_at first.line [] first.cells) text
 
-abbrev pub IsDatedBy : Workdays → List Override → Result (List Row) tables.Fault → Option (Vec ℕ Global) → Type 0
+abbrev pub IsDatedBy : Workdays → List Override → Result (List Row) tables.Fault
+    → Option (Vec ℕ Global) → Type 0
 IsDatedBy calendar overrides (Err fault) text = text ≡ None
 IsDatedBy calendar overrides (Ok rows) text = IsDatedBehind calendar overrides (filled rows) text
 
 -- a text of a kind; only a list of activities has dates
-abbrev pub IsDatedOf : Workdays → List Override → List ℕ → Option ListKind → Option (Vec ℕ Global) → Type 0
+abbrev pub IsDatedOf : Workdays → List Override → List ℕ → Option ListKind
+    → Option (Vec ℕ Global) → Type 0
 IsDatedOf calendar overrides text None made = made ≡ None
 IsDatedOf calendar overrides text (Some kinds.Orders) made = made ≡ None
 IsDatedOf calendar overrides text (Some kinds.Activities) made =
@@ -87,7 +91,8 @@ FailsOr refused errors.TooLong = Unit {0}
 FailsOr refused (errors.Cell f) = refused f
 
 -- the error of rows under a header; if it can't be read, there is none
-abbrev pub RefusesUnder : Workdays → List Override → List Row → Result (List Head) tables.Fault → cells.CellFault → Type 0
+abbrev pub RefusesUnder : Workdays → List Override → List Row → Result (List Head) tables.Fault
+    → cells.CellFault → Type 0
 RefusesUnder calendar overrides rows (Err fault) f = ⊥
 RefusesUnder calendar overrides rows (Ok heads) f =
     RefusesRows calendar (columns_of overrides rows heads) rows f
@@ -98,13 +103,15 @@ RefusesBehind calendar overrides [] f = ⊥
 RefusesBehind calendar overrides (first ∷ rows) f =
     RefusesUnder calendar overrides rows (heads_at first.line [] first.cells) f
 
-abbrev pub RefusesBy : Workdays → List Override → Result (List Row) tables.Fault → cells.CellFault → Type 0
+abbrev pub RefusesBy : Workdays → List Override → Result (List Row) tables.Fault
+    → cells.CellFault → Type 0
 RefusesBy calendar overrides (Err fault) f = ⊥
 RefusesBy calendar overrides (Ok rows) f = RefusesBehind calendar overrides (filled rows) f
 
 -- the error of a text in UTF-8
 abbrev pub Refuses : Workdays → List Override → List ℕ → DateError → Type 0
-Refuses calendar overrides text error = FailsOr (RefusesBy calendar overrides (rows_read text)) error
+Refuses calendar overrides text error =
+    FailsOr (RefusesBy calendar overrides (rows_read text)) error
 
 -- the error of a file
 abbrev pub RefusesList : Workdays → List Override → List ℕ → DateError → Type 0

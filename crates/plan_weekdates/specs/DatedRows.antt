@@ -9,23 +9,29 @@ use Rattle.plan_weekdates.specs.Sequences.{Become, FirstFails}
 
 -- what the cell in column k becomes
 abbrev pub IsCellAt : Workdays → List (Option DateColumn) → ℕ → List ℕ → List ℕ → Type 0
-IsCellAt calendar columns k cell made = IsDatedCell calendar (slice_index_or columns k None) cell made
+IsCellAt calendar columns k cell made =
+    IsDatedCell calendar (slice_index_or columns k None) cell made
 
 -- the error of the cell in column k
-abbrev pub RefusesCellAt : Workdays → List (Option DateColumn) → ℕ → declared.CellFault → ℕ → List ℕ → Type 0
-RefusesCellAt calendar columns line f k cell = RefusesCell calendar line (slice_index_or columns k None) cell f
+abbrev pub RefusesCellAt : Workdays → List (Option DateColumn) → ℕ → declared.CellFault → ℕ
+    → List ℕ → Type 0
+RefusesCellAt calendar columns line f k cell =
+    RefusesCell calendar line (slice_index_or columns k None) cell f
 
 -- what cells become
-abbrev pub AreDatedCells : Workdays → List (Option DateColumn) → List (List ℕ) → List (List ℕ) → Type 0
+abbrev pub AreDatedCells : Workdays → List (Option DateColumn) → List (List ℕ) → List (List ℕ)
+    → Type 0
 AreDatedCells calendar columns cells made = Become (IsCellAt calendar columns) 0 cells made
 
 -- the error of cells in a line is that of the first cell with an error
-abbrev pub RefusesCells : Workdays → List (Option DateColumn) → ℕ → List (List ℕ) → declared.CellFault → Type 0
+abbrev pub RefusesCells : Workdays → List (Option DateColumn) → ℕ → List (List ℕ)
+    → declared.CellFault → Type 0
 RefusesCells calendar columns line cells f =
     FirstFails (IsCellAt calendar columns) (RefusesCellAt calendar columns line f) 0 cells
 
 -- what a row becomes: it keeps its line
-pub record IsDatedRow (calendar : Workdays) (columns : List (Option DateColumn)) (row made : Row) : Type 0 where
+pub record IsDatedRow (calendar : Workdays) (columns : List (Option DateColumn))
+    (row made : Row) : Type 0 where
   pub line : made.line ≡ row.line
   pub cells : AreDatedCells calendar columns row.cells made.cells
 
@@ -38,6 +44,8 @@ abbrev pub AreDatedRows : Workdays → List (Option DateColumn) → List Row →
 AreDatedRows calendar columns rows made = Become (λ k. IsDatedRow calendar columns) 0 rows made
 
 -- the error of rows is that of the first row with an error
-abbrev pub RefusesRows : Workdays → List (Option DateColumn) → List Row → declared.CellFault → Type 0
+abbrev pub RefusesRows : Workdays → List (Option DateColumn) → List Row → declared.CellFault
+    → Type 0
 RefusesRows calendar columns rows f =
-    FirstFails (λ k. IsDatedRow calendar columns) (λ k row. RefusesRow calendar columns row f) 0 rows
+    FirstFails (λ k. IsDatedRow calendar columns) (λ k row. RefusesRow calendar columns row f)
+    0 rows

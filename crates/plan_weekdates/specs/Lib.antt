@@ -4,3 +4,4 @@ pub mod Sequences
 pub mod DatedCells
 pub mod DatedRows
 pub mod DatedLists
+pub mod InstantLaws

@@ -147,7 +147,8 @@ pub fn dated_cell(
     cell: &[u8],
 ) -> Result<Vec<u8>, DateError>
     ensures made { IfOk result (λ made. spec.IsDatedCell calendar.now column cell.now made.items) }
-    ensures refused { IfErr result (spec.Fails (spec.RefusesCell calendar.now line column cell.now)) }
+    ensures refused { IfErr result
+        (spec.Fails (spec.RefusesCell calendar.now line column cell.now)) }
 {
     match column {
         Some(column) => dated_in(alloc, calendar, line, column, cell),

@@ -69,8 +69,8 @@ fn push_feeds(text: &mut Vec<u8>, from: u64, to: u64) -> Result<(), AllocError> 
     Ok(())
 }
 
-// Returns the text of rows, each in its line. It begins with a row without content, whose tab is the
-// separator of the text.
+// Returns the text of rows, each in its line. It begins with a row without content, whose tab is
+// the separator of the text.
 fn text_of(alloc: Global, rows: &[Row]) -> Result<Vec<u8>, AllocError> {
     let mut text = Vec::from_slice(alloc, b"\"\"\t\r")?;
     let mut line: u64 = 1;
