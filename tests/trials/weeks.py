@@ -2,7 +2,8 @@
 """Plans drawn lists with dates and compares `plan solve` with a brute force: the least makespan, the
 least greatest tardiness and the least makespan with it, overloads, lists without a plan, and errors
 of dates. The starts must be a plan by its definition, and the text must show them. `plan days
---solve` must show the working days of these starts.
+--solve` must show the working days of these starts, and a list with calendar dates must give the
+same plan.
 
     tests/trials/weeks.py               500 lists; prints nothing on success
     tests/trials/weeks.py CASES SEED    so many, drawn from this seed; prints what they were
@@ -92,16 +93,16 @@ class Drawn:
     def columns(self):
         return COLUMNS[:1] + ["name"] * self.has_names + COLUMNS[1:] + self.crews
 
-    def text(self):
+    def text(self, rows=None):
         columns = self.columns() + ["remark"] * self.is_remarked
         capacities = {"id": "capacity"} | dict(zip(self.crews, self.week.capacities))
-        rows = [capacities, *({"remark": "see 2"} | row for row in self.rows)]
+        rows = [capacities, *({"remark": "see 2"} | row for row in rows or self.rows)]
         lines = [[str(row.get(column, "")) for column in columns] for row in rows]
         heads = ["Tag" if column == self.header else column for column in columns]
         return "".join(",".join(line) + "\n" for line in [heads, *lines])
 
-    def options(self):
-        words = [] if self.now is None else ["--now", str(self.now)]
+    def options(self, now=None):
+        words = [] if self.now is None else ["--now", now or str(self.now)]
         if self.given is not None:
             place, amount = self.given
             name = [self.crews[place], str(place + 1), f"R{place + 1}"][(place + amount) % 3]
@@ -265,6 +266,16 @@ class Calendar:
     def words(self):
         return [str(self.start), "".join("1" if mark else "0" for mark in self.marks)]
 
+    def holiday_options(self, folder):
+        if not self.holidays:
+            return []
+        lines = "".join(f"{day}\n" for day in self.holidays)
+        return ["--holidays", written(folder, "holidays.txt", lines.encode())]
+
+    def options(self, folder):
+        start, marks = self.words()
+        return ["--start", start, "--days", marks, *self.holiday_options(folder)]
+
     def day(self, instant):
         """The working day with so many working days before it."""
         date, left = self.start, instant
@@ -297,14 +308,34 @@ def days_text(case, week, starts, is_late, calendar):
     return "".join(line.rstrip() + "\n" for line in lines)
 
 
+def dated(calendar, column, cell):
+    """A cell with the date of its instant: in `done` and `due` the day that ends then."""
+    if not str(cell).isdigit():
+        return cell
+    if column in ("earliest", "fixed", "begun"):
+        return calendar.day(int(cell))
+    return calendar.day(int(cell) - 1) if column in ("done", "due") and int(cell) > 0 else cell
+
+
+def try_dates(case, folder, is_late, wanted):
+    """Compares the plan of a list with calendar dates with the one of the same list with instants."""
+    calendar = Calendar(case.draw)
+    rows = [
+        {column: dated(calendar, column, cell) for column, cell in row.items()} for row in case.rows
+    ]
+    name = written(folder, "dates.csv", case.text(rows).encode())
+    now = calendar.day(case.now) if case.now is not None and case.draw.random() < 0.5 else None
+    words = ["solve", *case.options(now), *goal_words(is_late), *calendar.options(folder), name]
+    status, output, errors = plan(folder, *words)
+    what = f"{words} of\n{case.text(rows)} on {calendar.holidays}"
+    same(what, (status, unpadded(output), errors), wanted)
+
+
 def try_days(case, week, folder, name, starts, is_late):
     """Compares the working days of the plan of a list with those of its starts."""
     calendar = Calendar(case.draw)
     words = ["days", "--solve", *case.options(), *goal_words(is_late)]
-    if calendar.holidays:
-        lines = "".join(f"{day}\n" for day in calendar.holidays)
-        words += ["--holidays", written(folder, "holidays.txt", lines.encode())]
-    words += [*calendar.words(), name]
+    words += [*calendar.holiday_options(folder), *calendar.words(), name]
     status, output, errors = plan(folder, *words)
     wanted = printed(days_text(case, week, starts, is_late, calendar))
     what = f"{words} of\n{case.text()} on {calendar.holidays}"
@@ -336,6 +367,7 @@ def try_plan(case, week, folder, name, is_late, wanted):
     status, output, errors = plan(folder, *words)
     same(f"{what}: the text", (status, unpadded(output), errors), printed(text))
     try_days(case, week, folder, name, starts, is_late)
+    try_dates(case, folder, is_late, printed(text))
 
 
 def wanted_error(case, week, found):
