@@ -13,5 +13,5 @@ use Rattle.plan_weekfile.specs.Files.{TellsNoFile}
 -- options make no list of a file
 pub no_file : (o : declared.Options) (file : List ℕ) (fault : OptionsFault) (e : CliFault)
     → lists.IsNotOptioned (options_of o) file fault → Refuses (TellsOptions (options_of o) fault) e → Refuses (TellsNoFile o file) e
-no_file o file fault e no told =
-    refuses_as (TellsOptions (options_of o) fault) (TellsNoFile o file) e (λ line tells. (fault, no, tells)) told
+no_file o file fault e refused told =
+    refuses_as (TellsOptions (options_of o) fault) (TellsNoFile o file) e (λ line tells. (fault, refused, tells)) told

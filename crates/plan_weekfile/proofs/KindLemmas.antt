@@ -21,9 +21,9 @@ dates_told text list is dates plain = inl (list, dates, plain)
 -- they fail a check
 pub dates_fail : (text : List ℕ) (fault : WeekFault) (is : Bool) → IsNoWeekList [] None (utf8_of text) (errors.Fault fault) → is ≡ true
     → HasDates text is
-dates_fail text fault is no fails = inr (fault, no, fails)
+dates_fail text fault is refused fails = inr (fault, refused, fails)
 
 -- the kind of a plain list
 pub kind_told : (text list : List ℕ) (p : PlainList) (kind : Option ListKind) (is : Bool) → IsPlainOf [] text p → list ≡ text_of p text
     → IsKind list kind → is ≡ is_activities kind → IsList text is
-kind_told text list p kind is plain same found told = (list, (p, plain, same), kind, found, told)
+kind_told text list p kind is plain same found told = (list, (p, plain, same), (kind, found, told))
