@@ -24,11 +24,15 @@ use Rattle.plan_weeks.specs.declared.planning.WeekPlan.{WeekPlan}
 pub given_made : (given : List Capacity) (now : Option ℕ) (text : List ℕ) (own : ListedWeek) (week : Week) (capacities : Vec ℕ Global)
     → IsListedWeek [] now text own → AreCapacities given own capacities.items → KeepsAllButCapacities own.week week
     → week.capacities ≡ capacities → IsGivenWeek given now text (record { table = own.table; week = week })
-given_made given now text own week capacities is are rest same = (own, is, record {
-  table = refl;
-  capacities = subst (λ (v : Vec ℕ Global). AreCapacities given own v.items) (sym same) are;
-  week = rest;
-})
+given_made given now text own week capacities is are rest same = (
+  own,
+  is,
+  record {
+    table = refl;
+    capacities = subst (λ (v : Vec ℕ Global). AreCapacities given own v.items) (sym same) are;
+    week = rest;
+  },
+)
 
 -- some capacities are given
 pub given_with : (given : List Capacity) (now : Option ℕ) (text : List ℕ) (listed : ListedWeek) → 1 ≤ length given

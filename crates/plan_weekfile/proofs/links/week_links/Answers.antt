@@ -10,8 +10,8 @@ pub loop-k-preserved : goal.loop-k-preserved
 loop-k-preserved c =
     let listed = c.args.listed.now in
     let is : links_of c.in_ok-links_at.field-0
-        ≡ links_at (names_from 1 listed.table.resources) (map name_of c.args.ids.now) (map numbered listed.week.arcs.items) listed.week c.loop-k.k
-        = grind arith in
+    ≡ links_at (names_from 1 listed.table.resources) (map name_of c.args.ids.now) (map numbered listed.week.arcs.items) listed.week c.loop-k.k
+    = grind arith in
     next_item_from_zero links_of
     (links_at (names_from 1 listed.table.resources) (map name_of c.args.ids.now) (map numbered listed.week.arcs.items) listed.week)
     c.loop-k.k _ _ c.in_ok-links_at.field-0 c.loop-k.invariant is c.in_ok-push.ensures.items
