@@ -364,9 +364,17 @@ def try_bad_hours(case):
 def try_check(case):
     starts = case.moved()
     output = case.output("check", "list.csv", case.write("starts", starts))
-    verdict = verdicts.verdict(case.project, starts)
-    wanted = {"text": verdict + "\n", "csv": f"verdict\n{verdict}\n", "json": f'{{"rows":[{{"verdict":"{verdict}"}}]}}\n'}
-    same(case.what, output.decode(), wanted[case.form])
+    drawn = case.drawn
+    ids, names, resources = (dict(enumerate(words, first)) for words, first in (
+        (drawn.ids, 2), (drawn.names, 2), (drawn.resources, 1)))
+    verdict = verdicts.named_verdict(case.project, starts, ids, names, resources)
+    if case.form == "csv":
+        same(case.what, list(csv.reader(io.StringIO(output.decode(), newline=""))), [["verdict"], [verdict]])
+    else:
+        wanted = {"text": verdict.encode() + b"\n", "json": dumped({"rows": [{"verdict": verdict}]})}
+        same(case.what, output, wanted[case.form])
+    status = plan(case.folder, "check", "--status", "list.csv", "starts")[0]
+    same(f"{case.what}: the status", status, 0 if verdict == "active" else 3)
 
 
 def try_compare(case):

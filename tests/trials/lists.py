@@ -11,7 +11,8 @@ A list is drawn with names, quotes, blanks and all three delimiters; one in four
 byte, and is then often read as Windows-1252. A list means the same in each encoding. For a list of orders the
 tables lack the steps of time 0, which the trial takes from the job shop file, and such a table is read
 as all starts. Notes on a list
-follow the output of each command. The program is the one that ./plan runs, or the one that
+follow the output of each command. The verdict of `plan check` on a list is that on its file, with ids
+and names in the place of the numbers. The program is the one that ./plan runs, or the one that
 PLAN_PROGRAM names.
 """
 
@@ -120,8 +121,6 @@ def plain_commands(draw, is_shop, starts):
     """The commands whose output has names without an option, or none."""
     rule = draw.pick(SHOP_RULES if is_shop else PROJECT_RULES)
     return [
-        (["check"], [starts]),
-        (["check", "--status"], [starts]),
         (["days", "--format", "ics", rule, STARTS[0], MARKS[0]], []),
         (["report", "--title", "list"], []),
         (["report", "--title", "list", "--start", "2024-03-01", "--days", MARKS[0]], []),
@@ -275,6 +274,79 @@ def try_short_starts(what, folder, steps):
              plan(folder, "compare", "list.csv", "numbers", "numbers"))
 
 
+def named_in(made, key):
+    """The names behind a key in the file that is made of a list, by their numbers."""
+    lines = (line.removeprefix(key).split(" ", 1) for line in made.split("\n") if line.startswith(key))
+    return {int(words[0]): words[1] for words in lines}
+
+
+def named_verdict(made, line):
+    """The verdict of `plan check` on the file that is made of a list as that on the list: with the ids
+    and the names in the file."""
+    ids, names, resources, jobs, machines = (
+        named_in(made, key) for key in ("id ", "name ", "resource ", "+ job ", "+ machine "))
+
+    def activity(word):
+        own = [known[int(word)] for known in (ids, names) if int(word) in known]
+        return " ".join(own) or f"activity {word}"
+
+    numbers = re.findall(r"\d+", line)
+    if re.fullmatch(r"activity \d+ starts before \d+ ends", line):
+        has_label = any(int(word) in known for word in numbers for known in (ids, names))
+        return f"{activity(numbers[0])} starts before {activity(numbers[1])} ends" if has_label else line
+    if re.fullmatch(r"activity \d+ can start earlier", line):
+        return f"{activity(numbers[0])} can start earlier"
+    for word, known in (("resource", resources), ("job", jobs), ("machine", machines)):
+        line = re.sub(rf"\b{word} (\d+)", lambda found: known.get(int(found[1]), found[0]), line)
+    return line
+
+
+def moved(draw, starts):
+    """Starts of which some are others."""
+    starts = list(starts)
+    for _ in range(draw.pick((0, 1, 1, 2))):
+        place = draw.number(0, len(starts) - 1)
+        starts[place] = max(0, starts[place] + draw.number(-3, 4))
+    return starts
+
+
+def rule_starts(made_folder, is_shop, made):
+    """All starts of a schedule by a rule, in the order of the file that is made of a list."""
+    words = ["shop", "--format", "json", "mwkr", "list.csv", "shop"] if is_shop else ["schedule", "--format", "json", "lft", "list.csv"]
+    status, output, _ = plan(made_folder, *words)
+    rows = [] if status else json.loads(output)["rows"]
+    starts = [row["start"] for row in rows]
+    if rows and "id" in rows[0]:
+        return [0, *starts, max(row["end"] for row in rows)]
+    return starts
+
+
+def try_checks(draw, what, folder, is_shop, made_folder, made, notes):
+    """That `plan check` calls the verdict on a list by its ids and names, and that it has the status of
+    the verdict on the file that is made of the list."""
+    instance, starts = ["shop"] if is_shop else [], rule_starts(made_folder, is_shop, made)
+    for _ in range(3 if starts else 0):
+        numbers = " ".join(map(str, moved(draw, starts))).encode() + b"\n"
+        for place in (folder, made_folder):
+            written(place, "numbers", numbers)
+        status, output, _ = plan(made_folder, "check", "--status", "list.csv", "numbers", *instance)
+        line = named_verdict(made.decode(), output.decode().removesuffix("\n"))
+        form, asked = draw.pick(([], ["--format", "csv"], ["--format", "json"])), draw.pick(([], ["--status"]))
+        words = ["check", *asked, *form, "list.csv", "numbers"]
+        found = plan(folder, *words)
+        same(f"{what}: {words}", (found[0], verdict_in(form, found[1]), found[2]), (status if asked else 0, line, notes))
+
+
+def verdict_in(form, output):
+    """The verdict in an output."""
+    text = output.decode()
+    if "csv" in form:
+        (head,), (line,) = csv.reader(io.StringIO(text, newline=""))
+        same("the column of a verdict", head, "verdict")
+        return line
+    return json.loads(text)["rows"][0]["verdict"] if form else text.removesuffix("\n")
+
+
 def capacities_of(draw, is_shop):
     """Options with capacities by name, at times of a resource that the list lacks."""
     if is_shop or draw.chance(0.7):
@@ -306,6 +378,7 @@ def try_made(draw, what, folder, is_shop, made, notes):
         if command[0][:2] == ["chart", "--svg"] and is_shop:
             own = ["shop"]
         compare_command(what, folder, command, (own, other), ([], []), made_folder, notes)
+    try_checks(draw, what, folder, is_shop, made_folder, made, notes)
 
 
 def try_refused(what, folder, is_shop, answer):

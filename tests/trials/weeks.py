@@ -1,7 +1,9 @@
 #!/usr/bin/env python3
 """Plans drawn lists with dates and compares `plan solve` with a brute force: the least makespan, the
 least greatest tardiness and the least makespan with it, overloads, lists without a plan, and errors
-of dates. The starts must be a plan by its definition, and the text must show them.
+of dates. The starts must be a plan by its definition, and the text must show them. `plan days
+--solve` must show the working days of these starts, and a list with calendar dates must give the
+same plan.
 
     tests/trials/weeks.py               500 lists; prints nothing on success
     tests/trials/weeks.py CASES SEED    so many, drawn from this seed; prints what they were
@@ -10,6 +12,7 @@ The program is the one that ./plan runs, or the one that PLAN_PROGRAM names.
 """
 
 import collections
+import datetime
 import json
 import os
 import random
@@ -90,16 +93,16 @@ class Drawn:
     def columns(self):
         return COLUMNS[:1] + ["name"] * self.has_names + COLUMNS[1:] + self.crews
 
-    def text(self):
+    def text(self, rows=None):
         columns = self.columns() + ["remark"] * self.is_remarked
         capacities = {"id": "capacity"} | dict(zip(self.crews, self.week.capacities))
-        rows = [capacities, *({"remark": "see 2"} | row for row in self.rows)]
+        rows = [capacities, *({"remark": "see 2"} | row for row in rows or self.rows)]
         lines = [[str(row.get(column, "")) for column in columns] for row in rows]
         heads = ["Tag" if column == self.header else column for column in columns]
         return "".join(",".join(line) + "\n" for line in [heads, *lines])
 
-    def options(self):
-        words = [] if self.now is None else ["--now", str(self.now)]
+    def options(self, now=None):
+        words = [] if self.now is None else ["--now", now or str(self.now)]
         if self.given is not None:
             place, amount = self.given
             name = [self.crews[place], str(place + 1), f"R{place + 1}"][(place + amount) % 3]
@@ -208,8 +211,9 @@ def start_shown(week, i, start):
 
 
 def end_shown(week, i, start):
+    """An end; what was done later than today counts as done today."""
     state = week.states[i]
-    return state.ended if isinstance(state, weeks.Done) else start + week.rest(i)
+    return min(state.ended, week.today) if isinstance(state, weeks.Done) else start + week.rest(i)
 
 
 def starts_in(week, rows):
@@ -231,18 +235,111 @@ def text_of(case, week, starts, is_late, bound):
     """The text of a plan."""
     heads = ["d", "start", "end"] + ["late"] * is_late
     has_names = case.has_names and any(case.names)
-    # The ids of waits, such as wait+0, aren't shown, and count for the places of the column.
-    places = 6 if any(lag for _, _, lag in week.arcs) else 4
-    lines = ["id".rjust(places) + "".join(f"{head:>8}" for head in heads) + " name" * has_names]
+    lines = ["  id" + "".join(f"{head:>8}" for head in heads) + " name" * has_names]
     for (word, *numbers), name in cells_of(case, week, starts, is_late):
         cells = "".join(f"{'-' if n is None else n:>8}" for n in numbers)
-        lines.append(f"{word:>{places}}{cells}" + (f" {name}" if has_names and name else ""))
+        lines.append(f"{word:>4}{cells}" + (f" {name}" if has_names and name else ""))
     ends = weeks.makespan(week, starts)
     lines = [*bound, f"optimal {ends}", *lines, f"makespan {ends}"]
     if is_late:
         late = sum(tardy > 0 for tardy in weeks.tardiness(week, starts))
         lines.append(f"late {late} of {week.count()}")
     return "".join(line.rstrip() + "\n" for line in lines)
+
+
+def unpadded(output):
+    """A text without blanks at the ends of its lines."""
+    return "".join(line.rstrip() + "\n" for line in output.decode().splitlines()).encode()
+
+
+class Calendar:
+    """A drawn calendar: the working days from a date on."""
+
+    def __init__(self, draw):
+        self.start = datetime.date(2024, 1, 1) + datetime.timedelta(draw.randrange(900))
+        self.marks = [draw.random() < 0.7 for _ in range(7)]
+        self.marks[draw.randrange(7)] = True
+        self.holidays = [
+            self.start + datetime.timedelta(draw.randrange(20)) for _ in range(draw.randrange(3))
+        ]
+
+    def words(self):
+        return [str(self.start), "".join("1" if mark else "0" for mark in self.marks)]
+
+    def holiday_options(self, folder):
+        if not self.holidays:
+            return []
+        lines = "".join(f"{day}\n" for day in self.holidays)
+        return ["--holidays", written(folder, "holidays.txt", lines.encode())]
+
+    def options(self, folder):
+        start, marks = self.words()
+        return ["--start", start, "--days", marks, *self.holiday_options(folder)]
+
+    def day(self, instant):
+        """The working day with so many working days before it."""
+        date, left = self.start, instant
+        while True:
+            if self.marks[date.weekday()] and date not in self.holidays:
+                if left == 0:
+                    return str(date)
+                left -= 1
+            date += datetime.timedelta(1)
+
+
+def days_shown(calendar, begin, end):
+    """The first and the last day between two instants; what was done has no known begin."""
+    if end == 0 or begin is not None and begin >= end:
+        return ["-", "-"]
+    return ["-" if begin is None else calendar.day(begin), calendar.day(end - 1)]
+
+
+def days_text(case, week, starts, is_late, calendar):
+    """The text of the working days of a plan."""
+    has_names = case.has_names and any(case.names)
+    heads = f"  id{'first':>12}{'last':>12}" + f"{'late':>8}" * is_late
+    lines = [heads + " name" * has_names]
+    late = weeks.tardiness(week, starts) if is_late else []
+    for i, start in enumerate(starts):
+        days = days_shown(calendar, start_shown(week, i, start), end_shown(week, i, start))
+        cells = "".join(f"{day:>12}" for day in days) + (f"{late[i]:>8}" if is_late else "")
+        name = f" {case.names[i]}" if has_names and case.names[i] else ""
+        lines.append(f"{f'a{i}':>4}{cells}{name}")
+    return "".join(line.rstrip() + "\n" for line in lines)
+
+
+def dated(calendar, column, cell):
+    """A cell with the date of its instant: in `done` and `due` the day that ends then."""
+    if not str(cell).isdigit():
+        return cell
+    if column in ("earliest", "fixed", "begun"):
+        return calendar.day(int(cell))
+    return calendar.day(int(cell) - 1) if column in ("done", "due") and int(cell) > 0 else cell
+
+
+def try_dates(case, folder, is_late, wanted):
+    """Compares the plan of a list with calendar dates with the one of the same list with instants."""
+    calendar = Calendar(case.draw)
+    rows = [
+        {column: dated(calendar, column, cell) for column, cell in row.items()} for row in case.rows
+    ]
+    name = written(folder, "dates.csv", case.text(rows).encode())
+    now = calendar.day(case.now) if case.now is not None and case.draw.random() < 0.5 else None
+    words = ["solve", *case.options(now), *goal_words(is_late), *calendar.options(folder), name]
+    status, output, errors = plan(folder, *words)
+    what = f"{words} of\n{case.text(rows)} on {calendar.holidays}"
+    same(what, (status, unpadded(output), errors), wanted)
+
+
+def try_days(case, week, folder, name, starts, is_late):
+    """Compares the working days of the plan of a list with those of its starts."""
+    calendar = Calendar(case.draw)
+    words = ["days", "--solve", *case.options(), *goal_words(is_late)]
+    words += [*calendar.holiday_options(folder), *calendar.words(), name]
+    status, output, errors = plan(folder, *words)
+    wanted = printed(days_text(case, week, starts, is_late, calendar))
+    what = f"{words} of\n{case.text()} on {calendar.holidays}"
+    same(what, (status, unpadded(output), errors), wanted)
 
 
 def goal_words(is_late):
@@ -268,8 +365,9 @@ def try_plan(case, week, folder, name, is_late, wanted):
         bound = [f"tardiness optimal {tardy}"]
     text = text_of(case, week, starts, is_late, bound)
     status, output, errors = plan(folder, *words)
-    lines = "".join(line.rstrip() + "\n" for line in output.decode().splitlines())
-    same(f"{what}: the text", (status, lines.encode(), errors), printed(text))
+    same(f"{what}: the text", (status, unpadded(output), errors), printed(text))
+    try_days(case, week, folder, name, starts, is_late)
+    try_dates(case, folder, is_late, printed(text))
 
 
 def wanted_error(case, week, found):

@@ -1,5 +1,6 @@
 -- The text of a task for a list, and for the first bytes of a file.
-use Rattle.std.proofs.Common.{◌≡◌, Bool, true, false, ◌&&◌, inl, inr, ℕ, ◌+◌, List, [], ◌∷◌, Option, Some, None, Result, Ok, Err, take, refl, subst}
+use Rattle.std.proofs.Common.{◌≡◌, Bool, true, false, ◌&&◌, inl, inr, ℕ, ◌+◌, List, [], ◌∷◌, Option, Some, None, Result, Ok, Err, take, refl, sym, ap, subst}
+use denote.Ref.{Bor}
 use Rattle.std.specs.Prelude.{IfOk, IfErr}
 use Rattle.plan_psplib.specs.Plain.{longest_text}
 use Rattle.plan_table.specs.Kinds.{IsKind}
@@ -10,11 +11,12 @@ use Rattle.plan_errors.specs.Output.{Refuses}
 use Rattle.plan_documents.specs.declared.capacities.Capacity.{Capacity}
 use Rattle.plan_documents.specs.Lists.{IsMadeOf, RefusesActivities, RefusesIn, RefusesKind, RefusesList, RefusesMade, IsReadAs, RefusesReading, ReadsAs}
 use Rattle.plan_documents.specs.Spreadsheets.{OfList}
-use Rattle.plan_cli.specs.Tasks.{IsLineOf, ShowsTask, list_subject, with_subject, has_steps, ShowsBy, ShowsKind, ShowsOn, ShowsRead, RefusesOn, RefusesRead}
+use Rattle.plan_cli.specs.Tasks.{IsLineOf, ShowsTask, list_subject, with_subject, has_steps, ShowsBy, IsNamedCheck, check_in, list_check, ShowsChecked, ShowsKind, ShowsOn, ShowsRead, RefusesOn, RefusesRead}
 use Rattle.plan_documents.specs.declared.documents.Subject.{Subject}
 use Rattle.plan_documents.specs.declared.documents.Subject.TheVariants as subject
 use Rattle.plan_cli.specs.declared.tasks.Rows.{Rows}
 use Rattle.plan_cli.specs.declared.tasks.Task.{Task}
+use Rattle.plan_cli.specs.declared.tasks.Task.TheVariants as task
 use Rattle.plan_cli.proofs.RunLemmas.{HoldsByFront}
 use Rattle.plan_cli.proofs.TaskLemmas.{shown_front, task_line_front, import_front, no_import_front, no_sound_import_front, shop_import_front, no_shop_import_front, kind_front, list_front, refuses_list_front}
 use Rattle.plan_documents.proofs.ListLemmas.{read_refused, read_as}
@@ -44,6 +46,59 @@ none_shows false r t s file text shown = shown
 shows_none : (b : Bool) (r : Rows) (t : Task) (s : Subject) (file text : List ℕ) → ShowsTask r t file text → ShowsBy (b && false) r t s file text
 shows_none true r t s file text shown = shown
 shows_none false r t s file text shown = shown
+
+none_some : {X : Type 0} {x : X} → None ≡ Some x → ⊥
+none_some e = cc
+
+-- the check with these starts and this subject
+check_with : Option (Bor (List ℕ) × Subject) → Task
+check_with None = task.Names
+check_with (Some (starts, subject)) = task.Check starts subject
+
+-- a task with the starts and the subject of a check is that check
+check_is : (t : Task) (starts : Bor (List ℕ)) (s : Subject) → check_in t ≡ Some (starts, s) → t ≡ task.Check starts s
+check_is (task.Check own subject) starts s e = ap check_with e
+check_is task.Dates starts s e = absurd (none_some e)
+check_is (task.Schedule rule subject) starts s e = absurd (none_some e)
+check_is (task.Chart from subject) starts s e = absurd (none_some e)
+check_is (task.Days from dates style subject) starts s e = absurd (none_some e)
+check_is task.Names starts s e = absurd (none_some e)
+check_is (task.Slack listed given) starts s e = absurd (none_some e)
+check_is (task.Compare pair subject) starts s e = absurd (none_some e)
+check_is (task.CompareLists old pair subject) starts s e = absurd (none_some e)
+check_is (task.Best budget subject) starts s e = absurd (none_some e)
+check_is (task.Prove nodes instance) starts s e = absurd (none_some e)
+check_is (task.Solve conflicts subject) starts s e = absurd (none_some e)
+check_is (task.List from dates subject options) starts s e = absurd (none_some e)
+check_is (task.Import given) starts s e = absurd (none_some e)
+check_is task.ImportShop starts s e = absurd (none_some e)
+
+list_check_is : (kind : Option ListKind) (t : Task) (starts : Bor (List ℕ)) (s : Subject) → list_check kind t ≡ Some (starts, s)
+    → t ≡ task.Check starts s
+list_check_is None t starts s e = absurd (none_some e)
+list_check_is (Some kind) t starts s e = check_is t starts s e
+
+-- the text of the check of a list
+pub check_shows : {X E : Type 0} (view : X → List ℕ) (kind : Option ListKind) (r : Rows) (t : Task) (s of : Subject) (starts : Bor (List ℕ))
+    (file : List ℕ) (result : Result X E)
+    → list_check kind t ≡ Some (starts, of) → IfOk result (λ x. IsNamedCheck r starts.now of file (view x))
+    → IfOk result (λ x. ShowsKind kind r t s file (view x))
+check_shows view kind r t s of starts file result is named =
+    subst (λ (o : Option (Bor (List ℕ) × Subject)). IfOk result (λ x. ShowsChecked o kind r t s file (view x))) (sym is) named
+
+-- the text of another task
+pub other_shows : {X E : Type 0} (view : X → List ℕ) (kind : Option ListKind) (r : Rows) (t : Task) (s : Subject) (file : List ℕ) (result : Result X E)
+    → list_check kind t ≡ None → IfOk result (λ x. ShowsChecked None kind r t s file (view x))
+    → IfOk result (λ x. ShowsKind kind r t s file (view x))
+other_shows view kind r t s file result is shown =
+    subst (λ (o : Option (Bor (List ℕ) × Subject)). IfOk result (λ x. ShowsChecked o kind r t s file (view x))) (sym is) shown
+
+-- the error of the check of a list
+pub check_refused : {X : Type 0} (kind : Option ListKind) (t : Task) (s : Subject) (starts : Bor (List ℕ)) (file : List ℕ) (result : Result X CliFault)
+    → list_check kind t ≡ Some (starts, s) → IfErr result (Refuses (IsLineOf (task.Check starts s) file))
+    → IfErr result (Refuses (IsLineOf t file))
+check_refused kind t s starts file result is told =
+    subst (λ (w : Task). IfErr result (Refuses (IsLineOf w file))) (sym (list_check_is kind t starts s is)) told
 
 -- the error of a task for what is read is that for the file
 pub refused_as : {X : Type 0} (of : Subject) (file : List ℕ) (t u : Task) (kind : Option ListKind) (s : Subject) (text bytes : List ℕ)

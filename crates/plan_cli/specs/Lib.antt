@@ -62,6 +62,7 @@ pub use Rattle.plan_documents.specs.Lists
 pub use Rattle.plan_documents.specs.ScheduleRun
 pub use Rattle.plan_documents.specs.Starts
 pub use Rattle.plan_documents.specs.VerdictText
+pub use Rattle.plan_documents.specs.NamedVerdicts
 pub use Rattle.plan_documents.specs.Refusals
 pub use Rattle.plan_documents.specs.Contents
 pub use Rattle.plan_documents.specs.Details

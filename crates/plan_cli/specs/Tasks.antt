@@ -3,6 +3,7 @@
 use Rattle.std.specs.Prelude.{◌≡◌, ℕ, ◌+◌, List, [], Option, Some, None, Result, IfSome}
 use Rattle.std.specs.Prelude.{take, map}
 use Rattle.std.specs.Prelude.{Bool, true, false, ◌&&◌, codes, bytes_eq, if◌then◌else◌}
+use denote.Ref.{Bor}
 use Rattle.plan_gantt.specs.FirstFaults.{TellsFirstFailing}
 use Rattle.plan_cli.specs.Run.{IsDateTableOf, ReadsFront}
 use Rattle.plan_documents.specs.Documents.{IsOfSubject, RefusesSubject, ids_in, ids_of_rows}
@@ -18,16 +19,19 @@ use Rattle.plan_cli.specs.CompareRun.{IsCompared, TellsNotCompared}
 use Rattle.plan_cli.specs.ListComparisons.{AreListsCompared, TellsNoLists}
 use Rattle.plan_formats.specs.declared.format.Format.{Format}
 use Rattle.plan_cli.specs.NamesRun.{AreNamesOf, TellsNotPlain}
-use Rattle.plan_cli.specs.CheckRun.{TellsVerdictOn, TellsBadStarts}
+use Rattle.plan_cli.specs.CheckRun.{IsVerdictOn, TellsVerdictOn, TellsBadStarts}
 use Rattle.plan_cli.specs.BestRun.{IsBestOf, TellsNoBestOf}
 use Rattle.plan_cli.specs.ProveRun.{IsProofTableOf, TellsWhyNoProof}
 use Rattle.plan_cli.specs.SolveRun.{IsSolvedBy, TellsNoSolution}
 use Rattle.plan_cli.specs.ListRun.{IsTimedList, RefusesTimedList}
 use Rattle.plan_documents.specs.ImportRun.{IsImport, TellsUnimported, IsShopImport, TellsNoShop}
 use Rattle.plan_documents.specs.Lists.{ReadsAs, RefusesAs}
+use Rattle.plan_documents.specs.NamedVerdicts.{verdict_sentence}
+use Rattle.plan_sgs.specs.declared.verdict.Verdict.{Verdict}
 use Rattle.plan_views.specs.LinkColumns.{Links}
+use Rattle.plan_views.specs.LineLists.{verdict_view_of}
 use Rattle.plan_cli.specs.TaskViews.{IsViewOf}
-use Rattle.plan_cli.specs.Views.{View, chart, named_text, plain_text, text_in}
+use Rattle.plan_cli.specs.Views.{View, chart, named_text, plain_text, table, text_in}
 use Rattle.plan_views.specs.Charts.{Chart}
 use Rattle.plan_cli.specs.OrderTables.{IsShopOf, view_for}
 use Rattle.plan_shop.specs.Shop.{JobShop}
@@ -36,6 +40,7 @@ use Rattle.plan_table.specs.Overrides.{override_of}
 use Rattle.plan_table.specs.ShopNames.{instance_names, order_key}
 use Rattle.plan_table.specs.declared.kinds.ListKind.{ListKind}
 use Rattle.plan_table.specs.declared.kinds.ListKind.TheVariants as kinds
+use Rattle.plan_documents.specs.declared.documents.Plan.{Plan}
 use Rattle.plan_documents.specs.declared.documents.Subject.{Subject}
 use Rattle.plan_documents.specs.declared.documents.Subject.TheVariants as subjects
 use Rattle.plan_cli.specs.declared.inputs.Inputs as inputs
@@ -218,9 +223,35 @@ abbrev pub ShowsBy : Bool → Rows → Task → Subject → List ℕ → List �
 ShowsBy false r t s = ShowsTask r t
 ShowsBy true r t s = ShowsOrders r t s
 
+-- a text gives the first verdict on the starts in a text, in a sentence with the ids and the names
+-- in a file
+abbrev pub NamesVerdictOn : Rows → List ℕ → Subject → List ℕ → Plan → List ℕ → Type 0
+NamesVerdictOn r listed s file p text = (verdict : Verdict) × IsVerdictOn listed p verdict
+    × (text ≡ rows_text r (table (verdict_view_of (verdict_sentence s file p verdict))))
+
+-- the same for the plan of a subject in the file
+abbrev pub IsNamedCheck : Rows → List ℕ → Subject → List ℕ → List ℕ → Type 0
+IsNamedCheck r listed s file = IsOfSubject s (NamesVerdictOn r listed s file) file
+
+-- the starts and the subject of a check
+abbrev pub check_in : Task → Option (Bor (List ℕ) × Subject)
+check_in (task.Check starts subject) = Some (starts, subject)
+check_in _ = None
+
+-- the same if the file is a list
+abbrev pub list_check : Option ListKind → Task → Option (Bor (List ℕ) × Subject)
+list_check None t = None
+list_check (Some kind) t = check_in t
+
+-- the texts of a check of a list, with the ids and the names of the list; else those of the task
+abbrev pub ShowsChecked : Option (Bor (List ℕ) × Subject) → Option ListKind → Rows → Task → Subject
+    → List ℕ → List ℕ → Type 0
+ShowsChecked None kind r t s = ShowsBy (has_steps t && are_orders kind) (rows_on kind r) t s
+ShowsChecked (Some (starts, subject)) kind r t s = IsNamedCheck r starts.now subject
+
 -- the texts that a task writes for the project or the job shop in a file of a kind
 abbrev pub ShowsKind : Option ListKind → Rows → Task → Subject → List ℕ → List ℕ → Type 0
-ShowsKind kind r t s = ShowsBy (has_steps t && are_orders kind) (rows_on kind r) t s
+ShowsKind kind r t s = ShowsChecked (list_check kind t) kind r t s
 
 -- the texts that a task writes for what it reads in a file
 abbrev pub ShowsListed : Subject → Rows → Task → List ℕ → List ℕ → Type 0

@@ -1,6 +1,6 @@
 //! The tasks on a file, and the texts that they write.
 
-ghost use Rattle.std.specs.Prelude.{◌≡◌, Some, map, IfOk, IfErr};
+ghost use Rattle.std.specs.Prelude.{◌≡◌, None, Some, map, IfOk, IfErr};
 ghost use Rattle.plan_table.specs.Names.{name_of};
 ghost use Rattle.plan_errors.specs.Output.{Refuses};
 ghost use Rattle.plan_views.specs.LinkColumns.{links_of};
@@ -11,6 +11,7 @@ ghost use Rattle.plan_cli.specs.TaskViews.{IsViewOf};
 ghost use Rattle.plan_cli.specs.Views.{IfView, view_of};
 
 use crate::calendars::Dates;
+use crate::checks::{list_check, list_check_text};
 use crate::commands::{Command, subject_view};
 use crate::comparisons::Pair;
 use crate::links::{project_links_in, subject_links};
@@ -424,8 +425,8 @@ fn list_rows(rows: Rows) -> Rows
     }
 }
 
-/// Returns the rows for a file of this kind: those for a list have its names.
-pub(crate) fn rows_on(kind: Option<ListKind>, rows: Rows) -> Rows
+// Returns the rows for a file of this kind: those for a list have its names.
+fn rows_on(kind: Option<ListKind>, rows: Rows) -> Rows
     ensures { result ≡ spec.rows_on kind rows }
 {
     match kind {
@@ -487,6 +488,30 @@ fn orders_text<V: ProofWatcher + SolveWatcher, L: Log>(
     }
 }
 
+// Returns the text of a task for the project or the job shop in a file of a kind. It isn't the check
+// of a list.
+fn unchecked_text<V: ProofWatcher + SolveWatcher, L: Log>(
+    alloc: Global,
+    kind: Option<ListKind>,
+    task: Task<'_>,
+    of: Subject<'_>,
+    rows: Rows,
+    file: &[u8],
+    watcher: &mut V,
+    log: &mut L,
+) -> Result<Vec<u8>, CliFault>
+    ensures made { IfOk result (λ text.
+        spec.ShowsChecked None kind rows task.entry of.entry file.now text.items) }
+    ensures refused { IfErr result (Refuses (IsLineOf task.entry file.now)) }
+{
+    let rows = rows_on(kind, rows);
+    if has_steps(task) && are_orders(kind) {
+        orders_text(alloc, task, of, rows, file, watcher, log)
+    } else {
+        shown_text(alloc, task, rows, file, watcher, log)
+    }
+}
+
 // Returns the text of a task for the project or the job shop in a file of a kind.
 fn kind_text<V: ProofWatcher + SolveWatcher, L: Log>(
     alloc: Global,
@@ -502,11 +527,9 @@ fn kind_text<V: ProofWatcher + SolveWatcher, L: Log>(
         spec.ShowsKind kind rows task.entry of.entry file.now text.items) }
     ensures refused { IfErr result (Refuses (IsLineOf task.entry file.now)) }
 {
-    let rows = rows_on(kind, rows);
-    if has_steps(task) && are_orders(kind) {
-        orders_text(alloc, task, of, rows, file, watcher, log)
-    } else {
-        shown_text(alloc, task, rows, file, watcher, log)
+    match list_check(kind, task) {
+        Some((starts, subject)) => list_check_text(alloc, rows, starts, subject, file),
+        None => unchecked_text(alloc, kind, task, of, rows, file, watcher, log),
     }
 }
 

@@ -12,6 +12,7 @@ pub mod TableFaultText
 pub mod Refusals
 pub mod Contents
 pub mod Details
+pub mod NamedVerdicts
 pub mod ListOptions
 pub mod ImportRun
 pub mod Lists

@@ -89,15 +89,15 @@ pub fn infeasible_refusal(alloc: Global, verdict: Verdict) -> CliFault
     )
 }
 
-// Returns the number of a step in its job, both from 1.
-fn place_number(shop: &Shop, x: u32) -> u32
+/// Returns the number of a step in its job, both from 1.
+pub(crate) fn place_number(shop: &Shop, x: u32) -> u32
     ensures { result ≡ sentences.place_number shop.now x }
 {
     x.saturating_sub(1) % shop.machines() + 1
 }
 
-// Returns the number of a step's job, both from 1.
-fn job_number(shop: &Shop, x: u32) -> u32
+/// Returns the number of a step's job, both from 1.
+pub(crate) fn job_number(shop: &Shop, x: u32) -> u32
     ensures { result ≡ sentences.job_number shop.now x }
 {
     x.saturating_sub(1) / shop.machines() + 1

@@ -54,8 +54,8 @@ fn shop_names<'a>(
     }
 }
 
-// Returns the names in a file of numbers with a key.
-fn names_under<'a>(
+/// Returns the names in a file of numbers with a key.
+pub(crate) fn names_under<'a>(
     alloc: Global,
     subject: Subject<'_>,
     file: &'a [u8],
@@ -85,8 +85,8 @@ fn name_under<'a>(
     Ok(first_name(&names, n))
 }
 
-// Appends a number by its name, or else behind a word.
-fn push_called(
+/// Appends a number by its name, or else behind a word.
+pub(crate) fn push_called(
     alloc: Global,
     text: &mut String,
     word: &str,

@@ -5,7 +5,7 @@ use clap::{Arg, ArgAction, Command, value_parser};
 use std::alloc::{AllocError, Global};
 
 // The number of the release.
-const RELEASE: &str = "0.9.0";
+const RELEASE: &str = "0.10.0";
 
 // The start of the help.
 const HELP_START: &str =
@@ -76,6 +76,9 @@ enum Form {
     Now,
     /// An option with the goal of the plan of a list of activities.
     Goal,
+    /// The same two options, which require `--solve`.
+    SolvedNow,
+    SolvedGoal,
     /// An option with the capacity of a resource, any number of times.
     Capacity,
     /// The same for a command that also takes job shops, which have no such resources.
@@ -250,8 +253,8 @@ const CAPACITY_IF_PROJECT: Argument = Argument {
 const NOW: Argument = Argument {
     name: "now",
     form: Form::Now,
-    help: "for a list of activities: plan from the instant T on, 0 to 10000000; what has begun or \
-        is done stays as it is",
+    help: "for a list of activities: plan from the instant T on, 0 to 10000000 or, with --start, a \
+        date; what has begun or is done stays as it is",
 };
 
 const GOAL: Argument = Argument {
@@ -259,6 +262,19 @@ const GOAL: Argument = Argument {
     form: Form::Goal,
     help: "for a list of activities: the least makespan, or first the least greatest tardiness \
         [default: makespan]",
+};
+
+const SOLVED_NOW: Argument = Argument {
+    name: "now",
+    form: Form::SolvedNow,
+    help: "with --solve, for a list of activities: plan from the instant or the date T on, as for \
+        plan solve",
+};
+
+const SOLVED_GOAL: Argument = Argument {
+    name: "goal",
+    form: Form::SolvedGoal,
+    help: "with --solve, for a list of activities: makespan or tardiness, as for plan solve",
 };
 
 // The options of commands that read lists.
@@ -636,7 +652,8 @@ const SCHEDULE_COMMANDS: [Entry; 5] = [
             plan solve --seconds 60 examples/house.sm\n  \
             plan solve --capacity R1=6 examples/house.sm\n  \
             plan solve --conflicts 1000 examples/shops.txt ft06\n  \
-            plan solve --now 8 --goal tardiness examples/week.csv",
+            plan solve --now 8 --goal tardiness examples/week.csv\n  \
+            plan solve --start 2027-05-03 --days mon-fri --now 2027-05-11 examples/site.csv",
         arguments: &[
             FILE_OR_LIST,
             INSTANCE_IF_SHOP,
@@ -652,6 +669,22 @@ const SCHEDULE_COMMANDS: [Entry; 5] = [
             },
             NOW,
             GOAL,
+            Argument {
+                name: "start",
+                form: Form::ReportStart,
+                help: "for a list of activities: read the dates in its cells; the day of instant 0, \
+                    for example 2027-05-03",
+            },
+            Argument {
+                name: "days",
+                form: Form::ReportDays,
+                help: "the working days, as for plan days",
+            },
+            Argument {
+                name: "holidays",
+                form: Form::ReportHolidays,
+                help: "skip the days in this file, or - for standard input",
+            },
             CAPACITY_IF_PROJECT,
             MAP,
             IGNORE,
@@ -715,6 +748,7 @@ const SCHEDULE_COMMANDS: [Entry; 5] = [
             plan days lft 2024-03-01 1111100 examples/house.sm\n  \
             plan days mwkr 2024-03-01 1111100 examples/shops.txt ft06\n  \
             plan days --solve 2024-03-01 mon-fri examples/house.sm\n  \
+            plan days --solve --now 2027-05-11 2027-05-03 mon-fri examples/site.csv\n  \
             plan days --starts examples/starts.txt 2024-03-01 1111100 examples/six.sm\n  \
             plan days --holidays examples/holidays.txt lft 2024-03-01 mon-fri examples/house.sm\n  \
             plan days --format ics lft 2024-03-01 mon-fri examples/house.sm\n  \
@@ -738,6 +772,8 @@ const SCHEDULE_COMMANDS: [Entry; 5] = [
             STARTS,
             SOLVE,
             SOLVE_SECONDS,
+            SOLVED_NOW,
+            SOLVED_GOAL,
             HOLIDAYS,
             WEEKDAYS,
             PER_DAY,
@@ -1024,12 +1060,22 @@ fn arg_of<'a>(alloc: Global, argument: &Argument) -> Result<Arg<'a>, AllocError>
         Form::Now => arg
             .long(argument.name)
             .value_name("T")
-            .value_parser(value_parser!(u32).range(0..=10000000))
             .conflicts_with("INSTANCE")?,
         Form::Goal => arg
             .long(argument.name)
             .value_name("GOAL")
             .value_parser(GOALS)
+            .conflicts_with("INSTANCE")?,
+        Form::SolvedNow => arg
+            .long(argument.name)
+            .value_name("T")
+            .requires_arg("solve")?
+            .conflicts_with("INSTANCE")?,
+        Form::SolvedGoal => arg
+            .long(argument.name)
+            .value_name("GOAL")
+            .value_parser(GOALS)
+            .requires_arg("solve")?
             .conflicts_with("INSTANCE")?,
         Form::Capacity => arg
             .long(argument.name)

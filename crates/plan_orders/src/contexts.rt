@@ -1,6 +1,6 @@
 //! The arguments of an order that its errors are about, for hints.
 
-use crate::orders::{FileOrder, OfficeOrder};
+use crate::orders::{FileOrder, OfficeOrder, WeekWords};
 use plan_cli::{Code, Context, Dates, NamedText, Origin, Role, Task};
 use plan_print::{NamedOrigin, Print, Sheet};
 
@@ -56,6 +56,18 @@ fn task_context<'a>(task: Task<'a>, file: &'a str) -> Context<'a> {
             None => with_origin(context, origin),
         },
         _ => context,
+    }
+}
+
+// Returns a context with the dates and the holidays of `solve`.
+fn week_context<'a>(context: Context<'a>, week: &WeekWords<'a>) -> Context<'a> {
+    let context = Context {
+        holidays: week.holidays,
+        ..context
+    };
+    match week.dates {
+        Some(dates) => with_dates(context, dates),
+        None => context,
     }
 }
 
@@ -158,9 +170,15 @@ impl<'a> FileOrder<'a> {
     /// Returns the arguments that an error of the order can be about.
     pub fn context(&self) -> Context<'a> {
         match *self {
-            FileOrder::Task(task, file)
-            | FileOrder::Watched(task, file)
-            | FileOrder::Solve { task, file, .. } => task_context(task, file),
+            FileOrder::Task(task, file) | FileOrder::Watched(task, file) => {
+                task_context(task, file)
+            }
+            FileOrder::Solve {
+                task,
+                file,
+                week,
+                ..
+            } => week_context(task_context(task, file), &week),
             FileOrder::Texts {
                 task,
                 file,

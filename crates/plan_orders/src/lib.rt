@@ -6,12 +6,14 @@ mod arguments;
 mod contexts;
 mod digest;
 mod list_options;
+mod now;
 mod orders;
 mod outputs;
 mod styles;
 
 pub use arguments::{command, help, version};
 pub use list_options::{BadOption, ListOptions, list_options_of};
+pub use now::Now;
 pub use orders::{
     FileOrder, Lists, OfficeOrder, Order, WeekWords, capacities_of, events_of, misplaced_option,
     order_of, overrides_of, rows_of, texts_of,

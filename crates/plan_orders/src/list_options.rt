@@ -1,5 +1,6 @@
 //! The options of a list that the arguments give.
 
+use crate::now::now_of;
 use crate::orders::is_plain;
 use clap::ArgMatches;
 use plan_cli::{Options, Rename, unit_of};
@@ -22,6 +23,8 @@ pub enum BadOption<'a> {
     Ignore(&'a str),
     /// The text gives no unit.
     Unit(&'a str),
+    /// The text gives no instant and no date.
+    Now(&'a str),
 }
 
 impl ListOptions<'_> {
@@ -103,6 +106,17 @@ fn listing<'a, 'b>(matches: &'a ArgMatches<'b>) -> Option<&'a ArgMatches<'b>> {
     }
 }
 
+// Checks the instant from which on `solve` and `days` plan a list.
+fn check_now<'a>(matches: &'a ArgMatches<'_>) -> Result<(), BadOption<'a>> {
+    let Some(("solve" | "days", arguments)) = matches.subcommand() else {
+        return Ok(());
+    };
+    match arguments.get_str("now") {
+        Some(text) if now_of(text).is_none() => Err(BadOption::Now(text)),
+        Some(_) | None => Ok(()),
+    }
+}
+
 // Returns the values of an option, if a command has it.
 fn texts_in<'a>(arguments: Option<&'a ArgMatches<'_>>, name: &str) -> &'a [&'a str] {
     match arguments {
@@ -117,6 +131,9 @@ pub fn list_options_of<'a>(
     matches: &'a ArgMatches<'_>,
 ) -> Result<Result<ListOptions<'a>, BadOption<'a>>, AllocError> {
     let arguments = listing(matches);
+    if let Err(bad) = check_now(matches) {
+        return Ok(Err(bad));
+    }
     let renames = match renames_of(alloc, texts_in(arguments, "map"))? {
         Ok(renames) => renames,
         Err(bad) => return Ok(Err(bad)),

@@ -1,5 +1,6 @@
 //! The orders that the arguments of the command line spell.
 
+use crate::now::{Now, now_of};
 use clap::ArgMatches;
 use plan_cli::{
     Capacity, Dates, MomentStyle, NamedText, Options, Origin, Pair, Role, Rows, Subject, Task,
@@ -23,11 +24,15 @@ const GREATEST_IN_LIST: u32 = 10_000;
 
 /// The options of a list with dates.
 #[derive(Clone, Copy)]
-pub struct WeekWords {
+pub struct WeekWords<'a> {
     /// The instant from which on is planned, if it is given.
-    pub now: Option<u32>,
+    pub now: Option<Now>,
     /// The goal, if it is given.
     pub goal: Option<Goal>,
+    /// The dates of the calendar of `solve`, without holidays, if they are given.
+    pub dates: Option<Dates<'a>>,
+    /// The name of the file of holidays of `solve`, if it is given.
+    pub holidays: Option<&'a str>,
 }
 
 /// An order on files.
@@ -45,7 +50,7 @@ pub enum FileOrder<'a> {
         seconds: Option<u32>,
         log: Option<&'a str>,
         /// The options of a list with dates.
-        week: WeekWords,
+        week: WeekWords<'a>,
     },
     /// A task on the file with this name, and on texts in other files.
     Texts {
@@ -54,6 +59,8 @@ pub enum FileOrder<'a> {
         texts: &'a [NamedText<'a>],
         /// The time limit of a search for the schedule, in seconds.
         seconds: Option<u32>,
+        /// The options of a list with dates, if the task prints working days of the best schedule.
+        week: Option<WeekWords<'a>>,
     },
     /// A check of the starts in a file. The verdict decides the status.
     Check {
@@ -129,6 +136,14 @@ impl<'a> FileOrder<'a> {
         match *self {
             FileOrder::Print(print, _) => print_input(&print),
             FileOrder::Texts { file, texts, .. } => texts_input(file, texts),
+            FileOrder::Solve {
+                file: "-",
+                week: WeekWords {
+                    holidays: Some("-"),
+                    ..
+                },
+                ..
+            } => Some(("FILE", "HOLIDAYS")),
             FileOrder::Check {
                 file: "-",
                 starts: "-",
@@ -364,12 +379,22 @@ fn goal_of(name: &str) -> Option<Goal> {
     }
 }
 
-// Returns the options of a list with dates.
-fn week_words(arguments: &ArgMatches<'_>) -> WeekWords {
+// Returns the options of a list with dates, of which `dates` are those of the calendar of `solve`.
+fn week_words<'a>(arguments: &'a ArgMatches<'_>, dates: Option<Dates<'a>>) -> WeekWords<'a> {
     WeekWords {
-        now: arguments.get_one("now"),
+        now: arguments.get_str("now").and_then(now_of),
         goal: arguments.get_str("goal").and_then(goal_of),
+        dates,
+        holidays: match dates {
+            Some(_) => arguments.get_str("holidays"),
+            None => None,
+        },
     }
+}
+
+// Returns the dates of `solve`, without holidays.
+fn solve_dates<'a>(arguments: &'a ArgMatches<'_>) -> Option<Dates<'a>> {
+    Some(dates_of(arguments.get_str("start")?, arguments.get_str("days")?))
 }
 
 // Returns the order of `solve`. A conflict limit replaces the default time limit.
@@ -386,7 +411,7 @@ fn solve_order<'a>(arguments: &'a ArgMatches<'_>, lists: Lists<'a>) -> Option<Fi
         file: arguments.get_str("FILE")?,
         seconds: limit,
         log: arguments.get_str("log"),
-        week: week_words(arguments),
+        week: week_words(arguments, solve_dates(arguments)),
     })
 }
 
@@ -559,6 +584,7 @@ fn texts_order<'a>(task: Task<'a>, file: &'a str, texts: &'a [NamedText<'a>]) ->
         file,
         texts,
         seconds: None,
+        week: None,
     }
 }
 
@@ -626,12 +652,14 @@ fn searched_order<'a>(
     task: Task<'a>,
     file: &'a str,
     texts: &'a [NamedText<'a>],
+    week: Option<WeekWords<'a>>,
 ) -> FileOrder<'a> {
     FileOrder::Texts {
         task,
         file,
         texts,
         seconds: limit_of(arguments),
+        week,
     }
 }
 
@@ -642,7 +670,7 @@ fn chart_order<'a>(arguments: &'a ArgMatches<'_>, lists: Lists<'a>) -> Option<Fi
         origin: origin_of(words.origin),
         subject: subject_of(words.instance, lists.capacities),
     };
-    Some(searched_order(arguments, task, words.file, lists.texts))
+    Some(searched_order(arguments, task, words.file, lists.texts, None))
 }
 
 // Returns dates without holidays.
@@ -689,11 +717,21 @@ fn days_task<'a>(
     })
 }
 
+// Returns the options of a list with dates, if the arguments of `days` ask for a table of the best
+// schedule.
+fn days_week<'a>(arguments: &'a ArgMatches<'_>) -> Option<WeekWords<'a>> {
+    if arguments.get_flag("solve") && !prints_list(arguments) {
+        return Some(week_words(arguments, None));
+    }
+    None
+}
+
 // Returns the order of `days` for a table or a list.
 fn days_order<'a>(arguments: &'a ArgMatches<'_>, lists: Lists<'a>) -> Option<FileOrder<'a>> {
     let words = schedule_words(arguments, "MARKS")?;
     let task = days_task(arguments, words, lists)?;
-    Some(searched_order(arguments, task, words.file, lists.texts))
+    let week = days_week(arguments);
+    Some(searched_order(arguments, task, words.file, lists.texts, week))
 }
 
 // Returns the order of `check`, which has no capacities.

@@ -6,9 +6,10 @@ use crate::misuse::Misuse;
 use crate::progress::ProgressLine;
 use crate::status::Status;
 use crate::verification::do_verify;
+use crate::week_days::do_days_file;
 use crate::weeks::do_solve_file;
 use plan_cli::{
-    CliFault, Log, NoteWatcher, Options, ProofWatcher, Rows, SolveWatcher, Subject, SystemInputs,
+    CliFault, Log, NamedText, NoteWatcher, Options, ProofWatcher, Rows, SolveWatcher, Subject, SystemInputs,
     Task, Unlogged, check_text, explain_run, explain_run_in, prepare, read_named, run_on_file,
     run_on_files, template_run,
 };
@@ -69,7 +70,7 @@ fn do_solve(
     options: Option<Options<'_>>,
     task: Task<'_>,
     rows: Rows,
-    week: WeekWords,
+    week: WeekWords<'_>,
     seconds: Option<u32>,
     log: Option<&str>,
     path: &str,
@@ -81,6 +82,31 @@ fn do_solve(
     let ended = log.end(rt, is_complete);
     done?;
     ended?;
+    line.print_notes();
+    Ok(())
+}
+
+// Runs a task on a file and on texts in other files, and writes to standard output.
+fn do_texts(
+    rt: &HostRuntime,
+    options: Option<Options<'_>>,
+    task: Task<'_>,
+    rows: Rows,
+    week: Option<WeekWords<'_>>,
+    seconds: Option<u32>,
+    texts: &[NamedText<'_>],
+    path: &str,
+) -> Result<(), FileFault> {
+    let mut line = ProgressLine::within(rt, seconds);
+    match (week, task) {
+        (Some(words), Task::Days { dates, .. }) => {
+            do_days_file(rt, options, task, dates, rows, words, &mut line, texts, path)?
+        }
+        _ => {
+            let mut writer = StdSink::new(io::writer(rt));
+            run_on_files(rt, options, task, rows, &mut line, texts, path, &mut writer)?
+        }
+    }
     line.print_notes();
     Ok(())
 }
@@ -111,11 +137,8 @@ fn do_file_order(
             file,
             texts,
             seconds,
-        } => {
-            let mut line = ProgressLine::within(rt, seconds);
-            run_on_files(rt, options, task, rows, &mut line, texts, file, &mut writer)?;
-            line.print_notes();
-        }
+            week,
+        } => do_texts(rt, options, task, rows, week, seconds, texts, file)?,
         FileOrder::Check {
             subject,
             file,

@@ -7,11 +7,13 @@ mod errors;
 mod file_log;
 mod file_orders;
 mod hints;
+mod instants;
 mod misuse;
 mod progress;
 mod read_input;
 mod status;
 mod verification;
+mod week_days;
 mod weeks;
 
 pub use command_line::{Offices, run_program};

@@ -30,6 +30,8 @@ pub enum Misuse {
     BadIgnore(String),
     /// A text that gives no unit.
     BadUnit(String),
+    /// A text that gives no instant and no date.
+    BadNow(String),
     /// The option with this name is given, and the output isn't a calendar file.
     NeedsCalendarFile(&'static str),
 }
@@ -62,6 +64,7 @@ impl Misuse {
             BadOption::Map(text) => text.to_string(alloc).map(Misuse::BadMap),
             BadOption::Ignore(text) => text.to_string(alloc).map(Misuse::BadIgnore),
             BadOption::Unit(text) => text.to_string(alloc).map(Misuse::BadUnit),
+            BadOption::Now(text) => text.to_string(alloc).map(Misuse::BadNow),
         };
         made.unwrap_or(Misuse::NoMemory)
     }
@@ -96,6 +99,12 @@ impl Misuse {
                 text,
                 "--unit <U>",
                 "U is a number of days above 0, for example 0.5",
+            ),
+            Misuse::BadNow(text) => print_bad_value(
+                rt,
+                text,
+                "--now <T>",
+                "T is a number from 0 to 10000000, or a date such as 2026-11-30",
             ),
             Misuse::NeedsCalendarFile(option) => print_misplaced(rt, option),
             Misuse::OneInput(first, second) => print_one_input(rt, first, second),

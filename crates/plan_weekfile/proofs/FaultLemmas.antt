@@ -1,6 +1,5 @@
 -- Errors of lists with dates and of their plans, by their lines.
-use Rattle.std.proofs.Common.{◌≡◌, ℕ, List, [], ◌∷◌, Option, Result, Ok, Err, inl, inr}
-use Rattle.std.specs.Prelude.{IfErr, IfOk}
+use Rattle.std.proofs.Common.{ℕ, List, [], Option, inl, inr}
 use Rattle.plan_documents.proofs.ErrorLemmas.{refuses_as}
 use Rattle.plan_documents.specs.declared.capacities.Capacity.{Capacity}
 use Rattle.plan_errors.specs.declared.fault.CliFault.{CliFault}
@@ -21,31 +20,31 @@ use Rattle.plan_weeks.specs.declared.fault.PlanFault.TheVariants as faults
 -- a search with an allowed conflict limit isn't refused for it
 pub limited : (conflicts : ℕ) (week : Week) (fault : PlanFault) → IsConflictLimit conflicts
     → IsNoPlan conflicts week fault → IsLimited fault
-limited conflicts week faults.Memory allowed no = tt
-limited conflicts week faults.BadConflicts allowed no = no allowed
-limited conflicts week (faults.Overload o) allowed no = tt
-limited conflicts week faults.Impossible allowed no = tt
-limited conflicts week faults.NotFound allowed no = tt
+limited conflicts week faults.Memory allowed refused = tt
+limited conflicts week faults.BadConflicts allowed refused = refused allowed
+limited conflicts week (faults.Overload o) allowed refused = tt
+limited conflicts week faults.Impossible allowed refused = tt
+limited conflicts week faults.NotFound allowed refused = tt
 
 -- the error of a plan, as that of its list
 pub unplanned : (conflicts : ℕ) (listed : ListedWeek) (fault : PlanFault) (e : CliFault)
     → IsConflictLimit conflicts → IsNoPlan conflicts listed.week fault
     → Refuses (TellsPlan listed.table.resources fault) e → Refuses (TellsUnplanned listed) e
-unplanned conflicts listed fault e allowed no told =
+unplanned conflicts listed fault e allowed refused told =
     refuses_as (TellsPlan listed.table.resources fault) (TellsUnplanned listed) e
-    (λ line tells. (conflicts, fault, allowed, no, tells)) told
+    (λ line tells. (conflicts, fault, allowed, refused, tells)) told
 
 -- the error of a list
 pub no_own : (now : Option ℕ) (text : List ℕ) (fault : ListFault) (e : CliFault)
     → IsNoListedWeek [] now text fault → Refuses (TellsList fault) e → Refuses (TellsNoOwn now text) e
-no_own now text fault e no told =
-    refuses_as (TellsList fault) (TellsNoOwn now text) e (λ line tells. (fault, no, tells)) told
+no_own now text fault e refused told =
+    refuses_as (TellsList fault) (TellsNoOwn now text) e (λ line tells. (fault, refused, tells)) told
 
 -- the error of a list with given capacities
 pub no_sound : (given : List Capacity) (now : Option ℕ) (text : List ℕ) (fault : ListFault) (e : CliFault)
     → IsNoSoundWeek now text fault → Refuses (TellsList fault) e → Refuses (TellsNoGiven given now text) e
-no_sound given now text fault e no told =
-    refuses_as (TellsList fault) (TellsNoGiven given now text) e (λ line tells. inl (fault, no, tells)) told
+no_sound given now text fault e refused told =
+    refuses_as (TellsList fault) (TellsNoGiven given now text) e (λ line tells. inl (fault, refused, tells)) told
 
 -- the error of a given capacity
 pub no_given : (given : List Capacity) (now : Option ℕ) (text : List ℕ) (own : ListedWeek) (e : CliFault)

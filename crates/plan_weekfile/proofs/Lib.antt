@@ -1,1 +1,5 @@
 mod FaultLemmas
+mod FileLemmas
+mod KindLemmas
+mod SoundLemmas
+mod WeekLemmas

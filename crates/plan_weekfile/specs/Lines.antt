@@ -50,7 +50,8 @@ TellsDates f line = line ≡ dates_line f
 -- the sentence that a word is no instant and no amount, with at most 60 bytes of the word
 abbrev pub number_sentence : List ℕ → List ℕ
 number_sentence word =
-    codes "\"" ++ quoted word ++ codes "\" isn't a whole number of at most 10000000"
+    codes "\"" ++ quoted word
+    ++ codes "\" isn't a whole number of at most 10000000 or, with --start, a date"
 
 -- the sentence that quotes a cell, unless it is empty
 abbrev pub quoted_cell : List ℕ → Option (List ℕ)

@@ -9,15 +9,15 @@ use Rattle.plan_weeks.specs.WeekPlans.{IsPlanned}
 use Rattle.plan_weeks.specs.declared.planning.WeekPlan.{WeekPlan}
 
 -- a text shows a plan for the goal of an order, of the week that the list says
-pub record ShowsPlan (order : WeekOrder) (text shown : List ℕ) (listed : ListedWeek)
+pub record ShowsPlan (order : WeekOrder) (text output : List ℕ) (listed : ListedWeek)
     (plan : WeekPlan) : Type 0 where
   pub week : IsWeekWith order.capacities.now order.today text listed
   pub planned : IsPlanned (goal_or_makespan order.goal) listed.week plan
-  pub shown : shown ≡ plan_text order.format listed plan
+  pub shown : output ≡ plan_text order.format listed plan
 
 abbrev pub ShowsWeek : WeekOrder → List ℕ → List ℕ → Type 0
-ShowsWeek order text shown =
-    (listed : ListedWeek) × (plan : WeekPlan) × ShowsPlan order text shown listed plan
+ShowsWeek order text output =
+    (listed : ListedWeek) × (plan : WeekPlan) × ShowsPlan order text output listed plan
 
 -- a line gives the reason why there is no plan of a list: an error of the list, or of its week
 abbrev pub TellsNoPlanOf : WeekOrder → List ℕ → List ℕ → Type 0

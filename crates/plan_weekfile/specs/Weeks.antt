@@ -1,6 +1,5 @@
 -- The week of a list with given capacities, and the plan of a week.
-use Rattle.std.specs.Prelude.{◌≡◌, ◌⊎◌, ℕ, ◌+◌, List, [], ◌∷◌, Option, Vec}
-use Rattle.std.specs.declared.alloc.Global.{Global}
+use Rattle.std.specs.Prelude.{◌≡◌, ◌⊎◌, ℕ, ◌+◌, List, [], ◌∷◌, Option}
 use Rattle.plan_documents.specs.Capacities.{Replaces, TellsUnknown}
 use Rattle.plan_documents.specs.declared.capacities.Capacity.{Capacity}
 use Rattle.plan_solve.specs.Solutions.{IsConflictLimit}
@@ -29,18 +28,15 @@ names_from n (r ∷ others) = record { number = n; name = r.name } ∷ names_fro
 
 -- ---- capacities
 
--- the same week with other capacities
-abbrev pub with_capacities : Week → Vec ℕ Global → Week
-with_capacities week capacities = record {
-  durations = week.durations;
-  arcs = week.arcs;
-  needs = week.needs;
-  capacities = capacities;
-  states = week.states;
-  dues = week.dues;
-  absences = week.absences;
-  today = week.today;
-}
+-- a week has all of another one, perhaps with other capacities
+pub record KeepsAllButCapacities (own week : Week) : Type 0 where
+  pub durations : week.durations ≡ own.durations
+  pub arcs : week.arcs ≡ own.arcs
+  pub needs : week.needs ≡ own.needs
+  pub states : week.states ≡ own.states
+  pub dues : week.dues ≡ own.dues
+  pub absences : week.absences ≡ own.absences
+  pub today : week.today ≡ own.today
 
 -- the given capacities in the place of those of a list, by the names of its resources
 abbrev pub AreCapacities : List Capacity → ListedWeek → List ℕ → Type 0
@@ -56,7 +52,7 @@ TellsNoCapacity given listed line =
 pub record IsGivenOf (given : List Capacity) (own listed : ListedWeek) : Type 0 where
   pub table : listed.table ≡ own.table
   pub capacities : AreCapacities given own listed.week.capacities.items
-  pub week : listed.week ≡ with_capacities own.week listed.week.capacities
+  pub week : KeepsAllButCapacities own.week listed.week
 
 abbrev pub IsGivenWeek : List Capacity → Option ℕ → List ℕ → ListedWeek → Type 0
 IsGivenWeek given now text listed =

@@ -64,6 +64,7 @@ fn number_sentence(alloc: Global, word: &str) -> Result<String, AllocError>
     let word = word.as_str();
     let mut text = String::new(alloc);
     write!(text, "\"{word}\" isn't a whole number of at most 10000000")?;
+    text.push_str(" or, with --start, a date")?;
     Ok(text)
 }
 
@@ -101,7 +102,7 @@ fn plain_refusal(alloc: Global, fault: &WeekFault) -> CliFault
 /// Returns the error of dates: `T1`, `T14`, `T17`, `T20` or `T21`. Its detail quotes a cell that
 /// isn't a number.
 #[tactic(auto, using(plan_documents::proofs::RefusalLemmas::detailed_refused))]
-pub(crate) fn dates_refusal(alloc: Global, fault: &WeekFault) -> CliFault
+pub fn dates_refusal(alloc: Global, fault: &WeekFault) -> CliFault
     ensures { Refuses (spec.TellsDates (fault_of fault.now)) result }
 {
     match detail_of(alloc, fault) {

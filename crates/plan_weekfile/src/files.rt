@@ -44,6 +44,7 @@ impl WeekFile {
 }
 
 // Returns the list of a file with options, if it isn't longer than the longest text.
+#[tactic(auto, using(crate::proofs::FileLemmas::no_file))]
 fn list_with(
     alloc: Global,
     options: &Options<'_>,

@@ -13,6 +13,7 @@ use plan_weeklist::{WeekError, read_week_list};
 use std::alloc::Global;
 
 // Whether a text is a list of activities with dates or absences.
+#[tactic(auto, using(crate::proofs::KindLemmas::dates_told, crate::proofs::KindLemmas::dates_fail))]
 fn has_dates(alloc: Global, text: &[u8]) -> Result<bool, CliFault>
     ensures known { IfOk result (λ is. spec.HasDates text.now is) }
     ensures refused { IfErr result (Refuses (TellsNoList [] text.now)) }
@@ -36,6 +37,7 @@ fn is_activities(kind: Option<ListKind>) -> bool
 }
 
 // Whether a text is a list of activities. Errors: `T1`, `T18`.
+#[tactic(auto, using(crate::proofs::KindLemmas::kind_told))]
 fn is_list(alloc: Global, text: &[u8]) -> Result<bool, CliFault>
     ensures known { IfOk result (λ is. spec.IsList text.now is) }
     ensures refused { IfErr result (Refuses (TellsNoList [] text.now)) }

@@ -14,9 +14,13 @@ mod order;
 mod output;
 mod plans;
 
+pub use cells::dates_refusal;
 pub use files::{WeekFile, week_file};
 pub use kinds::has_week;
+pub use links::week_links;
+pub use listed::listed_week;
 pub use notes::week_notes;
 pub use order::WeekOrder;
 pub use output::week_output;
+pub use plans::plan_of;
 pub use plan_weeks::Goal;

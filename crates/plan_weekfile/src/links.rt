@@ -71,7 +71,7 @@ fn links_at(
 
 /// Returns the resources and the predecessors of each activity of a week as texts, by the names of
 /// the resources and the ids of the activities.
-pub(crate) fn week_links(
+pub fn week_links(
     alloc: Global,
     listed: &ListedWeek,
     ids: &[NameLine<'_>],

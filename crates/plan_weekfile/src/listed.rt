@@ -65,7 +65,8 @@ fn capacities_of(
 // Returns a week with other capacities.
 fn with_capacities(week: Week, capacities: Vec<u64>) -> Week
     requires { length capacities.items ≡ length week.capacities.items }
-    ensures { result ≡ spec.with_capacities week capacities }
+    ensures rest { spec.KeepsAllButCapacities week result }
+    ensures capacities { result.capacities ≡ capacities }
 {
     Week {
         durations: week.durations,
@@ -80,7 +81,7 @@ fn with_capacities(week: Week, capacities: Vec<u64>) -> Week
 }
 
 // Reads a list as a week, with the given capacities in place of those of the list.
-#[tactic(auto, using(crate::proofs::FaultLemmas::no_sound, crate::proofs::FaultLemmas::no_given))]
+#[tactic(auto, using(crate::proofs::FaultLemmas::no_sound, crate::proofs::FaultLemmas::no_given, crate::proofs::WeekLemmas::given_made))]
 fn given_week(
     alloc: Global,
     given: &[Capacity<'_>],
@@ -116,7 +117,7 @@ fn own_week(alloc: Global, now: Option<u32>, text: &[u8]) -> Result<ListedWeek, 
 /// Reads a list as a week, with the given capacities in place of those of the list. With given
 /// capacities, needs may be above those of the list, as for the other commands. Errors: those of
 /// the list, then `S8` (no such resource).
-pub(crate) fn listed_week(
+pub fn listed_week(
     alloc: Global,
     given: &[Capacity<'_>],
     now: Option<u32>,

@@ -15,7 +15,7 @@ use std::alloc::Global;
 /// Returns the text of a plan of a list with dates. The watcher is called during the searches, and
 /// can end them. Errors: those of the list, then `S8` (no such resource), `S11` (an overload),
 /// `S12` (no plan), `S13` (none found).
-#[tactic(auto, using(crate::proofs::FaultLemmas::no_week, crate::proofs::FaultLemmas::no_plan))]
+#[tactic(auto, using(crate::proofs::FaultLemmas::no_week, crate::proofs::FaultLemmas::no_plan, crate::proofs::WeekLemmas::shown_week))]
 pub fn week_output<W: Watcher>(
     alloc: Global,
     order: &WeekOrder<'_>,

@@ -23,7 +23,7 @@ use std::alloc::{AllocError, Global};
 
 /// Returns a plan of a week for the goal of an order. Errors: `S11`, `S12`, `S13`.
 #[tactic(auto, using(crate::proofs::FaultLemmas::limited, crate::proofs::FaultLemmas::unplanned))]
-pub(crate) fn plan_of<W: Watcher>(
+pub fn plan_of<W: Watcher>(
     alloc: Global,
     order: &WeekOrder<'_>,
     listed: &ListedWeek,
@@ -41,6 +41,7 @@ pub(crate) fn plan_of<W: Watcher>(
 
 // Returns the table of a plan, with the ids, the names, the resources and the predecessors of the
 // activities.
+#[tactic(auto, using(plan_weeks::proofs::NameLemmas::few_planned))]
 fn linked_view<'a>(
     alloc: Global,
     listed: &'a ListedWeek,
@@ -58,6 +59,7 @@ fn linked_view<'a>(
 }
 
 // Returns the text of a plan in a format.
+#[tactic(auto, using(plan_weeks::proofs::NameLemmas::few_planned))]
 fn formatted(
     alloc: Global,
     format: Format,

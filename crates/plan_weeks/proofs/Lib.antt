@@ -1,3 +1,3 @@
+pub mod NameLemmas
 mod PlanLemmas
 mod ViewLemmas
-mod WeekTextLemmas

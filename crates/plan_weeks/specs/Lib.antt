@@ -1,4 +1,3 @@
 pub mod Faults
 pub mod WeekPlans
 pub mod WeekTables
-pub mod WeekTexts

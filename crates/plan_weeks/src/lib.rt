@@ -2,11 +2,11 @@
 #![tactic(auto)]
 
 mod fault;
+mod names;
 mod planning;
-mod text;
 mod view;
 
-pub use fault::{PlanFault, WeekTextFault};
+pub use fault::PlanFault;
+pub use names::{ids_of, listed_view, named, planned};
 pub use planning::{Goal, Lateness, WeekPlan, plan_week};
-pub use text::{ids_of, listed_view, named, week_text};
 pub use view::week_view;

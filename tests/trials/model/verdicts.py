@@ -69,13 +69,42 @@ def slack(project, starts, j):
     return most
 
 
-def verdict(project, starts):
-    """The first verdict, in a sentence."""
+def first_verdict(project, starts):
+    """The first verdict: its kind, and the numbers that it is about."""
     broken = [arc for arc in sorted(project.arcs) if is_broken(project, starts, arc)]
     if broken:
-        return f"activity {broken[0][1]} starts before {broken[0][0]} ends"
+        return "broken", broken[0]
     over = first_over(project, starts)
     if over:
-        return f"at time {over[0]} more of resource {over[1]} is needed than there is"
+        return "over", over
     shifts = [j for j in starts if has_shift(project, starts, j)]
-    return f"activity {shifts[0]} can start earlier" if shifts else "active"
+    return ("early", shifts[:1]) if shifts else ("active", ())
+
+
+def verdict(project, starts):
+    """The first verdict, in a sentence with numbers."""
+    kind, about = first_verdict(project, starts)
+    if kind == "broken":
+        return f"activity {about[1]} starts before {about[0]} ends"
+    if kind == "over":
+        return f"at time {about[0]} more of resource {about[1]} is needed than there is"
+    return f"activity {about[0]} can start earlier" if kind == "early" else "active"
+
+
+def label(ids, names, j):
+    """The id and the name of an activity, as far as it has them."""
+    return " ".join(word for word in (ids.get(j), names.get(j)) if word)
+
+
+def named_verdict(project, starts, ids, names, resources):
+    """The first verdict, in a sentence with ids and names, which are known by their numbers. What has
+    none has its number, as in a sentence with numbers if it names nothing else."""
+    kind, about = first_verdict(project, starts)
+    if kind == "over":
+        time, resource = about
+        return f"at time {time} more of {resources.get(resource) or f'resource {resource}'} is needed than there is"
+    labels = [label(ids, names, j) for j in about]
+    if not any(labels):
+        return verdict(project, starts)
+    called = [own or f"activity {j}" for own, j in zip(labels, about)]
+    return f"{called[1]} starts before {called[0]} ends" if kind == "broken" else f"{called[0]} can start earlier"

@@ -2,6 +2,7 @@
 activities, by trying all orders. `plans_by_starts` tries all starts of very small weeks, so that
 the model itself can be tested: `python3 tests/trials/model/weeks.py`."""
 
+import datetime
 import itertools
 import random
 
@@ -85,6 +86,31 @@ class Week:
         returns = [a.earliest + a.duration for a in self.absences]
         work = sum(self.rest(i) for i in range(self.count()))
         return max([self.today] + wished + returns) + work + sum(lag for _, _, lag in self.arcs)
+
+
+class Calendar:
+    """The first date, the working weekdays (Monday is 0) and the holidays of a list with dates."""
+
+    def __init__(self, start, weekdays, holidays=()):
+        self.start, self.weekdays, self.holidays = start, set(weekdays), set(holidays)
+
+    def works(self, date):
+        """Whether a date is a working day."""
+        return date.weekday() in self.weekdays and date not in self.holidays
+
+    def count(self, date):
+        """How many working days are before a date, from the first one on."""
+        days = range(self.start.toordinal(), date.toordinal())
+        return sum(self.works(datetime.date.fromordinal(day)) for day in days)
+
+
+def instant_of(calendar, column, date):
+    """The instant of a date in a column, or None if it is refused. `done` and `due` are the end of
+    the day. What has happened isn't before the first date."""
+    if column in ("begun", "done") and date < calendar.start:
+        return None
+    is_end = column in ("done", "due")
+    return calendar.count(date + datetime.timedelta(days=1) if is_end else date)
 
 
 def ends(week, starts):

@@ -1,0 +1,178 @@
+//! `plan days --solve` on a file, which may be a list with dates.
+
+use crate::errors::FileFault;
+use crate::instants::{instants_in, today_in};
+use crate::progress::ProgressLine;
+use crate::weeks::{WeekText, do_plain, usage, week_in, week_order};
+use plan_cli::{
+    Dates, NamedText, Options, Origin, Role, Rows, SystemInputs, Task, Unlogged, days_refusal,
+    read_named,
+};
+use plan_errors::{About, CliFault, write_text};
+use plan_gantt::DaysFault;
+use plan_io::StdSink;
+use plan_orders::WeekWords;
+use plan_weekdates::InstantCalendar;
+use plan_weekfile::WeekOrder;
+use plan_weekview::{WeekDaysFault, days_output};
+use std::io;
+
+// Returns the holidays among these texts; no bytes if there are none.
+fn holidays_in(rt: &HostRuntime, texts: &[NamedText<'_>]) -> Result<Vec<u8>, CliFault> {
+    for text in texts {
+        if text.role == Role::Holidays {
+            return read_named(rt.alloc(), &SystemInputs::new(rt), About::Holidays, text.name);
+        }
+    }
+    Ok(Vec::new(rt.alloc()))
+}
+
+// Returns a task of `days` with these dates. Another task stays as it is.
+fn with_dates<'a>(task: Task<'a>, dates: Dates<'a>) -> Task<'a> {
+    match task {
+        Task::Days {
+            origin,
+            style,
+            subject,
+            ..
+        } => Task::Days {
+            origin,
+            dates,
+            style,
+            subject,
+        },
+        _ => task,
+    }
+}
+
+// Returns what a task of `days` asks of a list with dates; `None` for a job shop.
+fn days_order<'a>(
+    task: Task<'a>,
+    rows: Rows,
+    words: WeekWords<'_>,
+    today: Option<u32>,
+) -> Option<WeekOrder<'a>> {
+    match task {
+        Task::Days {
+            origin: Origin::Solved { conflicts },
+            subject,
+            ..
+        } => week_order(subject, conflicts, rows, words, today),
+        _ => None,
+    }
+}
+
+// Returns the error of working days.
+fn days_error(rt: &HostRuntime, fault: WeekDaysFault) -> CliFault {
+    match fault {
+        WeekDaysFault::Refused(fault) => fault,
+        WeekDaysFault::BeyondCalendar => days_refusal(rt.alloc(), DaysFault::BeyondCalendar),
+    }
+}
+
+// Prints the working days of a plan of a list with dates.
+fn do_week_days(
+    rt: &HostRuntime,
+    order: &WeekOrder<'_>,
+    calendar: &InstantCalendar,
+    read: &WeekText,
+    line: &mut ProgressLine<'_>,
+    file: &[u8],
+) -> Result<(), CliFault> {
+    let text = days_output(rt.alloc(), order, calendar.calendar(), line, read.text(file))
+        .map_err(|fault| days_error(rt, fault))?;
+    read.note(rt, line, order.today, file);
+    write_text(&mut StdSink::new(io::writer(rt)), &text)
+}
+
+// Runs a task of `days` on a file that was read, for a list with the dates of a calendar.
+fn do_read(
+    rt: &HostRuntime,
+    options: Option<Options<'_>>,
+    task: Task<'_>,
+    rows: Rows,
+    order: &WeekOrder<'_>,
+    calendar: &InstantCalendar,
+    line: &mut ProgressLine<'_>,
+    file: &[u8],
+) -> Result<(), FileFault> {
+    let Some(read) = week_in(rt, options, order, Some(calendar), file)? else {
+        return Ok(do_plain(rt, options, task, rows, line, &mut Unlogged, file)?);
+    };
+    match task {
+        Task::Days { style: None, .. } => {
+            Ok(do_week_days(rt, order, calendar, &read, line, file)?)
+        }
+        _ => Err(usage(
+            rt,
+            "--weekdays, --per-day and --opens don't support lists with dates",
+        )?),
+    }
+}
+
+// Runs a task of `days` whose dates are those of no calendar, for this reason, on a file that was
+// read. In a file without a week another error can come first.
+fn do_undated(
+    rt: &HostRuntime,
+    options: Option<Options<'_>>,
+    task: Task<'_>,
+    rows: Rows,
+    words: WeekWords<'_>,
+    fault: CliFault,
+    line: &mut ProgressLine<'_>,
+    file: &[u8],
+) -> Result<(), FileFault> {
+    if let Some(order) = days_order(task, rows, words, None) {
+        if words.now.is_some() || week_in(rt, options, &order, None, file)?.is_some() {
+            return Err(FileFault::Task(fault));
+        }
+    }
+    Ok(do_plain(rt, options, task, rows, line, &mut Unlogged, file)?)
+}
+
+// Runs a task of `days` on a file that was read, with these dates.
+fn do_dated(
+    rt: &HostRuntime,
+    options: Option<Options<'_>>,
+    task: Task<'_>,
+    dates: Dates<'_>,
+    rows: Rows,
+    words: WeekWords<'_>,
+    line: &mut ProgressLine<'_>,
+    file: &[u8],
+) -> Result<(), FileFault> {
+    let calendar = match instants_in(rt, dates) {
+        Ok(calendar) => calendar,
+        Err(fault) => return do_undated(rt, options, task, rows, words, fault, line, file),
+    };
+    let today = today_in(rt, words.now, Some(&calendar))?;
+    match days_order(task, rows, words, today) {
+        Some(order) => do_read(rt, options, task, rows, &order, &calendar, line, file),
+        None => Ok(do_plain(rt, options, task, rows, line, &mut Unlogged, file)?),
+    }
+}
+
+/// Runs a task of `days` for the best schedule found on the file with this name, or on standard
+/// input if the name is `-`, and writes to standard output. The holidays are read first. `dates` are
+/// those of the task.
+pub(crate) fn do_days_file(
+    rt: &HostRuntime,
+    options: Option<Options<'_>>,
+    task: Task<'_>,
+    dates: Dates<'_>,
+    rows: Rows,
+    words: WeekWords<'_>,
+    line: &mut ProgressLine<'_>,
+    texts: &[NamedText<'_>],
+    path: &str,
+) -> Result<(), FileFault> {
+    let holidays = holidays_in(rt, texts)?;
+    let dates = Dates {
+        start: dates.start,
+        marks: dates.marks,
+        holidays: &holidays,
+    };
+    let task = with_dates(task, dates);
+    let file = read_named(rt.alloc(), &SystemInputs::new(rt), About::Plan, path)?;
+    do_dated(rt, options, task, dates, rows, words, line, &file)
+}

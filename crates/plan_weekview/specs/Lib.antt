@@ -1,0 +1,3 @@
+pub mod WeekDays
+pub mod DaysOutputs
+pub mod DatedLines
