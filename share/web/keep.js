@@ -26,11 +26,12 @@ export function linksFor({ durations, arcs }, starts) {
 // the steps of a job shop as activities: their ids, and their names if there are some
 function stepLabels({ names, resources }, rows) {
   const idOf = ({ job, step }) => `${job}.${step}`;
-  const nameOf = ({ job, mach }) => [names[job] ?? `job ${job}`, resources[mach] ?? `machine ${mach}`];
+  const nameOf = ({ job, mach }) =>
+    [names[job] ?? `job ${job}`, resources[mach] ?? `machine ${mach}`].join(", ");
   const numbered = (wordsOf) => Object.fromEntries(rows.map((row, at) => [at + 1, wordsOf(row)]));
   const machines = Math.max(...rows.map(({ mach }) => mach)) + 1;
   return {
-    ids: numbered(idOf), names: numbered((row) => nameOf(row).join(", ")),
+    ids: numbered(idOf), names: numbered(nameOf),
     resources: Object.fromEntries(Array.from({ length: machines }, (_, mach) =>
       [mach + 1, resources[mach] ?? `machine ${mach}`])),
   };
@@ -39,13 +40,13 @@ function stepLabels({ names, resources }, rows) {
 /** Returns the drawn schedule as a plan of a saved file. */
 export async function keptPlan({ plan, starts }) {
   const { n, kind, model, labels } = plan;
-  const { links, late } = linksFor(model, starts);
-  if (!links) {
-    throw new Refusal(`Keep another schedule: ${activityLabel(labels, late + 1, starts.length)} `
-      + "begins later than it must, and no link says so.");
-  }
   const [{ rows }] = plan.schedules.values();
   const names = kind === "shop" ? stepLabels(labels, rows) : labels;
+  const { links, late } = linksFor(model, starts);
+  if (!links) {
+    throw new Refusal(`Keep another schedule: ${activityLabel(names, late + 1, starts.length)} `
+      + "begins later than it must, and no link says so.");
+  }
   const linked = { ...model, arcs: [...model.arcs, ...links] };
   const text = await printed(["schedule", "num", "plan.sm"],
     { "plan.sm": projectText(linked, names) });
@@ -55,7 +56,7 @@ export async function keptPlan({ plan, starts }) {
   }
   // a project's file has its own capacities and no lags: binds and lags are set again
   const base = kind === "shop" ? model : page.projects.get(n);
-  const arcs = [...base.arcs, ...links].map((arc) => ({ ...arc, lag: 0 }));
+  const arcs = [...base.arcs, ...links];
   const { set, title } = recordOf(n);
   return {
     kind: "project", instance: "-", calendar: set?.calendar,
