@@ -63,8 +63,7 @@ fn number_sentence(alloc: Global, word: &str) -> Result<String, AllocError>
     let word = quoted(alloc, word)?;
     let word = word.as_str();
     let mut text = String::new(alloc);
-    write!(text, "\"{word}\" isn't a whole number of at most 10000000")?;
-    text.push_str(" or, with --start, a date")?;
+    write!(text, "\"{word}\" isn't a number from 0 to 10000000 or, with --start, a date")?;
     Ok(text)
 }
 
