@@ -1,0 +1,11 @@
+use Rattle.std.proofs.Common.{true, refl}
+use Rattle.plan_weekfile.proofs.KindLemmas.{dates_told, dates_fail}
+use Rattle.plan_weekfile.proofs.kinds.has_dates.Goals as goal
+
+pub returns-in-Ok-clause-known : goal.returns-in-Ok-clause-known
+returns-in-Ok-clause-known c =
+    dates_told c.args.text.now c.in-Ok.list c.is_some.result c.in-Ok.ensures.list c.is_some.ensures
+
+pub returns-clause-known : goal.returns-clause-known
+returns-clause-known c =
+    dates_fail c.args.text.now c.in-Err-Fault.field-0-0 true c.in-Err-Fault.ensures.refused refl
