@@ -1,4 +1,7 @@
-use Rattle.std.proofs.Common.{true, refl}
+use Rattle.std.proofs.Common.{List, ℕ, [], None, true, refl, subst}
+use Rattle.plan_encoding.specs.Encodings.{utf8_of}
+use Rattle.plan_weeklist.specs.declared.fault.WeekError.{WeekError}
+use Rattle.plan_weeklist.specs.Lists.{IsNoWeekList}
 use Rattle.plan_weekfile.proofs.KindLemmas.{dates_told, dates_fail}
 use Rattle.plan_weekfile.proofs.kinds.has_dates.Goals as goal
 
@@ -8,4 +11,6 @@ returns-in-Ok-clause-known c =
 
 pub returns-clause-known : goal.returns-clause-known
 returns-clause-known c =
-    dates_fail c.args.text.now c.in-Err-Fault.field-0-0 true c.in-Err-Fault.ensures.refused refl
+    dates_fail c.args.text.now c.in-Err-Fault.field-0-0 true
+    (subst (λ (e : WeekError). IsNoWeekList [] None (utf8_of c.args.text.now) e) c.in-Err-Fault.field-0-is c.in-Err-Fault.ensures.refused)
+    refl
