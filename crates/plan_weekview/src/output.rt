@@ -1,9 +1,10 @@
 //! The text of the working days of a plan of a list with dates.
 
-ghost use Rattle.std.specs.Prelude.{◌≡◌, IfErr, IfOk, IsErrOf};
+ghost use Rattle.std.specs.Prelude.{◌≡◌, IfErr, IfOk, map};
 ghost use Rattle.plan_errors.specs.Output.{Refuses};
 ghost use Rattle.plan_formats.specs.Tables.{table_of};
 ghost use Rattle.plan_solve.specs.Progress.{HearsNothing};
+ghost use Rattle.plan_views.specs.LinkColumns.{links_of};
 ghost use Rattle.plan_weekfile.specs.Orders.{goal_or_makespan};
 ghost use Rattle.plan_weekfile.specs.Outputs.{RefusesWeek};
 ghost use Rattle.plan_weekfile.specs.Weeks.{IsWeekWith};
@@ -17,7 +18,7 @@ use plan_errors::CliFault;
 use plan_formats::{Format, Table, format_table, table_text, with_ids};
 use plan_gantt::DaysFault;
 use plan_solve::Watcher;
-use plan_views::with_links;
+use plan_views::{ActivityLinks, with_links};
 use plan_weekfile::{WeekOrder, listed_week, plan_of, week_links};
 use plan_weeklist::ListedWeek;
 use plan_weeks::{WeekPlan, ids_of, named, planned};
@@ -47,6 +48,23 @@ fn plain_text<'a>(
     table_text(alloc, &table)
 }
 
+// Returns a table of working days with the names, the resources, the predecessors and the ids of the
+// activities.
+fn linked<'a>(
+    alloc: Global,
+    listed: &'a ListedWeek,
+    table: Table<'a>,
+    links: &'a [ActivityLinks],
+) -> Result<Table<'a>, AllocError>
+    ensures { IfOk result (λ made. table_of made
+        ≡ spec.linked (map links_of links.now) listed.now (table_of table.entry)) }
+{
+    let activities = &listed.table.activities;
+    let view = named(alloc, activities, table)?;
+    let view = with_links(alloc, view, links)?;
+    with_ids(alloc, view, &ids_of(alloc, activities)?)
+}
+
 // Returns a table of working days in a format.
 fn formatted<'a>(
     alloc: Global,
@@ -57,13 +75,10 @@ fn formatted<'a>(
     ensures { IfOk result (λ text. text.items
         ≡ spec.days_text (Some format) listed.now (table_of table.entry)) }
 {
-    let activities = &listed.table.activities;
-    let ids = ids_of(alloc, activities)?;
+    let ids = ids_of(alloc, &listed.table.activities)?;
     let links = week_links(alloc, listed, &ids)?;
-    let table = named(alloc, activities, table)?;
-    let table = with_links(alloc, table, &links)?;
-    let table = with_ids(alloc, table, &ids)?;
-    format_table(alloc, format, &table)
+    let made = linked(alloc, listed, table, &links)?;
+    format_table(alloc, format, &made)
 }
 
 // Returns the text of a table of working days: with a format as CSV or JSON.
