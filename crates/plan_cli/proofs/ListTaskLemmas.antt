@@ -51,7 +51,7 @@ none_some : {X : Type 0} {x : X} → None ≡ Some x → ⊥
 none_some e = cc
 
 -- the check with these starts and this subject
-check_with : Option (Bor (List ℕ) × Subject) → Task
+abbrev check_with : Option (Bor (List ℕ) × Subject) → Task
 check_with None = task.Names
 check_with (Some (starts, subject)) = task.Check starts subject
 
