@@ -2,4 +2,4 @@
 
 /// The digest of all sources of the program but this file, in hexadecimal digits, as
 /// `./release --digest` prints it.
-pub(crate) const SOURCES: &str = "31d847b7a88c486fa8a9a25f86fc79ff65ed50a43b37bf9a7e50fc1b2fe42bb0";
+pub(crate) const SOURCES: &str = "436fbf12af6ef44514a1ba3c4a44308abed942ce552852cf349af0bea1b80298";
