@@ -42,13 +42,13 @@ days_text (Some format) listed t = format_text format (linked
     listed t)
 
 -- a text shows the working days of a plan for the goal of an order, of the week that the list says
-pub record ShowsDaysOf (order : WeekOrder) (calendar : Workdays) (text shown : List ℕ)
+pub record ShowsDaysOf (order : WeekOrder) (calendar : Workdays) (text output : List ℕ)
     (listed : ListedWeek) (plan : WeekPlan) : Type 0 where
   pub week : IsWeekWith order.capacities.now order.today text listed
   pub planned : IsPlanned (goal_or_makespan order.goal) listed.week plan
   pub table : Table
   pub days : AreWeekDays calendar listed.week plan table
-  pub shown : shown ≡ days_text order.format listed table
+  pub shown : output ≡ days_text order.format listed table
 
 abbrev pub ShowsWeekDays : WeekOrder → Workdays → List ℕ → List ℕ → Type 0
 ShowsWeekDays order calendar text shown =

@@ -83,7 +83,7 @@ pub record AreWeekDays (calendar : Workdays) (week : Week) (p : WeekPlan) (table
     : Type 0 where
   pub rows : List (List Cell)
   pub days : AreDayRows calendar week p (length week.durations.items) rows
-  pub table : table ≡ plain_view_of (week_day_columns p.lateness) rows
+  pub whole : table ≡ plain_view_of (week_day_columns p.lateness) rows
 
 -- the first day of an activity would be after 9999-12-31
 abbrev pub IsFirstBeyond : Workdays → Option ℕ → ℕ → Type 0
