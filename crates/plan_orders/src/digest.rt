@@ -2,4 +2,4 @@
 
 /// The digest of all sources of the program but this file, in hexadecimal digits, as
 /// `./release --digest` prints it.
-pub(crate) const SOURCES: &str = "436fbf12af6ef44514a1ba3c4a44308abed942ce552852cf349af0bea1b80298";
+pub(crate) const SOURCES: &str = "cbe155048bf60a8453713a300d098cadf232792e4206826d1d9c20b21cd27fcb";
