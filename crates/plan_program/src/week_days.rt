@@ -5,16 +5,14 @@ use crate::instants::{instants_in, today_in};
 use crate::progress::ProgressLine;
 use crate::weeks::{WeekText, do_plain, usage, week_in, week_order};
 use plan_cli::{
-    Dates, NamedText, Options, Origin, Role, Rows, SystemInputs, Task, Unlogged, days_refusal,
-    read_named,
+    Dates, NamedText, Options, Origin, Role, Rows, SystemInputs, Task, Unlogged, read_named,
 };
 use plan_errors::{About, CliFault, write_text};
-use plan_gantt::DaysFault;
 use plan_io::StdSink;
 use plan_orders::WeekWords;
 use plan_weekdates::InstantCalendar;
 use plan_weekfile::WeekOrder;
-use plan_weekview::{WeekDaysFault, days_output};
+use plan_weekview::days_output;
 use std::io;
 
 // Returns the holidays among these texts; no bytes if there are none.
@@ -62,14 +60,6 @@ fn days_order<'a>(
     }
 }
 
-// Returns the error of working days.
-fn days_error(rt: &HostRuntime, fault: WeekDaysFault) -> CliFault {
-    match fault {
-        WeekDaysFault::Refused(fault) => fault,
-        WeekDaysFault::BeyondCalendar => days_refusal(rt.alloc(), DaysFault::BeyondCalendar),
-    }
-}
-
 // Prints the working days of a plan of a list with dates.
 fn do_week_days(
     rt: &HostRuntime,
@@ -79,8 +69,7 @@ fn do_week_days(
     line: &mut ProgressLine<'_>,
     file: &[u8],
 ) -> Result<(), CliFault> {
-    let text = days_output(rt.alloc(), order, calendar.calendar(), line, read.text(file))
-        .map_err(|fault| days_error(rt, fault))?;
+    let text = days_output(rt.alloc(), order, calendar.calendar(), line, read.text(file))?;
     read.note(rt, line, order.today, file);
     write_text(&mut StdSink::new(io::writer(rt)), &text)
 }

@@ -1,5 +1,20 @@
--- Texts of working days as CSV or JSON.
-use Rattle.std.proofs.Common.{◌≡◌, ℕ, List, Some, ap, ◌∙◌}
+-- Texts of working days, and their errors.
+use Rattle.std.proofs.Common.{◌≡◌, ℕ, List, Some, ap, ◌∙◌, refl, inl, inr}
+use Rattle.plan_calendar.specs.WorkingDay.{Workdays}
+use Rattle.plan_documents.proofs.ErrorLemmas.{refuses_as}
+use Rattle.plan_errors.specs.declared.fault.CliFault.{CliFault}
+use Rattle.plan_errors.specs.Output.{Refuses}
+use Rattle.plan_gantt.specs.declared.days.DaysFault.{DaysFault}
+use Rattle.plan_gantt.specs.declared.days.DaysFault.TheVariants as days
+use Rattle.plan_week.specs.declared.week.Week.{Week}
+use Rattle.plan_weekfile.proofs.FaultLemmas.{no_week, no_plan}
+use Rattle.plan_weekfile.specs.Orders.{goal_or_makespan}
+use Rattle.plan_weekfile.specs.Outputs.{RefusesWeek}
+use Rattle.plan_weekfile.specs.Weeks.{IsWeekWith, TellsNoWeek, TellsUnplanned}
+use Rattle.plan_weekfile.specs.declared.order.WeekOrder.{WeekOrder}
+use Rattle.plan_weeks.specs.WeekPlans.{IsPlanned}
+use Rattle.plan_weeks.specs.declared.planning.WeekPlan.{WeekPlan}
+use Rattle.plan_weekview.specs.WeekDays.{HasWeekDayBeyond}
 use Rattle.plan_formats.specs.TableFormats.{format_text}
 use Rattle.plan_formats.specs.Tables.{Table}
 use Rattle.plan_formats.specs.declared.format.Format.{Format}
@@ -8,7 +23,7 @@ use Rattle.plan_views.specs.LinkColumns.{Links}
 use Rattle.plan_weekfile.specs.Links.{week_links}
 use Rattle.plan_weeklist.specs.declared.listed.ListedWeek.{ListedWeek}
 use Rattle.plan_weeks.specs.WeekTables.{ids_from}
-use Rattle.plan_weekview.specs.DaysOutputs.{days_text, linked}
+use Rattle.plan_weekview.specs.DaysOutputs.{days_text, linked, RefusesWeekDays, ShowsTable, ShowsWeekDays, TellsBeyond, TellsDays}
 
 -- the text of a table, with the ids and the links of its list
 pub formatted_days : (format : Format) (listed : ListedWeek) (days : Table) (ids : List Name) (links : List Links) (table : Table) (text : List ℕ)
@@ -17,3 +32,42 @@ pub formatted_days : (format : Format) (listed : ListedWeek) (days : Table) (ids
 formatted_days format listed days ids links table text named joined shown is =
     is ∙ ap (format_text format) (shown ∙ ap (λ (l : List Links). linked l listed days)
     (joined ∙ ap (λ (i : List Name). week_links listed.table.resources i listed.week) named))
+
+-- a day of a plan is too late
+pub beyond_told : (calendar : Workdays) (week : Week) (p : WeekPlan) (fault : DaysFault) (e : CliFault)
+    → (fault ≡ days.BeyondCalendar → HasWeekDayBeyond calendar week p) → Refuses (TellsDays fault) e → Refuses (TellsBeyond calendar week p) e
+beyond_told calendar week p days.NoMemory e beyond told =
+    refuses_as (TellsDays days.NoMemory) (TellsBeyond calendar week p) e (λ line none. absurd none) told
+beyond_told calendar week p days.BeyondCalendar e beyond told =
+    refuses_as (TellsDays days.BeyondCalendar) (TellsBeyond calendar week p) e (λ line tells. (beyond refl, tells)) told
+
+-- an error of the week
+week_refused : (order : WeekOrder) (calendar : Workdays) (text : List ℕ) (e : CliFault) → Refuses (RefusesWeek order text) e
+    → Refuses (RefusesWeekDays order calendar text) e
+week_refused order calendar text e told =
+    refuses_as (RefusesWeek order text) (RefusesWeekDays order calendar text) e (λ line tells. inl tells) told
+
+-- the error of a list
+pub list_refused : (order : WeekOrder) (calendar : Workdays) (text : List ℕ) (e : CliFault)
+    → Refuses (TellsNoWeek order.capacities.now order.today text) e → Refuses (RefusesWeekDays order calendar text) e
+list_refused order calendar text e told = week_refused order calendar text e (no_week order text e told)
+
+-- the error of a plan
+pub plan_refused : (order : WeekOrder) (calendar : Workdays) (text : List ℕ) (listed : ListedWeek) (e : CliFault)
+    → IsWeekWith order.capacities.now order.today text listed → Refuses (TellsUnplanned listed) e
+    → Refuses (RefusesWeekDays order calendar text) e
+plan_refused order calendar text listed e is told = week_refused order calendar text e (no_plan order text listed e is told)
+
+-- the error of its working days
+pub days_refused : (order : WeekOrder) (calendar : Workdays) (text : List ℕ) (listed : ListedWeek) (plan : WeekPlan) (e : CliFault)
+    → IsWeekWith order.capacities.now order.today text listed → IsPlanned (goal_or_makespan order.goal) listed.week plan
+    → Refuses (TellsBeyond calendar listed.week plan) e → Refuses (RefusesWeekDays order calendar text) e
+days_refused order calendar text listed plan e is planned told =
+    refuses_as (TellsBeyond calendar listed.week plan) (RefusesWeekDays order calendar text) e
+    (λ line tells. inr (listed, plan, record { week = is; planned = planned }, tells)) told
+
+-- the text of its working days
+pub days_shown : (order : WeekOrder) (calendar : Workdays) (text output : List ℕ) (listed : ListedWeek) (plan : WeekPlan)
+    → IsWeekWith order.capacities.now order.today text listed → IsPlanned (goal_or_makespan order.goal) listed.week plan
+    → ShowsTable order.format calendar listed plan output → ShowsWeekDays order calendar text output
+days_shown order calendar text output listed plan is planned shown = (listed, plan, record { week = is; planned = planned }, shown)

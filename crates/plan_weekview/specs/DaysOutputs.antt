@@ -1,14 +1,14 @@
 -- The output of `plan days --solve` for a list with dates.
-use Rattle.std.specs.Prelude.{◌≡◌, ℕ, List, Option, Some, None}
+use Rattle.std.specs.Prelude.{◌≡◌, ◌⊎◌, ℕ, List, Option, Some, None, codes}
 use Rattle.plan_calendar.specs.WorkingDay.{Workdays}
-use Rattle.plan_errors.specs.Output.{Refuses}
 use Rattle.plan_formats.specs.IdTables.{with_ids}
 use Rattle.plan_formats.specs.TableFormats.{format_text}
 use Rattle.plan_formats.specs.TableText.{text_of}
 use Rattle.plan_formats.specs.Tables.{Table}
 use Rattle.plan_formats.specs.declared.format.Format.{Format}
 use Rattle.plan_views.specs.LinkColumns.{Links, with_links}
-use Rattle.plan_errors.specs.declared.fault.CliFault.TheVariants as cli
+use Rattle.plan_gantt.specs.declared.days.DaysFault.{DaysFault}
+use Rattle.plan_gantt.specs.declared.days.DaysFault.TheVariants as days
 use Rattle.plan_week.specs.declared.week.Week.{Week}
 use Rattle.plan_weekfile.specs.Links.{week_links}
 use Rattle.plan_weekfile.specs.Orders.{goal_or_makespan}
@@ -20,8 +20,6 @@ use Rattle.plan_weeks.specs.WeekPlans.{IsPlanned}
 use Rattle.plan_weeks.specs.WeekTables.{ids_from, named, planned}
 use Rattle.plan_weeks.specs.declared.planning.WeekPlan.{WeekPlan}
 use Rattle.plan_weekview.specs.WeekDays.{AreWeekDays, HasWeekDayBeyond}
-use Rattle.plan_weekview.specs.declared.output.WeekDaysFault.{WeekDaysFault}
-use Rattle.plan_weekview.specs.declared.output.WeekDaysFault.TheVariants as fault
 
 -- a table with the names and the ids of the activities of the week
 abbrev pub labelled : ListedWeek → Table → Table
@@ -41,33 +39,41 @@ days_text (Some format) listed t = format_text format (linked
     (week_links listed.table.resources (ids_from 2 listed.table.activities) listed.week)
     listed t)
 
--- a text shows the working days of a plan for the goal of an order, of the week that the list says
-pub record ShowsDaysOf (order : WeekOrder) (calendar : Workdays) (text output : List ℕ)
-    (listed : ListedWeek) (plan : WeekPlan) : Type 0 where
+-- a text shows the table of the working days of a plan
+abbrev pub ShowsTable : Option Format → Workdays → ListedWeek → WeekPlan → List ℕ → Type 0
+ShowsTable format calendar listed plan output =
+    (table : Table) × AreWeekDays calendar listed.week plan table
+    × (output ≡ days_text format listed table)
+
+-- a plan for the goal of an order, of the week that the list says
+pub record IsPlanOfOrder (order : WeekOrder) (text : List ℕ) (listed : ListedWeek)
+    (plan : WeekPlan) : Type 0 where
   pub week : IsWeekWith order.capacities.now order.today text listed
   pub planned : IsPlanned (goal_or_makespan order.goal) listed.week plan
-  pub table : Table
-  pub days : AreWeekDays calendar listed.week plan table
-  pub shown : output ≡ days_text order.format listed table
 
+-- a text shows the working days of such a plan
 abbrev pub ShowsWeekDays : WeekOrder → Workdays → List ℕ → List ℕ → Type 0
-ShowsWeekDays order calendar text shown =
-    (listed : ListedWeek) × (plan : WeekPlan) × ShowsDaysOf order calendar text shown listed plan
+ShowsWeekDays order calendar text output =
+    (listed : ListedWeek) × (plan : WeekPlan) × IsPlanOfOrder order text listed plan
+    × ShowsTable order.format calendar listed plan output
 
--- a day of a plan for the goal of an order would be after 9999-12-31
-pub record IsBeyondOf (order : WeekOrder) (calendar : Workdays) (text : List ℕ)
-    (listed : ListedWeek) (plan : WeekPlan) : Type 0 where
-  pub week : IsWeekWith order.capacities.now order.today text listed
-  pub planned : IsPlanned (goal_or_makespan order.goal) listed.week plan
-  pub beyond : HasWeekDayBeyond calendar listed.week plan
+-- the line of the error of a table of working days
+abbrev pub TellsDays : DaysFault → List ℕ → Type 0
+TellsDays days.NoMemory line = ⊥
+TellsDays days.BeyondCalendar line = line ≡ codes "G3 beyond calendar"
 
--- why the working days of a plan aren't shown: one is too late, or memory ran out
-abbrev pub IsUnshown : Workdays → Week → WeekPlan → WeekDaysFault → Type 0
-IsUnshown calendar week p (fault.Refused e) = e ≡ cli.Memory
-IsUnshown calendar week p fault.BeyondCalendar = HasWeekDayBeyond calendar week p
+-- a line says that a day of a plan would be after 9999-12-31
+abbrev pub TellsBeyond : Workdays → Week → WeekPlan → List ℕ → Type 0
+TellsBeyond calendar week p line =
+    HasWeekDayBeyond calendar week p × TellsDays days.BeyondCalendar line
+
+-- the same for a plan for the goal of an order
+abbrev pub TellsLateDay : WeekOrder → Workdays → List ℕ → List ℕ → Type 0
+TellsLateDay order calendar text line =
+    (listed : ListedWeek) × (plan : WeekPlan) × IsPlanOfOrder order text listed plan
+    × TellsBeyond calendar listed.week plan line
 
 -- why there are no working days: an error of the list or of its week, or a day that is too late
-abbrev pub RefusesWeekDays : WeekOrder → Workdays → List ℕ → WeekDaysFault → Type 0
-RefusesWeekDays order calendar text (fault.Refused e) = Refuses (RefusesWeek order text) e
-RefusesWeekDays order calendar text fault.BeyondCalendar =
-    (listed : ListedWeek) × (plan : WeekPlan) × IsBeyondOf order calendar text listed plan
+abbrev pub RefusesWeekDays : WeekOrder → Workdays → List ℕ → List ℕ → Type 0
+RefusesWeekDays order calendar text line =
+    RefusesWeek order text line ⊎ TellsLateDay order calendar text line

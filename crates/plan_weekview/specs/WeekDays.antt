@@ -1,5 +1,5 @@
 -- The table of the working days of a week's plan.
-use Rattle.std.specs.Prelude.{◌≡◌, ℕ, zero, suc, ◌+◌, ◌-◌, ◌<◌, ◌⊎◌, Bool, true, false, IsTrue}
+use Rattle.std.specs.Prelude.{◌≡◌, ℕ, zero, suc, ◌+◌, ◌-◌, ◌<◌, ◌⊎◌, Bool, true, false}
 use Rattle.std.specs.Prelude.{List, [], ◌∷◌, ◌++◌, Option, Some, None, codes, get_or, length, nat_lt}
 use Rattle.plan_calendar.specs.WorkingDay.{IsBeyond, Workdays}
 use Rattle.plan_formats.specs.Cells.{Cell, empty, number}
@@ -90,10 +90,14 @@ abbrev pub IsFirstBeyond : Workdays → Option ℕ → ℕ → Type 0
 IsFirstBeyond calendar None ends = ⊥
 IsFirstBeyond calendar (Some begin) ends = (begin < ends) × IsBeyond calendar begin
 
+-- the day of an instant, if it is shown, would be after 9999-12-31
+abbrev pub IsBeyondIf : Workdays → Bool → ℕ → Type 0
+IsBeyondIf calendar false t = ⊥
+IsBeyondIf calendar true t = IsBeyond calendar t
+
 -- its last day would be after 9999-12-31
 abbrev pub IsLastBeyond : Workdays → Option ℕ → ℕ → Type 0
-IsLastBeyond calendar begin ends =
-    IsTrue (takes_time begin ends) × IsBeyond calendar (ends - 1)
+IsLastBeyond calendar begin ends = IsBeyondIf calendar (takes_time begin ends) (ends - 1)
 
 -- a day that the row of activity k shows would be after 9999-12-31
 abbrev pub IsRowBeyond : Workdays → Week → WeekPlan → ℕ → Type 0

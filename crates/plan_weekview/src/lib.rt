@@ -10,4 +10,4 @@ mod rows;
 
 pub use days::week_days;
 pub use instants::list_of_instants;
-pub use output::{WeekDaysFault, days_output};
+pub use output::days_output;

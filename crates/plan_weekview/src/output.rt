@@ -5,16 +5,11 @@ ghost use Rattle.plan_errors.specs.Output.{Refuses};
 ghost use Rattle.plan_formats.specs.Tables.{table_of};
 ghost use Rattle.plan_solve.specs.Progress.{HearsNothing};
 ghost use Rattle.plan_views.specs.LinkColumns.{links_of};
-ghost use Rattle.plan_weekfile.specs.Orders.{goal_or_makespan};
-ghost use Rattle.plan_weekfile.specs.Outputs.{RefusesWeek};
-ghost use Rattle.plan_weekfile.specs.Weeks.{IsWeekWith};
-ghost use Rattle.plan_weeks.specs.WeekPlans.{IsPlanned};
 ghost use Rattle.plan_weekview.specs.DaysOutputs as spec;
-ghost use Rattle.plan_weekview.specs.WeekDays.{AreWeekDays, HasWeekDayBeyond};
 
 use crate::days::week_days;
 use plan_calendar::Calendar;
-use plan_errors::CliFault;
+use plan_errors::{About, CliFault, Code, refuse_words};
 use plan_formats::{Format, Table, format_table, table_text, with_ids};
 use plan_gantt::DaysFault;
 use plan_solve::Watcher;
@@ -24,13 +19,16 @@ use plan_weeklist::ListedWeek;
 use plan_weeks::{WeekPlan, ids_of, named, planned};
 use std::alloc::{AllocError, Global};
 
-/// Why the working days of a plan can't be shown.
-#[derive(Drop)]
-pub enum WeekDaysFault {
-    /// An error of the list or of its week; or memory ran out.
-    Refused(CliFault),
-    /// A day would be after 9999-12-31.
-    BeyondCalendar,
+// Returns the error of a table of working days.
+fn days_refusal(alloc: Global, fault: DaysFault) -> CliFault
+    ensures { Refuses (spec.TellsDays fault) result }
+{
+    match fault {
+        DaysFault::NoMemory => CliFault::Memory,
+        DaysFault::BeyondCalendar => {
+            refuse_words(alloc, Code::BeyondCalendar, About::Plan, "beyond calendar")
+        }
+    }
 }
 
 // Returns the text of a table of working days.
@@ -97,45 +95,45 @@ fn days_text<'a>(
     }
 }
 
-// Returns the table of the working days of a plan.
-fn table_of_days<'a>(
+// Returns the text of the working days of a plan in a format, or the error of a day that is too late.
+#[tactic(auto, using(crate::proofs::OutputLemmas::beyond_told))]
+fn shown_days(
     alloc: Global,
+    format: Option<Format>,
+    calendar: &Calendar,
     listed: &ListedWeek,
     plan: &WeekPlan,
-    calendar: &Calendar,
-) -> Result<Table<'a>, WeekDaysFault>
-    ensures days { IfOk result (λ table.
-        AreWeekDays calendar.now listed.now.week plan.now (table_of table)) }
-    ensures beyond { IfErr result (spec.IsUnshown calendar.now listed.now.week plan.now) }
+) -> Result<Vec<u8>, CliFault>
+    ensures shown { IfOk result (λ text.
+        spec.ShowsTable format calendar.now listed.now plan.now text.items) }
+    ensures refused { IfErr result
+        (Refuses (spec.TellsBeyond calendar.now listed.now.week plan.now)) }
 {
     match week_days(alloc, &listed.week, plan, calendar) {
-        Ok(table) => Ok(table),
-        Err(DaysFault::BeyondCalendar) => Err(WeekDaysFault::BeyondCalendar),
-        Err(DaysFault::NoMemory) => Err(WeekDaysFault::Refused(CliFault::Memory)),
+        Ok(table) => Ok(days_text(alloc, format, listed, table)?),
+        Err(fault) => Err(days_refusal(alloc, fault)),
     }
 }
 
 /// Returns the text of the working days of a plan of a list with dates. The watcher is called
-/// during the searches, and can end them. Errors: those of [`plan_weekfile::week_output`], then a
-/// day after 9999-12-31.
+/// during the searches, and can end them. Errors: those of [`plan_weekfile::week_output`], then `G3`
+/// (a day after 9999-12-31).
+#[tactic(auto, using(crate::proofs::OutputLemmas::list_refused, crate::proofs::OutputLemmas::plan_refused, crate::proofs::OutputLemmas::days_refused, crate::proofs::OutputLemmas::days_shown))]
 pub fn days_output<W: Watcher>(
     alloc: Global,
     order: &WeekOrder<'_>,
     calendar: &Calendar,
     watcher: &mut W,
     text: &[u8],
-) -> Result<Vec<u8>, WeekDaysFault>
+) -> Result<Vec<u8>, CliFault>
     ensures shown { IfOk result (λ shown.
         spec.ShowsWeekDays order.now calendar.now text.now shown.items) }
-    ensures refused { IfErr result (spec.RefusesWeekDays order.now calendar.now text.now) }
+    ensures refused { IfErr result
+        (Refuses (spec.RefusesWeekDays order.now calendar.now text.now)) }
     ensures told { HearsNothing (W.was_told watcher.old) (W.was_told watcher.new) }
 {
-    let listed = listed_week(alloc, order.capacities, order.today, text)
-        .map_err(WeekDaysFault::Refused)?;
-    let plan = plan_of(alloc, order, &listed, watcher).map_err(WeekDaysFault::Refused)?;
-    let table = table_of_days(alloc, &listed, &plan, calendar)?;
-    match days_text(alloc, order.format, &listed, table) {
-        Ok(text) => Ok(text),
-        Err(_) => Err(WeekDaysFault::Refused(CliFault::Memory)),
-    }
+    let listed = listed_week(alloc, order.capacities, order.today, text)?;
+    let plan = plan_of(alloc, order, &listed, watcher)?;
+    let shown = shown_days(alloc, order.format, calendar, &listed, &plan)?;
+    Ok(shown)
 }
