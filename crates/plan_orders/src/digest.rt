@@ -2,4 +2,4 @@
 
 /// The digest of all sources of the program but this file, in hexadecimal digits, as
 /// `./release --digest` prints it.
-pub(crate) const SOURCES: &str = "cbe155048bf60a8453713a300d098cadf232792e4206826d1d9c20b21cd27fcb";
+pub(crate) const SOURCES: &str = "2ce1b4917f11d874dd55c949986f88deb6533a2c9b3ff0148719cac8afb1bddb";

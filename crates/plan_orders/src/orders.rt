@@ -26,7 +26,7 @@ const GREATEST_IN_LIST: u32 = 10_000;
 #[derive(Clone, Copy)]
 pub struct WeekWords<'a> {
     /// The instant from which on is planned, if it is given.
-    pub now: Option<Now>,
+    pub now: Option<Now<'a>>,
     /// The goal, if it is given.
     pub goal: Option<Goal>,
     /// The dates of the calendar of `solve`, without holidays, if they are given.

@@ -2,6 +2,7 @@
 
 use crate::errors::FileFault;
 use crate::weeks::usage;
+use plan_calendar::date_in;
 use plan_cli::{Dates, calendar_of};
 use plan_errors::CliFault;
 use plan_orders::Now;
@@ -14,21 +15,28 @@ pub(crate) fn instants_in(rt: &HostRuntime, dates: Dates<'_>) -> Result<InstantC
     Ok(InstantCalendar::new(calendar, dates.start))
 }
 
+// Returns the instant at which a date begins.
+fn begin_of(
+    rt: &HostRuntime,
+    calendar: &InstantCalendar,
+    date: &str,
+) -> Result<u32, FileFault> {
+    match date_in(date.as_bytes()) {
+        Some(date) if !calendar.is_too_early(date) => Ok(calendar.instant_before(date)),
+        Some(_) | None => Err(usage(rt, "--now is before the first date")?),
+    }
+}
+
 /// Returns the instant from which on is planned, if it is given. A date needs a calendar.
 pub(crate) fn today_in(
     rt: &HostRuntime,
-    now: Option<Now>,
+    now: Option<Now<'_>>,
     calendar: Option<&InstantCalendar>,
 ) -> Result<Option<u32>, FileFault> {
     match (now, calendar) {
         (None, _) => Ok(None),
         (Some(Now::Instant(instant)), _) => Ok(Some(instant)),
-        (Some(Now::Date(date)), Some(calendar)) => {
-            if calendar.is_too_early(date) {
-                return Err(usage(rt, "--now is before the first date")?);
-            }
-            Ok(Some(calendar.instant_before(date)))
-        }
+        (Some(Now::Date(date)), Some(calendar)) => Ok(Some(begin_of(rt, calendar, date)?)),
         (Some(Now::Date(_)), None) => {
             Err(usage(rt, "a date after --now requires --start and --days")?)
         }
