@@ -7,7 +7,6 @@ use Rattle.plan_errors.specs.Output.{Refuses}
 use Rattle.plan_gantt.specs.declared.days.DaysFault.{DaysFault}
 use Rattle.plan_gantt.specs.declared.days.DaysFault.TheVariants as days
 use Rattle.plan_week.specs.declared.week.Week.{Week}
-use Rattle.plan_weekfile.proofs.FaultLemmas.{no_week, no_plan}
 use Rattle.plan_weekfile.specs.Orders.{goal_or_makespan}
 use Rattle.plan_weekfile.specs.Outputs.{RefusesWeek}
 use Rattle.plan_weekfile.specs.Weeks.{IsWeekWith, TellsNoWeek, TellsUnplanned}
@@ -41,22 +40,20 @@ beyond_told calendar week p days.NoMemory e beyond told =
 beyond_told calendar week p days.BeyondCalendar e beyond told =
     refuses_as (TellsDays days.BeyondCalendar) (TellsBeyond calendar week p) e (λ line tells. (beyond refl, tells)) told
 
--- an error of the week
-week_refused : (order : WeekOrder) (calendar : Workdays) (text : List ℕ) (e : CliFault) → Refuses (RefusesWeek order text) e
-    → Refuses (RefusesWeekDays order calendar text) e
-week_refused order calendar text e told =
-    refuses_as (RefusesWeek order text) (RefusesWeekDays order calendar text) e (λ line tells. inl tells) told
-
 -- the error of a list
 pub list_refused : (order : WeekOrder) (calendar : Workdays) (text : List ℕ) (e : CliFault)
     → Refuses (TellsNoWeek order.capacities.now order.today text) e → Refuses (RefusesWeekDays order calendar text) e
-list_refused order calendar text e told = week_refused order calendar text e (no_week order text e told)
+list_refused order calendar text e told =
+    refuses_as (TellsNoWeek order.capacities.now order.today text) (RefusesWeekDays order calendar text) e
+    (λ line tells. inl (inl tells)) told
 
 -- the error of a plan
 pub plan_refused : (order : WeekOrder) (calendar : Workdays) (text : List ℕ) (listed : ListedWeek) (e : CliFault)
     → IsWeekWith order.capacities.now order.today text listed → Refuses (TellsUnplanned listed) e
     → Refuses (RefusesWeekDays order calendar text) e
-plan_refused order calendar text listed e is told = week_refused order calendar text e (no_plan order text listed e is told)
+plan_refused order calendar text listed e is told =
+    refuses_as (TellsUnplanned listed) (RefusesWeekDays order calendar text) e
+    (λ line tells. inl (inr (listed, is, tells))) told
 
 -- the error of its working days
 pub days_refused : (order : WeekOrder) (calendar : Workdays) (text : List ℕ) (listed : ListedWeek) (plan : WeekPlan) (e : CliFault)
