@@ -132,7 +132,7 @@ fn kind_checked(
 ) -> Result<Checked, CliFault>
     ensures text { IfOk result (λ checked.
         ShowsKind kind rows (Task.Check starts.entry subject.entry) subject.entry file.now
-            checked.text.items) }
+        checked.text.items) }
     ensures verdict { IfOk result (λ checked.
         IsOfSubject subject.entry (spec.IsVerdictOn starts.now) file.now checked.verdict) }
     ensures refused { IfErr result (Refuses

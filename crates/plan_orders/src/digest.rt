@@ -2,4 +2,4 @@
 
 /// The digest of all sources of the program but this file, in hexadecimal digits, as
 /// `./release --digest` prints it.
-pub(crate) const SOURCES: &str = "2ce1b4917f11d874dd55c949986f88deb6533a2c9b3ff0148719cac8afb1bddb";
+pub(crate) const SOURCES: &str = "fde507c8b31bb33e264ea3971c34cc3a8ce1ea6764897d2ffd50fe168b6680e9";

@@ -9,9 +9,9 @@ use crate::verification::do_verify;
 use crate::week_days::do_days_file;
 use crate::weeks::do_solve_file;
 use plan_cli::{
-    CliFault, Log, NamedText, NoteWatcher, Options, ProofWatcher, Rows, SolveWatcher, Subject, SystemInputs,
-    Task, Unlogged, check_text, explain_run, explain_run_in, prepare, read_named, run_on_file,
-    run_on_files, template_run,
+    CliFault, Log, NamedText, NoteWatcher, Options, ProofWatcher, Rows, SolveWatcher, Subject,
+    SystemInputs, Task, Unlogged, check_text, explain_run, explain_run_in, prepare, read_named,
+    run_on_file, run_on_files, template_run,
 };
 use plan_errors::{About, write_text};
 use plan_io::{Sink, StdSink};
@@ -100,7 +100,9 @@ fn do_texts(
     let mut line = ProgressLine::within(rt, seconds);
     match (week, task) {
         (Some(words), Task::Days { dates, .. }) => {
-            do_days_file(rt, options, task, dates, rows, words, &mut line, texts, path)?
+            do_days_file(
+                rt, options, task, dates, rows, words, &mut line, texts, path,
+            )?
         }
         _ => {
             let mut writer = StdSink::new(io::writer(rt));

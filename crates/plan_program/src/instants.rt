@@ -16,11 +16,7 @@ pub(crate) fn instants_in(rt: &HostRuntime, dates: Dates<'_>) -> Result<InstantC
 }
 
 // Returns the instant at which a date begins.
-fn begin_of(
-    rt: &HostRuntime,
-    calendar: &InstantCalendar,
-    date: &str,
-) -> Result<u32, FileFault> {
+fn begin_of(rt: &HostRuntime, calendar: &InstantCalendar, date: &str) -> Result<u32, FileFault> {
     match date_in(date.as_bytes()) {
         Some(date) if !calendar.is_too_early(date) => Ok(calendar.instant_before(date)),
         Some(_) | None => Err(usage(rt, "--now is before the first date")?),

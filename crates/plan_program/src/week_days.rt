@@ -19,7 +19,12 @@ use std::io;
 fn holidays_in(rt: &HostRuntime, texts: &[NamedText<'_>]) -> Result<Vec<u8>, CliFault> {
     for text in texts {
         if text.role == Role::Holidays {
-            return read_named(rt.alloc(), &SystemInputs::new(rt), About::Holidays, text.name);
+            return read_named(
+                rt.alloc(),
+                &SystemInputs::new(rt),
+                About::Holidays,
+                text.name,
+            );
         }
     }
     Ok(Vec::new(rt.alloc()))
@@ -69,7 +74,13 @@ fn do_week_days(
     line: &mut ProgressLine<'_>,
     file: &[u8],
 ) -> Result<(), CliFault> {
-    let text = days_output(rt.alloc(), order, calendar.calendar(), line, read.text(file))?;
+    let text = days_output(
+        rt.alloc(),
+        order,
+        calendar.calendar(),
+        line,
+        read.text(file),
+    )?;
     read.note(rt, line, order.today, file);
     write_text(&mut StdSink::new(io::writer(rt)), &text)
 }

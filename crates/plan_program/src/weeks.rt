@@ -6,7 +6,8 @@ use crate::instants::{instants_in, today_in};
 use crate::progress::ProgressLine;
 use crate::read_input::ReadInput;
 use plan_cli::{
-    Dates, Log, NoteWatcher, Options, Rows, Subject, SystemInputs, Task, read_named, run_with_options,
+    Dates, Log, NoteWatcher, Options, Rows, Subject, SystemInputs, Task, read_named,
+    run_with_options,
 };
 use plan_errors::{About, CliFault, write_text};
 use plan_io::StdSink;
@@ -35,7 +36,13 @@ impl WeekText {
     }
 
     /// Keeps the line about what is ignored in the list, for the end.
-    pub fn note(&self, rt: &HostRuntime, line: &mut ProgressLine<'_>, now: Option<u32>, file: &[u8]) {
+    pub fn note(
+        &self,
+        rt: &HostRuntime,
+        line: &mut ProgressLine<'_>,
+        now: Option<u32>,
+        file: &[u8],
+    ) {
         if let Ok(Some(note)) = week_notes(rt.alloc(), &self.read, now, file) {
             line.note(note);
         }

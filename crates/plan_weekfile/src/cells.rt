@@ -63,7 +63,10 @@ fn number_sentence(alloc: Global, word: &str) -> Result<String, AllocError>
     let word = quoted(alloc, word)?;
     let word = word.as_str();
     let mut text = String::new(alloc);
-    write!(text, "\"{word}\" isn't a number from 0 to 10000000 or, with --start, a date")?;
+    write!(
+        text,
+        "\"{word}\" isn't a number from 0 to 10000000 or, with --start, a date"
+    )?;
     Ok(text)
 }
 

@@ -22,5 +22,5 @@ pub use listed::listed_week;
 pub use notes::week_notes;
 pub use order::WeekOrder;
 pub use output::week_output;
-pub use plans::plan_of;
 pub use plan_weeks::Goal;
+pub use plans::plan_of;

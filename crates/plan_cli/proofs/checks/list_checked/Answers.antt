@@ -11,8 +11,7 @@ pub returns-clause-text : goal.returns-clause-text
 returns-clause-text c =
     let a = c.args in
     of_subject a.subject a.file.now c.in_ok-document.document c.in_ok-plan.plan (NamesVerdictOn a.rows a.starts.now a.subject a.file.now)
-    c.in_ok-text.text.items c.in_ok-document.ensures.read c.in_ok-plan.ensures.plan c.in_ok-plan.ensures.fit
-    (
+    c.in_ok-text.text.items c.in_ok-document.ensures.read c.in_ok-plan.ensures.plan c.in_ok-plan.ensures.fit (
       c.in_ok-verdict.verdict,
       c.in_ok-verdict.ensures.made,
       c.in_ok-text.ensures ∙ ap (λ (bytes : List ℕ). rows_text a.rows (table (verdict_view_of bytes))) c.in_ok-sentence.ensures,
