@@ -572,7 +572,7 @@ impl Code {
             Code::NoResource => "The project has no resource with this name.",
             Code::LateEnd => "The schedule ends after 10,000,000.",
             Code::Infeasible => {
-                "The start times aren't feasible. The verdict is the line that plan check prints: the first activity that starts before a predecessor ends, else the first instant at which a resource or a machine is overloaded."
+                "The start times aren't feasible. The verdict is that of plan check, in numbers: the first activity that starts before a predecessor ends, else the first instant at which a resource or a machine is overloaded."
             }
             Code::Overload => {
                 "From INSTANT on, begun work, appointments and absences together need more of the resource than its capacity. It is the first such instant from --now on."

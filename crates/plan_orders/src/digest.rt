@@ -2,4 +2,4 @@
 
 /// The digest of all sources of the program but this file, in hexadecimal digits, as
 /// `./release --digest` prints it.
-pub(crate) const SOURCES: &str = "fde507c8b31bb33e264ea3971c34cc3a8ce1ea6764897d2ffd50fe168b6680e9";
+pub(crate) const SOURCES: &str = "52e2dcaf009166d3bd41983e350cd2569d1be8df802bbf430c9cae1ff2cc7d52";
