@@ -233,6 +233,14 @@ def below(crate):
     return found
 
 
+def linked(source, target):
+    """Makes a hard link, or a copy on another file system. rt replaces files and never writes into one."""
+    try:
+        os.link(source, target)
+    except OSError:
+        shutil.copy2(source, target)
+
+
 class Copy:
     """A copy of the repository, in which the crate is changed and checked."""
 
@@ -248,7 +256,8 @@ class Copy:
         for name in below(crate) | {crate}:
             built = os.path.join("crates", name, "out")
             if os.path.isdir(os.path.join(TOP, built)):
-                shutil.copytree(os.path.join(TOP, built), os.path.join(room, built), symlinks=True)
+                copy = shutil.copy2 if name == crate else linked
+                shutil.copytree(os.path.join(TOP, built), os.path.join(room, built), symlinks=True, copy_function=copy)
         self.texts = sources(self.folder)
 
     def write(self, changes):
