@@ -199,6 +199,19 @@ class Steps:
             return self.in_text(output)
         return self.in_csv(output) if "csv" in options else self.in_json(output)
 
+    def drawn(self, options, output):
+        """The chart of a job shop file as that of the list: CSV and JSON have no bars of steps that
+        take no time."""
+        if not output or "--format" not in options:
+            return output
+        if "csv" in options:
+            head, *rows = csv.reader(io.StringIO(output.decode(), newline=""))
+            return [head, *(row for row in rows if self.times[int(row[1]), int(row[2])])]
+        value = json.loads(output)
+        for row in value["rows"]:
+            row["bars"] = [bar for bar in row["bars"] if self.times[bar["job"], bar["step"]]]
+        return value
+
     def read(self, options, output):
         """The output for the list, in the form of the one above."""
         if not output or "--format" not in options:
@@ -223,7 +236,7 @@ STEP_TABLES = ("solve", "days", "compare")
 
 def compare_command(what, folder, command, instances, options, made_folder, notes, steps=None):
     """That a command answers for a list as for the file that is made of it, with the notes on the list
-    behind an output. Tables and the report of a list of orders have no steps that take no time."""
+    behind an output. Tables, charts and the report of a list of orders have no steps that take no time."""
     named, plainly = options
     own, other = instances
     found = plan(folder, *words_on(command, "list.csv", own, named))
@@ -234,6 +247,9 @@ def compare_command(what, folder, command, instances, options, made_folder, note
     if steps and command[0][0] in STEP_TABLES and "ics" not in command[0]:
         found = (found[0], steps.read(named, found[1]), found[2])
         output = steps.shown(plainly, output)
+    if steps and command[0][0] == "chart" and "--svg" not in command[0]:
+        found = (found[0], steps.read(named, found[1]), found[2])
+        output = steps.drawn(plainly, output)
     same(f"{what}: {command}", found, (status, output, notes))
 
 

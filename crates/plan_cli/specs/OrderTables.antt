@@ -1,7 +1,7 @@
--- The tables of a list of orders: without the steps that take no time, and with machines by name
+-- Tables and charts of a list of orders: without the steps that take no time, and with machines by name
 -- (docs/definitions.md, "Runs").
 use Rattle.std.specs.Prelude.{◌≡◌, ℕ, ◌==◌, if◌then◌else◌, List, [], ◌∷◌, ◌++◌, Option, Some, None}
-use Rattle.std.specs.Prelude.{codes}
+use Rattle.std.specs.Prelude.{Bool, nat_lt, map, filter, codes}
 use Rattle.plan_orlib.specs.Shop as docs
 use Rattle.plan_orlib.specs.Says.{Says}
 use Rattle.plan_orlib.specs.declared.steps.Step.{Step}
@@ -13,6 +13,8 @@ use Rattle.plan_formats.specs.Columns.{Column}
 use Rattle.plan_formats.specs.NamedTables.{with_names}
 use Rattle.plan_formats.specs.NameColumns.{name_cell}
 use Rattle.plan_formats.specs.Tables.{Table}
+use Rattle.plan_views.specs.Bars.{Bar, ChartRow}
+use Rattle.plan_views.specs.Charts.{Chart}
 use Rattle.plan_views.specs.LinkColumns.{field_column}
 use Rattle.plan_cli.specs.Views.{View, table, listing, chart, text}
 use Rattle.plan_documents.specs.declared.documents.Subject.{Subject}
@@ -61,11 +63,24 @@ timed_table s machines t = record {
 abbrev pub order_table : JobShop → List Name → List Name → Table → Table
 order_table s orders machines t = timed_table s machines (with_names orders t)
 
--- a value of a task, with such a table in the place of a table; another value stays as it is
+-- the bar of a step that takes time
+abbrev pub takes_time : Bar → Bool
+takes_time b = nat_lt b.start b.end
+
+-- a row of a chart with the bars of the steps that take time
+abbrev pub timed_bars : ChartRow → ChartRow
+timed_bars r = record { number = r.number; bars = filter takes_time r.bars }
+
+-- a chart with these rows
+abbrev pub timed_chart : Chart → Chart
+timed_chart c = record { makespan = c.makespan; owner = c.owner; rows = map timed_bars c.rows }
+
+-- a value of a task, with such a table in the place of a table, and such a chart in the place of a
+-- chart; another value stays as it is
 abbrev pub order_view : JobShop → List Name → List Name → View → View
 order_view s orders machines (table t) = table (order_table s orders machines t)
 order_view s orders machines (listing t) = listing t
-order_view s orders machines (chart c) = chart c
+order_view s orders machines (chart c) = chart (timed_chart c)
 order_view s orders machines (text t) = text t
 
 -- the same if there is a job shop

@@ -27,7 +27,8 @@ use Rattle.plan_documents.specs.ImportRun.{IsImport, TellsUnimported, IsShopImpo
 use Rattle.plan_documents.specs.Lists.{ReadsAs, RefusesAs}
 use Rattle.plan_views.specs.LinkColumns.{Links}
 use Rattle.plan_cli.specs.TaskViews.{IsViewOf}
-use Rattle.plan_cli.specs.Views.{View, named_text, plain_text, text_in}
+use Rattle.plan_cli.specs.Views.{View, chart, named_text, plain_text, text_in}
+use Rattle.plan_views.specs.Charts.{Chart}
 use Rattle.plan_cli.specs.OrderTables.{IsShopOf, view_for}
 use Rattle.plan_shop.specs.Shop.{JobShop}
 use Rattle.plan_table.specs.Names.{Name, names_behind, activity_key}
@@ -173,8 +174,9 @@ abbrev pub rows_on : Option ListKind → Rows → Rows
 rows_on None r = r
 rows_on (Some kind) r = list_rows r
 
--- the table of a task has a row for each step of a job shop
+-- a task shows each step of a job shop
 abbrev pub has_steps : Task → Bool
+has_steps (task.Chart from subject) = true
 has_steps (task.Days from dates style subject) = true
 has_steps (task.Compare starts subject) = true
 has_steps (task.Solve conflicts subject) = true
@@ -191,12 +193,25 @@ rows_text rows.Plain view = plain_text view
 rows_text rows.Named view = plain_text view
 rows_text (rows.In format) view = text_in format [] [] [] view
 
+-- the text of a chart with these rows, which have these names
+abbrev pub chart_rows_text : Rows → List Name → Chart → List ℕ
+chart_rows_text rows.Plain names c = plain_text (chart c)
+chart_rows_text rows.Named names c = named_text [] names (chart c)
+chart_rows_text (rows.In format) names c = text_in format [] names [] (chart c)
+
+-- the text of a value for a list of orders: the rows of a chart have the names of the machines, and
+-- a table already has its names
+abbrev pub order_rows_text : Rows → List Name → View → List ℕ
+order_rows_text r machines (chart c) = chart_rows_text r machines c
+order_rows_text r machines view = rows_text r view
+
 -- the texts of a task for the job shop of a list of orders: without the steps that take no time, and
 -- with the names of the orders and the machines
 abbrev pub ShowsOrders : Rows → Task → Subject → List ℕ → List ℕ → Type 0
 ShowsOrders r t s file text = (view : View) × IsViewOf t file view
     × ((shop : Option JobShop) × IsShopOf s file shop
-    × (text ≡ rows_text r (view_for shop (names_for t file) (names_of_lines s file) view)))
+    × (text ≡ order_rows_text r (names_of_lines s file)
+    (view_for shop (names_for t file) (names_of_lines s file) view)))
 
 -- the same if the task shows the steps of a list of orders; else its texts
 abbrev pub ShowsBy : Bool → Rows → Task → Subject → List ℕ → List ℕ → Type 0

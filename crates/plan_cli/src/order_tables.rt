@@ -1,11 +1,13 @@
-//! Tables of a list of orders: without the steps that take no time, and with machines by name.
+//! Tables and charts of a list of orders: without the steps that take no time, and with machines by name.
 
-ghost use Rattle.std.specs.Prelude.{◌≡◌, ◌++◌, map, IfOk, OnOk};
+ghost use Rattle.std.specs.Prelude.{◌≡◌, ◌++◌, map, filter, IfOk, OnOk};
 ghost use Rattle.plan_table.specs.Names.{name_of};
 ghost use Rattle.plan_formats.specs.Cells.{cell_of};
 ghost use Rattle.plan_formats.specs.Columns.{column_of};
 ghost use Rattle.plan_formats.specs.NameColumns.{name_cell};
 ghost use Rattle.plan_formats.specs.Tables.{cells_of, rows_of, table_of};
+ghost use Rattle.plan_views.specs.Bars.{bar_of, row_of};
+ghost use Rattle.plan_views.specs.Charts.{chart_of};
 ghost use Rattle.plan_views.specs.LinkColumns.{field_column};
 ghost use Rattle.plan_cli.specs.OrderTables as spec;
 ghost use Rattle.plan_cli.specs.Tasks as tasks;
@@ -14,14 +16,14 @@ ghost use Rattle.plan_cli.specs.Views as views;
 
 use crate::own_tables::whole_table;
 use crate::tasks::{Rows, rows_text};
-use crate::views::View;
+use crate::views::{View, named_text, plain_text, text_in};
 use plan_documents::{Subject, open_shop, read_instance};
 use plan_errors::CliFault;
 use plan_formats::{Cell, Column, Layout, Table, format_table, table_text, with_names};
 use plan_orlib::Step;
 use plan_shop::Shop;
 use plan_table::{NameLine, first_name};
-use plan_views::{name_view, verdict_view};
+use plan_views::{Bar, Chart, ChartRow, name_view, verdict_view};
 use std::alloc::{AllocError, Global};
 
 // Reads the job shop of an instance in a file.
@@ -190,7 +192,101 @@ fn order_rows<'a>(
     rows_of_table(alloc, rows, &shown)
 }
 
-/// Returns the text of a value for a list of orders. A table has a row for each step.
+// Returns the bars that take time.
+fn timed_bars(alloc: Global, bars: &[Bar]) -> Result<Vec<Bar>, AllocError>
+    ensures { IfOk result (λ made.
+        map bar_of made.items ≡ filter spec.takes_time (map bar_of bars.now)) }
+{
+    let mut made = Vec::new(alloc);
+    for bar in bars {
+        if bar.start < bar.end {
+            made.push(Bar {
+                start: bar.start,
+                end: bar.end,
+                step: bar.step,
+            })?;
+        }
+    }
+    Ok(made)
+}
+
+// Returns the rows of a chart with the bars that take time.
+fn timed_lines(alloc: Global, rows: &[ChartRow]) -> Result<Vec<ChartRow>, AllocError>
+    ensures { IfOk result (λ made.
+        map row_of made.items ≡ map spec.timed_bars (map row_of rows.now)) }
+{
+    let mut made = Vec::new(alloc);
+    for row in rows {
+        let bars = timed_bars(alloc, &row.bars)?;
+        made.push(ChartRow {
+            number: row.number,
+            bars,
+        })?;
+    }
+    Ok(made)
+}
+
+// Returns a chart with the bars that take time.
+fn timed_chart(alloc: Global, chart: &Chart) -> Result<Chart, AllocError>
+    ensures { IfOk result (λ made. chart_of made ≡ spec.timed_chart (chart_of chart.now)) }
+{
+    Ok(Chart {
+        makespan: chart.makespan,
+        owner: chart.owner,
+        rows: timed_lines(alloc, &chart.rows)?,
+    })
+}
+
+// Returns the text of a chart with these rows, which have these names.
+fn chart_rows_text(
+    alloc: Global,
+    rows: Rows,
+    names: &[NameLine<'_>],
+    chart: Chart,
+) -> Result<Vec<u8>, AllocError>
+    ensures { IfOk result (λ text. text.items
+        ≡ tasks.chart_rows_text rows (map name_of names.now) (chart_of chart)) }
+{
+    let view = View::Chart(chart);
+    match rows {
+        Rows::Plain => plain_text(alloc, view),
+        Rows::Named => named_text(alloc, view, &[], names),
+        Rows::In(format) => text_in(alloc, format, view, &[], names, &[]),
+    }
+}
+
+/// Returns the text of a value for a list of orders. The rows of a chart have the names of the
+/// machines.
+pub(crate) fn order_rows_text(
+    alloc: Global,
+    rows: Rows,
+    machines: &[NameLine<'_>],
+    view: View,
+) -> Result<Vec<u8>, AllocError>
+    ensures { IfOk result (λ text. text.items
+        ≡ tasks.order_rows_text rows (map name_of machines.now) (view_of view)) }
+{
+    match view {
+        View::Chart(chart) => chart_rows_text(alloc, rows, machines, chart),
+        other => rows_text(alloc, rows, other),
+    }
+}
+
+// Returns the text of a chart of a list of orders.
+fn order_chart(
+    alloc: Global,
+    rows: Rows,
+    machines: &[NameLine<'_>],
+    chart: &Chart,
+) -> Result<Vec<u8>, AllocError>
+    ensures { IfOk result (λ text. text.items ≡ tasks.chart_rows_text rows
+        (map name_of machines.now) (spec.timed_chart (chart_of chart.now))) }
+{
+    let shown = timed_chart(alloc, chart)?;
+    chart_rows_text(alloc, rows, machines, shown)
+}
+
+/// Returns the text of a value for a list of orders, without the steps that take no time.
 pub(crate) fn order_text(
     alloc: Global,
     rows: Rows,
@@ -199,7 +295,8 @@ pub(crate) fn order_text(
     machines: &[NameLine<'_>],
     view: View,
 ) -> Result<Vec<u8>, AllocError>
-    ensures { IfOk result (λ text. text.items ≡ tasks.rows_text rows (spec.order_view shop.now
+    ensures { IfOk result (λ text. text.items ≡ tasks.order_rows_text rows
+        (map name_of machines.now) (spec.order_view shop.now
         (map name_of orders.now) (map name_of machines.now) (view_of view))) }
 {
     match view {
@@ -217,7 +314,7 @@ pub(crate) fn order_text(
             order_rows(alloc, rows, shop, orders, machines, table)
         }
         View::Listed(table, own) => rows_text(alloc, rows, View::Listed(table, own)),
-        View::Chart(chart) => rows_text(alloc, rows, View::Chart(chart)),
+        View::Chart(chart) => order_chart(alloc, rows, machines, &chart),
         View::Text(text) => Ok(text),
     }
 }

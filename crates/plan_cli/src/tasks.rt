@@ -16,7 +16,7 @@ use crate::comparisons::Pair;
 use crate::links::{project_links_in, subject_links};
 use crate::list_texts::timed_list;
 use crate::names::names_in;
-use crate::order_tables::{order_text, subject_shop};
+use crate::order_tables::{order_rows_text, order_text, subject_shop};
 use crate::origins::Origin;
 use crate::proof::proof_view;
 use crate::slacks::slacks_of;
@@ -434,12 +434,12 @@ pub(crate) fn rows_on(kind: Option<ListKind>, rows: Rows) -> Rows
     }
 }
 
-// Tests whether the table of a task has a row for each step of a job shop.
+// Tests whether a task shows each step of a job shop.
 fn has_steps(task: Task<'_>) -> bool
     ensures { result ≡ spec.has_steps task.entry }
 {
     match task {
-        Task::Days { .. } | Task::Compare { .. } | Task::Solve { .. } => true,
+        Task::Chart { .. } | Task::Days { .. } | Task::Compare { .. } | Task::Solve { .. } => true,
         _ => false,
     }
 }
@@ -483,7 +483,7 @@ fn orders_text<V: ProofWatcher + SolveWatcher, L: Log>(
     let machines = names_of_lines(alloc, of, file)?;
     match subject_shop(alloc, of, file)? {
         Some(shop) => Ok(order_text(alloc, rows, &shop, &orders, &machines, view)?),
-        None => Ok(rows_text(alloc, rows, view)?),
+        None => Ok(order_rows_text(alloc, rows, &machines, view)?),
     }
 }
 
