@@ -1,5 +1,5 @@
--- Tables and charts of a list of orders: without the steps that take no time, and with machines by name
--- (docs/definitions.md, "Runs").
+-- Tables and charts of a list of orders: without the steps that take no time, and with machines by
+-- name (docs/definitions.md, "Runs").
 use Rattle.std.specs.Prelude.{◌≡◌, ℕ, ◌==◌, if◌then◌else◌, List, [], ◌∷◌, ◌++◌, Option, Some, None}
 use Rattle.std.specs.Prelude.{Bool, nat_lt, map, filter, codes}
 use Rattle.plan_orlib.specs.Shop as docs

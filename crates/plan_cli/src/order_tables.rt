@@ -1,4 +1,5 @@
-//! Tables and charts of a list of orders: without the steps that take no time, and with machines by name.
+//! Tables and charts of a list of orders: without the steps that take no time, and with machines by
+//! name.
 
 ghost use Rattle.std.specs.Prelude.{◌≡◌, ◌++◌, map, filter, IfOk, OnOk};
 ghost use Rattle.plan_table.specs.Names.{name_of};
