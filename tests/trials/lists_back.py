@@ -22,7 +22,7 @@ sys.dont_write_bytecode = True
 sys.path.insert(0, os.path.dirname(os.path.abspath(__file__)))
 
 from answers import Wrong, plan, same, written
-from tables import BLANKS, cell_at, decoded, delimiter_of, drawn_bytes, drawn_table, header_of, kind_in, lower
+from tables import BLANKS, Refused, cell_at, decoded, delimiter_of, drawn_bytes, drawn_table, header_of, kind_in, lower
 from tables import records, settled, without, without_groups
 
 SOLVE = ("solve", "--conflicts", "50")
@@ -37,6 +37,14 @@ NO_COLUMN = b"T4 column start, finish or slack twice\n"
 
 def text_of(data):
     return decoded(data)[0].removeprefix("\ufeff")
+
+
+def kind_of(data):
+    """What a file is a list of; nothing if it can't be read."""
+    try:
+        return kind_in(text_of(data).encode())
+    except Refused:
+        return None
 
 
 def rows_of(text):
@@ -125,7 +133,7 @@ def try_list(what, folder, data):
     file = written(folder, "list.csv", data)
     plain = plan(folder, *SOLVE, "--format", "csv", file)
     found = plan(folder, *SOLVE, "--format", "list", file)
-    if kind_in(text_of(data).encode()) != "activities":
+    if kind_of(data) != "activities":
         same(what, found[:2], (1, b""))
         if plain[0] == 0 or not plain[2].startswith(b"T"):
             same(what, found[2], NO_LIST)
