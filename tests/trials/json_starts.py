@@ -69,16 +69,22 @@ def changed(value, k, **members):
 
 
 def refusals_of(draw, text):
-    """Documents that aren't the schedule, each with its line. Row k is at line k + 2."""
+    """Documents that aren't the schedule, each with its line. Row k is at line k + 2. Rows of a job
+    shop's steps of time 0 may be missing."""
     value = json.loads(text)
     rows = value["rows"]
     k = draw.number(0, len(rows) - 1)
     start, end, line = rows[k]["start"], rows[k]["end"], k + 2
-    yield "F9 line %d" % len(rows), {**value, "rows": rows[:-1]}
+    needed = [row for row in rows if "job" not in row or row["d"]]
+    if rows[-1] in needed:
+        yield "F9 line %d" % len(rows), {**value, "rows": rows[:-1]}
     yield "F9 line %d" % (len(rows) + 2), {**value, "rows": [*rows, rows[-1]]}
-    yield "F9 line 1", {**value, "rows": []}
-    yield "F9 line 1", {"makespan": 7}
-    yield f"F7 line {line}", changed(value, k, d=rows[k]["d"] + 1)
+    if needed:
+        yield "F9 line 1", {**value, "rows": []}
+        yield "F9 line 1", {"makespan": 7}
+    # A row of a step of time 0 with another duration is one that no step has.
+    is_left_over = rows[k] not in needed and not any(row["d"] for row in rows[k:])
+    yield f"{'F9' if is_left_over else 'F7'} line {line}", changed(value, k, d=rows[k]["d"] + 1)
     yield f"F7 line {line}", changed(value, k, end=end + 1)
     yield f"F6 line {line}", changed(value, k, start=str(start))
     yield f"F6 line {line}", changed(value, k, start=start + 0.5)
