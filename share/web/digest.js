@@ -1,2 +1,2 @@
 // The SHA-256 of plan.wasm. Written by share/web/engine/make.
-export const DIGEST = "f763795faf17511aea3add1d9e9dc794176e65db6c8fef24aba165de4b570e4b";
+export const DIGEST = "9491dea3cb6c7c0b592106dec2861bde6031bd2c976238883173a28d880ff544";
