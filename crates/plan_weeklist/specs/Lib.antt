@@ -1,0 +1,3 @@
+pub mod Columns
+pub mod Dates
+pub mod Splits
