@@ -1,2 +1,2 @@
 // The SHA-256 of plan.wasm. Written by share/web/engine/make.
-export const DIGEST = "068690254beda854497f2cf9815b52ade434cbd63486ffdd2a955aa400cde5d2";
+export const DIGEST = "f763795faf17511aea3add1d9e9dc794176e65db6c8fef24aba165de4b570e4b";
