@@ -220,11 +220,15 @@ def try_file(draw, random, folder):
     words = case.words(written(folder, FILE, case.text))
     what = f"{case.text!r}: {words}"
     status, output, errors = plan(folder, *words)
-    same(f"{what}: the status and the errors", (status, errors), (0, case.notes))
     calendar = Calendar(case.start, case.marks, set())
     bars = [bar for bar in case.bars() if bar[2] < bar[3]]
     digest = case.digest(folder)
-    events = [wanted_event(case, digest, calendar, bar) for bar in bars]
+    try:
+        events = [wanted_event(case, digest, calendar, bar) for bar in bars]
+    except Fault as fault:
+        same(f"{what}: a late day", (status, output, errors), (1, b"", fault.line.encode() + b"\n"))
+        return "late"
+    same(f"{what}: the status and the errors", (status, errors), (0, case.notes))
     found = events_of(output, case.per_day > 1)
     same(what, found, [event for event in events if event])
     keys = {(escaped_back(name_or(case.ids, number)), step) for number, step, *_ in bars}
