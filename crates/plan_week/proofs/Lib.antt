@@ -7,3 +7,4 @@ mod TardinessLemmas
 mod LimitedLemmas
 mod TardyAnswerLemmas
 mod LimitLemmas
+mod TighteningLemmas

@@ -4,3 +4,4 @@ pub mod WeekAnswers
 pub mod Overloads
 pub mod Tardiness
 pub mod TardinessAnswers
+pub mod Tightening

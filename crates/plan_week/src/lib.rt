@@ -10,6 +10,7 @@ mod overload;
 mod solving;
 mod state;
 mod tardiness;
+mod tightening;
 mod week;
 
 pub use answer::{SolvedWeek, WeekAnswer};
@@ -20,4 +21,5 @@ pub use limit::limit_of;
 pub use overload::{Overload, first_overload};
 pub use solving::solve_week;
 pub use tardiness::{SolvedTardiness, TardyAnswer, solve_tardiness};
+pub use tightening::{Tightened, tighten};
 pub use week::{State, Week};
