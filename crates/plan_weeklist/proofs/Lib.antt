@@ -1,0 +1,2 @@
+mod ListedWeekLemmas
+mod ListedLemmas
