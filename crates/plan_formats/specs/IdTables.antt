@@ -9,7 +9,7 @@ use Rattle.plan_formats.specs.Cells.{Cell, is_empty}
 use Rattle.plan_formats.specs.Columns.{Column}
 use Rattle.plan_formats.specs.NameColumns.{name_of_cell}
 use Rattle.plan_formats.specs.TableLines.{Line, optimal, between, budget, duration, makespan}
-use Rattle.plan_formats.specs.TableLines.{chain, id_chain, moved, id_list, summary}
+use Rattle.plan_formats.specs.TableLines.{chain, id_chain, moved, tardiness, late, id_list, summary}
 use Rattle.plan_formats.specs.Tables.{Table}
 use Rattle.plan_formats.specs.declared.column.Layout.{Layout}
 use Rattle.plan_formats.specs.declared.column.Layout.TheVariants as layout
@@ -79,6 +79,8 @@ chain_in (makespan n) = None
 chain_in (chain js) = js
 chain_in (id_chain js words) = None
 chain_in (moved n count) = None
+chain_in (tardiness lower upper) = None
+chain_in (late n count) = None
 chain_in (id_list word ids) = None
 chain_in (summary name n verdict) = None
 

@@ -9,7 +9,7 @@ use Rattle.serde_json.specs.View.{items_of}
 use Rattle.plan_formats.specs.Cells.{Cell, value_of}
 use Rattle.plan_formats.specs.Columns.{Column}
 use Rattle.plan_formats.specs.TableLines.{Line, optimal, between, budget, duration, makespan}
-use Rattle.plan_formats.specs.TableLines.{chain, id_chain, moved, id_list, summary}
+use Rattle.plan_formats.specs.TableLines.{chain, id_chain, moved, tardiness, late, id_list, summary}
 use Rattle.plan_formats.specs.Tables.{Table}
 
 abbrev pub number_data : ℕ → Data
@@ -64,6 +64,16 @@ abbrev pub with_moved : ℕ → ℕ → Members → Members
 with_moved n count members =
     with_number (codes "compared") count (with_number (codes "moved") n members)
 
+-- members with both bounds of the least greatest tardiness
+abbrev pub with_tardiness : ℕ → ℕ → Members → Members
+with_tardiness lower upper members = with_number (codes "tardiness_upper_bound") upper
+    (with_number (codes "tardiness_lower_bound") lower members)
+
+-- members with the numbers of late activities and of all
+abbrev pub with_late : ℕ → ℕ → Members → Members
+with_late n count members =
+    with_number (codes "activities") count (with_number (codes "late") n members)
+
 -- members with the makespan and the verdict of a schedule
 abbrev pub with_summary : List ℕ → ℕ → List ℕ → Members → Members
 with_summary name n verdict members =
@@ -83,6 +93,8 @@ with_line members (makespan n) = with_number (codes "makespan") n members
 with_line members (chain js) = put (codes "chain") (chain_data js) members
 with_line members (id_chain js ids) = with_id_chain js ids members
 with_line members (moved n count) = with_moved n count members
+with_line members (tardiness lower upper) = with_tardiness lower upper members
+with_line members (late n count) = with_late n count members
 with_line members (id_list word ids) = put word (words_data ids) members
 with_line members (summary name n verdict) = with_summary name n verdict members
 

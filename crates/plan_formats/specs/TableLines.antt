@@ -1,5 +1,5 @@
 -- The lines above and below the rows of a table (docs/definitions.md, "Formats").
-use Rattle.std.specs.Prelude.{ℕ, List, [], ◌∷◌, ◌++◌, Option, Some, None, Vec, codes, decimal, map}
+use Rattle.std.specs.Prelude.{ℕ, List, [], ◌∷◌, ◌++◌, Option, Some, None, Vec, codes, decimal, if◌then◌else◌, map, nat_lt}
 use Rattle.std.specs.Prelude.{string_bytes}
 use Rattle.std.specs.List.{flat_map}
 use Rattle.std.specs.declared.alloc.Global.{Global}
@@ -18,6 +18,10 @@ pub data Line : Type 0 where
   id_chain : List ℕ → List (List ℕ) → Line
   -- how many activities moved, and how many were compared
   moved : ℕ → ℕ → Line
+  -- a lower and an upper bound of the least greatest tardiness
+  tardiness : ℕ → ℕ → Line
+  -- how many activities are late, and how many there are
+  late : ℕ → ℕ → Line
   -- a word and ids
   id_list : List ℕ → List (List ℕ) → Line
   -- a name, a makespan and a verdict
@@ -38,6 +42,8 @@ line_of (kept.Makespan n) = makespan n
 line_of (kept.Chain js) = chain (chain_of js)
 line_of (kept.IdChain js ids) = id_chain js.items (map (λ id. id.items) ids.items)
 line_of (kept.Moved n count) = moved n count
+line_of (kept.Tardiness lower upper) = tardiness lower upper
+line_of (kept.Late n count) = late n count
 line_of (kept.Ids word ids) = id_list word.now (map (λ id. id.items) ids.items)
 line_of (kept.Summary name n verdict) = summary name.now n (string_bytes verdict)
 
@@ -59,6 +65,12 @@ abbrev pub none_before : List (List ℕ) → List ℕ
 none_before [] = codes "none "
 none_before (id ∷ ids) = []
 
+-- the least number, or its bounds
+abbrev pub bound_words : ℕ → ℕ → List ℕ
+bound_words lower upper =
+    if nat_lt lower upper then codes "between " ++ decimal lower ++ codes " " ++ decimal upper
+    else codes "optimal " ++ decimal upper
+
 -- the text of a line, without its line feed
 abbrev pub line_words : Line → List ℕ
 line_words (optimal n) = codes "optimal " ++ decimal n
@@ -70,6 +82,8 @@ line_words (makespan n) = codes "makespan " ++ decimal n
 line_words (chain js) = chain_text js
 line_words (id_chain js ids) = codes "chain" ++ spaced_words ids
 line_words (moved n count) = codes "moved " ++ decimal n ++ codes " of " ++ decimal count
+line_words (tardiness lower upper) = codes "tardiness " ++ bound_words lower upper
+line_words (late n count) = codes "late " ++ decimal n ++ codes " of " ++ decimal count
 line_words (id_list word ids) = none_before ids ++ word ++ spaced_words ids
 line_words (summary name n verdict) =
     name ++ codes " makespan " ++ decimal n ++ codes ": " ++ verdict

@@ -203,6 +203,34 @@ fn put_moved(
     put_number(alloc, object, "compared", count)
 }
 
+// Sets both bounds of the least greatest tardiness.
+fn put_tardiness(
+    alloc: Global,
+    object: &mut Map<String, Value>,
+    lower: u64,
+    upper: u64,
+) -> Result<(), AllocError>
+    ensures { OnOk result (members_view object.new.entries
+        ≡ spec.with_tardiness lower upper (members_view object.old.entries)) }
+{
+    put_number(alloc, object, "tardiness_lower_bound", lower)?;
+    put_number(alloc, object, "tardiness_upper_bound", upper)
+}
+
+// Sets the numbers of late activities and of all.
+fn put_late(
+    alloc: Global,
+    object: &mut Map<String, Value>,
+    late: u64,
+    count: u64,
+) -> Result<(), AllocError>
+    ensures { OnOk result (members_view object.new.entries
+        ≡ spec.with_late late count (members_view object.old.entries)) }
+{
+    put_number(alloc, object, "late", late)?;
+    put_number(alloc, object, "activities", count)
+}
+
 // Sets the makespan and the verdict of a schedule.
 fn put_summary(
     alloc: Global,
@@ -234,6 +262,8 @@ fn put_line(alloc: Global, object: &mut Map<String, Value>, line: &Line) -> Resu
         Line::Chain(chain) => put(object, alloc, "chain", chain_value(alloc, chain)?),
         Line::IdChain(numbers, ids) => put_id_chain(alloc, object, numbers, ids),
         Line::Moved(moved, count) => put_moved(alloc, object, *moved, *count),
+        Line::Tardiness(lower, upper) => put_tardiness(alloc, object, *lower, *upper),
+        Line::Late(late, count) => put_late(alloc, object, *late, *count),
         Line::Ids(word, ids) => put(object, alloc, word, words_value(alloc, ids)?),
         Line::Summary {
             name,

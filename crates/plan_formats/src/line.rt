@@ -19,6 +19,11 @@ pub enum Line {
     IdChain(Vec<u32>, Vec<Vec<u8>>),
     /// `moved 3 of 14`: how many activities start at another time, of those in both schedules.
     Moved(u64, u64),
+    /// `tardiness optimal 3` or `tardiness between 1 3`: a lower and an upper bound of the least
+    /// greatest tardiness.
+    Tardiness(u64, u64),
+    /// `late 4 of 12`: how many activities are late, and how many there are.
+    Late(u64, u64),
     /// `added A B` or `none added`: a word and ids.
     Ids(&'static str, Vec<Vec<u8>>),
     /// `A makespan 7: active`: the name, the makespan and the verdict of a schedule.

@@ -14,7 +14,7 @@ fn worded(alloc: Global, word: &str, n: u64) -> Result<String, AllocError>
     format!(in alloc; "{word} {n}")
 }
 
-// Returns two bounds of the least makespan.
+// Returns two bounds of the least number.
 fn bounds_words(alloc: Global, lower: u64, upper: u64) -> Result<String, AllocError>
     ensures { IfOk result (λ text. string_bytes text
         ≡ codes "between " ++ decimal lower ++ codes " " ++ decimal upper) }
@@ -112,6 +112,37 @@ fn moved_words(alloc: Global, moved: u64, count: u64) -> Result<String, AllocErr
     of_count(alloc, &front, count)
 }
 
+// Returns the least number, or its bounds.
+fn bound_words(alloc: Global, lower: u64, upper: u64) -> Result<String, AllocError>
+    ensures { IfOk result (λ text. string_bytes text ≡ spec.bound_words lower upper) }
+{
+    if lower < upper {
+        bounds_words(alloc, lower, upper)
+    } else {
+        worded(alloc, "optimal", upper)
+    }
+}
+
+// Returns the bounds of the least greatest tardiness.
+fn tardiness_words(alloc: Global, lower: u64, upper: u64) -> Result<String, AllocError>
+    ensures { IfOk result (λ text. string_bytes text
+        ≡ codes "tardiness " ++ spec.bound_words lower upper) }
+{
+    let bounds = bound_words(alloc, lower, upper)?;
+    let mut text = format!(in alloc; "tardiness ")?;
+    text.push_str(&bounds)?;
+    Ok(text)
+}
+
+// Returns the numbers of late activities and of all.
+fn late_words(alloc: Global, late: u64, count: u64) -> Result<String, AllocError>
+    ensures { IfOk result (λ text. string_bytes text
+        ≡ codes "late " ++ decimal late ++ codes " of " ++ decimal count) }
+{
+    let front = worded(alloc, "late", late)?;
+    of_count(alloc, &front, count)
+}
+
 // Returns the text of a word and ids.
 fn ids_text(alloc: Global, word: &str, ids: &[Vec<u8>]) -> Result<Vec<u8>, AllocError>
     ensures { IfOk result (λ text. text.items ≡ spec.none_before (map (λ id. id.items) ids.now)
@@ -139,6 +170,10 @@ fn line_words(alloc: Global, line: &Line) -> Result<Vec<u8>, AllocError>
         Line::Chain(chain) => Ok(chain_text(alloc, chain)?.into_bytes()),
         Line::IdChain(_, ids) => id_chain_text(alloc, ids),
         Line::Moved(moved, count) => Ok(moved_words(alloc, *moved, *count)?.into_bytes()),
+        Line::Tardiness(lower, upper) => {
+            Ok(tardiness_words(alloc, *lower, *upper)?.into_bytes())
+        }
+        Line::Late(late, count) => Ok(late_words(alloc, *late, *count)?.into_bytes()),
         Line::Ids(word, ids) => ids_text(alloc, word, ids),
         Line::Summary {
             name,
