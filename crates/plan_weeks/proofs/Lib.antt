@@ -1,0 +1,2 @@
+mod PlanLemmas
+mod WeekTextLemmas

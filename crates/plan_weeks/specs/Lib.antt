@@ -1,0 +1,4 @@
+pub mod Faults
+pub mod WeekPlans
+pub mod WeekTables
+pub mod WeekTexts
