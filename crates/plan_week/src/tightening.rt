@@ -77,7 +77,8 @@ fn untightened(
 ) -> Result<Tightened, AllocError>
     requires plan { weeks.IsWeekPlan week.now starts.now }
     requires in_time { greatest_tardiness week.now starts.now ≤ late }
-    ensures { IfOk result (spec.IsTightenedOf week.now late) }
+    ensures answer { IfOk result (spec.IsTightenedOf week.now late) }
+    ensures conflicts { IfOk result (λ tightened. tightened.conflicts ≡ conflicts) }
 {
     let copy = Vec::from_slice(alloc, starts)?;
     let makespan = makespan_of(week, starts);
