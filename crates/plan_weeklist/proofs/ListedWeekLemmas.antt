@@ -1,5 +1,5 @@
 -- Rows and activities behind others.
-use Rattle.std.proofs.Common.{◌≡◌, ℕ, ◌≤◌, Bool, arith, List, [], None, length, map, drop, ap, ◌∙◌}
+use Rattle.std.proofs.Common.{◌≡◌, ℕ, ◌≤◌, Bool, arith, List, [], None, length, map, drop, ap, sym, ◌∙◌}
 use Rattle.std.proofs.lemmas.List.{drop-map, drop_all, length-map}
 use Rattle.plan_psplib.specs.Head.{most_resources}
 use Rattle.plan_table.specs.declared.table.Activity as declared_activity
@@ -7,7 +7,7 @@ use Rattle.plan_table.specs.declared.table.Resource as declared_resource
 use Rattle.plan_table.specs.Limits.{IsTable, most_rows}
 use Rattle.plan_table.specs.Table.{activity_of, resource_of, table_of}
 use Rattle.plan_weeklist.specs.declared.rows.DatedRow as declared_row
-use Rattle.plan_weeklist.specs.ListedWeeks.{first_arc, first_dates}
+use Rattle.plan_weeklist.specs.ListedWeeks.{first_dates}
 use Rattle.plan_weeklist.specs.Rows.{dated_of}
 
 -- the dates of the rows that are left
@@ -19,15 +19,13 @@ pub no_dates_left : (rows : List declared_row.DatedRow) (n : ℕ) → length row
 no_dates_left rows n past =
     dates_dropped rows n ∙ ap (λ (left : List declared_row.DatedRow). first_dates (map dated_of left)) (drop_all n rows past)
 
--- the arc through the waits that are left
-pub arc_dropped : (k : ℕ) (all : List declared_activity.Activity) (n : ℕ) → first_arc k (drop n (map activity_of all)) ≡ first_arc k (map activity_of (drop n all))
-arc_dropped k all n = ap (first_arc k) (drop-map activity_of n all)
+-- the activities that are left
+pub those_dropped : (all : List declared_activity.Activity) (n : ℕ) → map activity_of (drop n all) ≡ drop n (map activity_of all)
+those_dropped all n = sym (drop-map activity_of n all)
 
--- no wait is left
-pub no_arc_left : (k : ℕ) (all : List declared_activity.Activity) (n : ℕ) → length all ≤ n
-    → first_arc k (drop n (map activity_of all)) ≡ first_arc k []
-no_arc_left k all n past =
-    arc_dropped k all n ∙ ap (λ (left : List declared_activity.Activity). first_arc k (map activity_of left)) (drop_all n all past)
+-- no activity is left
+pub none_left : (all : List declared_activity.Activity) (n : ℕ) → length all ≤ n → [] ≡ drop n (map activity_of all)
+none_left all n past = ap (map activity_of) (sym (drop_all n all past)) ∙ those_dropped all n
 
 -- a table has few activities and few resources
 pub few_rows : (own : Bool) (activities : List declared_activity.Activity) (resources : List declared_resource.Resource)

@@ -48,14 +48,14 @@ pub record AreTables (overrides : List Override) (today : Option ℕ) (bytes : L
 -- the table and the week of a file
 abbrev pub IsListedWeek : List Override → Option ℕ → List ℕ → ListedWeek → Type 0
 IsListedWeek overrides today bytes listed =
-    (list : WeekList) (p : PlainList) × AreTables overrides today bytes list p listed.table
+    (list : WeekList) × (p : PlainList) × AreTables overrides today bytes list p listed.table
     × IsWeekOf listed.table (week_rows_of list.rows) today listed.week
 
 -- the first step that fails is that of the dates
 abbrev pub FailsDates : List Override → Option ℕ → List ℕ → WeekError → Type 0
 FailsDates overrides today bytes error =
     IsNoWeekList overrides today (utf8_of bytes) error
-    ⊎ ((list : WeekList) (p : PlainList) (t : Table) × AreTables overrides today bytes list p t
+    ⊎ ((list : WeekList) × (p : PlainList) × (t : Table) × AreTables overrides today bytes list p t
     × IsNoWeek t (week_rows_of list.rows) error)
 
 -- it is that of the plain list
@@ -67,7 +67,7 @@ FailsPlain overrides today bytes fault =
 -- it is that of the table
 abbrev pub FailsTable : List Override → Option ℕ → List ℕ → ReadError → Type 0
 FailsTable overrides today bytes error =
-    (list : WeekList) (p : PlainList) × AreLists overrides today bytes list p
+    (list : WeekList) × (p : PlainList) × AreLists overrides today bytes list p
     × IsRefusedWith overrides (table_text list p bytes) error
 
 -- why a file is no list with a week; out of memory may come at any time

@@ -180,7 +180,7 @@ pub record IsWeekOf (t : Table) (r : WeekRows) (today : Option ℕ) (week : Week
   pub activities : IsPlanned t.own_ids r.rows (number_or 0 today) (planned t r) t.activities week
   pub capacities : week.capacities.items ≡ map (λ resource. resource.capacity) t.resources
   pub absences : absences_in t.resources [] r.absences ≡ Ok week.absences.items
-  pub today : week.today ≡ number_or 0 today
+  pub now : week.today ≡ number_or 0 today
 
 -- there is no week: an absence of what is no resource; out of memory may come at any time
 abbrev pub IsNoWeek : Table → WeekRows → WeekError → Type 0

@@ -51,16 +51,23 @@ fn first_arc(k: u32, waits: &[Activity]) -> Arc
     }
 }
 
+// The activities from a place on.
+#[tactic(auto, using(crate::proofs::ListedWeekLemmas::those_dropped, crate::proofs::ListedWeekLemmas::none_left))]
+fn from_place(all: &[Activity], place: usize) -> &[Activity]
+    ensures { map activity_of result.now ≡ drop place (map activity_of all.now) }
+{
+    if place < all.len() {
+        &all[place..]
+    } else {
+        &[]
+    }
+}
+
 // The arc to activity `k` through the wait at a place.
-#[tactic(auto, using(crate::proofs::ListedWeekLemmas::arc_dropped, crate::proofs::ListedWeekLemmas::no_arc_left))]
 fn arc_through(all: &[Activity], k: u32, place: usize) -> Arc
     ensures { result ≡ spec.first_arc k (drop place (map activity_of all.now)) }
 {
-    if place < all.len() {
-        first_arc(k, &all[place..])
-    } else {
-        first_arc(k, &[])
-    }
+    first_arc(k, from_place(all, place))
 }
 
 // The arc to activity `k` from a predecessor.

@@ -1,6 +1,6 @@
 //! A list as a week: from its bytes to its table and its week.
 
-ghost use Rattle.std.specs.Prelude.{◌≡◌, ◌×◌, map, IfErr, IfOk};
+ghost use Rattle.std.specs.Prelude.{◌≡◌, map, IfErr, IfOk};
 ghost use Rattle.plan_table.specs.Overrides.{override_of};
 ghost use Rattle.plan_weeklist.specs.ListedLists as spec;
 ghost use Rattle.plan_weeklist.specs.declared.listed.ListFault.TheVariants as faults;
@@ -74,7 +74,7 @@ impl From<ReadError> for ListFault {
 
 /// Reads a list as a week, with given capacities. `today` is the instant from which on is planned,
 /// if it is known; otherwise it is 0.
-#[tactic(auto, using(crate::proofs::ListedLemmas::dates_refused, crate::proofs::ListedLemmas::plain_refused, crate::proofs::ListedLemmas::table_refused))]
+#[tactic(auto, using(crate::proofs::ListedLemmas::is_listed, crate::proofs::ListedLemmas::dates_refused, crate::proofs::ListedLemmas::plain_refused, crate::proofs::ListedLemmas::table_refused, crate::proofs::ListedLemmas::week_refused))]
 pub fn read_week(
     alloc: Global,
     overrides: &[Override<'_>],

@@ -57,7 +57,7 @@ fn dates_at(place: usize, rows: &[DatedRow]) -> Option<Dates>
 
 // The dates of activity `k`.
 fn dates_of(list: Rows<'_>, k: usize, activity: &Activity) -> Option<Dates>
-    ensures { result ≡ spec.dates_of list.own_ids (map listed.dated_of list.rows.now) k
+    ensures { result ≡ spec.dates_of list.entry.own_ids (map listed.dated_of list.entry.rows.now) k
         (activity_of activity.now) }
 {
     if list.own_ids {
@@ -69,7 +69,7 @@ fn dates_of(list: Rows<'_>, k: usize, activity: &Activity) -> Option<Dates>
 
 // The dates of activity `k`, or none.
 fn dates_for(list: Rows<'_>, k: usize, activity: &Activity) -> Dates
-    ensures { result ≡ spec.dates_for list.own_ids (map listed.dated_of list.rows.now) k
+    ensures { result ≡ spec.dates_for list.entry.own_ids (map listed.dated_of list.entry.rows.now) k
         (activity_of activity.now) }
 {
     match dates_of(list, k, activity) {
@@ -87,7 +87,7 @@ fn dates_for(list: Rows<'_>, k: usize, activity: &Activity) -> Dates
 
 // How many activities are before the first wait.
 fn planned_count(list: Rows<'_>, activities: &[Activity]) -> usize
-    ensures count { result ≡ spec.planned_from list.own_ids (map listed.dated_of list.rows.now) 0
+    ensures count { result ≡ spec.planned_from list.entry.own_ids (map listed.dated_of list.entry.rows.now) 0
         (map activity_of activities.now) }
     ensures few { result ≤ length activities.now }
 {
@@ -146,8 +146,8 @@ fn durations_of(
     list: Rows<'_>,
     activities: &[Activity],
 ) -> Result<Vec<u32>, AllocError>
-    ensures durations { IfOk result (λ v. v.items ≡ spec.placed (spec.durations_at list.own_ids
-        (map listed.dated_of list.rows.now)) [] 0 (map activity_of activities.now)) }
+    ensures durations { IfOk result (λ v. v.items ≡ spec.placed (spec.durations_at list.entry.own_ids
+        (map listed.dated_of list.entry.rows.now)) [] 0 (map activity_of activities.now)) }
     ensures whole { IfOk result (λ v. length v.items ≡ length activities.now) }
 {
     let mut durations = Vec::new(alloc);
@@ -165,8 +165,8 @@ fn states_of(
     today: u32,
     activities: &[Activity],
 ) -> Result<Vec<State>, AllocError>
-    ensures states { IfOk result (λ v. v.items ≡ spec.placed (spec.states_at list.own_ids
-        (map listed.dated_of list.rows.now) today) [] 0 (map activity_of activities.now)) }
+    ensures states { IfOk result (λ v. v.items ≡ spec.placed (spec.states_at list.entry.own_ids
+        (map listed.dated_of list.entry.rows.now) today) [] 0 (map activity_of activities.now)) }
     ensures whole { IfOk result (λ v. length v.items ≡ length activities.now) }
 {
     let mut states = Vec::new(alloc);
@@ -183,8 +183,8 @@ fn dues_of(
     list: Rows<'_>,
     activities: &[Activity],
 ) -> Result<Vec<Option<u32>>, AllocError>
-    ensures { IfOk result (λ v. v.items ≡ spec.placed (spec.dues_at list.own_ids
-        (map listed.dated_of list.rows.now)) [] 0 (map activity_of activities.now)) }
+    ensures { IfOk result (λ v. v.items ≡ spec.placed (spec.dues_at list.entry.own_ids
+        (map listed.dated_of list.entry.rows.now)) [] 0 (map activity_of activities.now)) }
 {
     let mut dues = Vec::new(alloc);
     for (k, activity) in activities.iter().enumerate() {

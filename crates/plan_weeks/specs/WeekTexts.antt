@@ -16,13 +16,13 @@ use Rattle.plan_weeks.specs.WeekTables.{listed_view}
 -- a text is that of a plan for a goal of the week of a file
 pub record IsTextOf (goal : Goal) (now : Option ℕ) (bytes text : List ℕ) (listed : ListedWeek)
     (plan : WeekPlan) : Type 0 where
-  pub listed : IsListedWeek [] now bytes listed
+  pub week : IsListedWeek [] now bytes listed
   pub planned : IsPlanned goal listed.week plan
-  pub text : text ≡ text_of (listed_view listed.table.activities listed.week plan)
+  pub shown : text ≡ text_of (listed_view listed.table.activities listed.week plan)
 
 abbrev pub IsWeekText : Goal → Option ℕ → List ℕ → List ℕ → Type 0
 IsWeekText goal now bytes text =
-    (listed : ListedWeek) (plan : WeekPlan) × IsTextOf goal now bytes text listed plan
+    (listed : ListedWeek) × (plan : WeekPlan) × IsTextOf goal now bytes text listed plan
 
 -- the week of a list has no plan
 abbrev pub IsUnplannedBy : ℕ → ListedWeek → WeekTextFault → Type 0
