@@ -1,6 +1,6 @@
 -- Rows and activities behind others.
-use Rattle.std.proofs.Common.{◌≡◌, ℕ, ◌≤◌, Bool, arith, List, [], None, length, map, drop, ap, sym, ◌∙◌}
-use Rattle.std.proofs.lemmas.List.{drop-map, drop_all, length-map}
+use Rattle.std.proofs.Common.{◌≡◌, ℕ, ◌≤◌, ◌-◌, Bool, arith, List, [], None, length, map, drop, take, ap, sym, ◌∙◌}
+use Rattle.std.proofs.lemmas.List.{drop-map, drop_all, length-drop, length-map, take_all}
 use Rattle.plan_psplib.specs.Head.{most_resources}
 use Rattle.plan_table.specs.declared.table.Activity as declared_activity
 use Rattle.plan_table.specs.declared.table.Resource as declared_resource
@@ -22,6 +22,10 @@ no_dates_left rows n past =
 -- the activities that are left
 pub those_dropped : (all : List declared_activity.Activity) (n : ℕ) → map activity_of (drop n all) ≡ drop n (map activity_of all)
 those_dropped all n = sym (drop-map activity_of n all)
+
+-- a slice from a place to the end
+pub rest_of : {A : Type 0} (n : ℕ) (xs : List A) → take (length xs - n) (drop n xs) ≡ drop n xs
+rest_of n xs = take_all (length xs - n) (drop n xs) (omega (arith, length-drop n xs))
 
 -- no activity is left
 pub none_left : (all : List declared_activity.Activity) (n : ℕ) → length all ≤ n → [] ≡ drop n (map activity_of all)
