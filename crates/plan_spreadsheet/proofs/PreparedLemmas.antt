@@ -1,4 +1,4 @@
--- What a file becomes with options.
+-- Lemmas on the plain list that options make of a file.
 use Rattle.std.proofs.Common.{◌≡◌, ◌⊎◌, inl, inr, ℕ, Bool, true, false, List, Option, Some, None, Vec, Result, Ok, Err, sym, ap, ◌∙◌, subst}
 use Rattle.std.specs.declared.alloc.Global.{Global}
 use Rattle.plan_encoding.specs.declared.text.Decoded.{Decoded}
