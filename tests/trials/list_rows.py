@@ -452,7 +452,7 @@ def try_slack(case):
     chain = chain_in(case, output, slacks)
     cells = {j: [*own, slacks[j]] for j, own in times_of(project, starts).items()}
     labels = None if chain is None else [case.drawn.label(j) for j in chain if j in case.drawn.numbers()]
-    members = {"chain": chain, **({"chain_ids": labels} if case.drawn.ids else {})}
+    members = {"chain": chain, **({"chain_ids": labels} if case.drawn.ids and chain else {})}
     line = "no chain" if chain is None else " ".join(["chain", *labels])
     flags = {j: slack == 0 for j, slack in slacks.items()}
     sheet = Sheet(case.drawn, ["d", "start", "end", "slack"], 8, cells, flags, [line], members)

@@ -23,7 +23,7 @@ sys.path.insert(0, os.path.dirname(os.path.abspath(__file__)))
 
 from answers import Wrong, plan, same, written
 from tables import BLANKS, Refused, cell_at, decoded, delimiter_of, drawn_bytes, drawn_table, header_of, kind_in, lower
-from tables import records, settled, without, without_groups
+from tables import is_note, open_columns, records, settled, without, without_groups
 
 SOLVE = ("solve", "--conflicts", "50")
 DATES = ("2024-03-01", "mon-fri")
@@ -55,6 +55,9 @@ def rows_of(text):
 def lines_of(found):
     """The lines of the rows of activities, in their order."""
     found = without_groups(found, {})
+    columns, _, _ = open_columns(found, {})
+    notes = [k for k, key in columns.items() if is_note(key, [cell_at(cells, k) for _, cells in found[1:]])]
+    found = without(found, notes)
     kinds, keys, names = header_of(*found[0])
     kinds = settled(kinds, keys, names, [cells for _, cells in found[1:]], {})
     rows = found[1:]
