@@ -8,7 +8,7 @@ import { listOf, noteFile, sentFile, takeBytes, takeFile } from "./import.js";
 import { isAlone, isUnsaved, keepPlans, plansIn, replaceFile, savedFile } from "./local.js";
 import { leavePlan } from "./plan.js";
 import { askLists, showPlans } from "./plans.js";
-import { printed } from "./program.js";
+import { keepPage, printed } from "./program.js";
 import { newPage, page, recordOf, remember } from "./state.js";
 import { bringBack } from "./whole.js";
 
@@ -26,6 +26,9 @@ capacity,,,,4
 
 // the texts of the list before each change
 let earlier = [];
+// the program reads one change after another; so many of them are left
+let reading = Promise.resolve();
+let changes = 0;
 
 const bytesOfText = (text) => new TextEncoder().encode(text);
 
@@ -46,7 +49,8 @@ export async function showEdit(file) {
   byId("undo").hidden = !earlier.length;
   byId("grid-part").hidden = !rows;
   if (!rows) byId("list-text").open = true;
-  if (!rows) return;
+  // the fields have later changes, which are read next
+  if (!rows || changes) return;
   showGrid(rows, (next) => readAgain({ list: listText(next) }));
   const message = file.list.fault?.message ?? "";
   markLine(Number(message.match(/\bline (\d+)/)?.[1] ?? 0), message);
@@ -58,13 +62,23 @@ const listName = (name) => (/\.(csv|tsv)$/i.test(name) ? name : `${name}.csv`);
 const takeText = (text) => takeBytes({ ...page.file, name: listName(page.file.name), text,
   bytes: bytesOfText(text) });
 
-async function readAgain({ list }) {
-  const text = list.replaceAll("\r\n", "\n");
-  if (text !== page.file.text) earlier.push(page.file.text);
-  await takeText(text);
+function afterReading(action) {
+  changes += 1;
+  const next = () => {
+    changes -= 1;
+    return page.file && action();
+  };
+  reading = reading.then(next, next);
+  return reading;
 }
 
-const undo = () => earlier.length && takeText(earlier.pop());
+const readAgain = ({ list }) => afterReading(() => {
+  const text = list.replaceAll("\r\n", "\n");
+  if (text !== page.file.text) earlier.push(page.file.text);
+  return takeText(text);
+});
+
+const undo = () => afterReading(() => earlier.length && takeText(earlier.pop()));
 
 /** Keeps the list of a plan, so that it can be changed. */
 export function noteList(n, { name, text, given }) {
@@ -100,6 +114,7 @@ export async function openAlone() {
   document.documentElement.dataset.alone = "";
   newPage().desk = "own";
   await askLists();
+  keepPage();
 }
 
 /** Takes the example, or the template of a project or a job shop. */
