@@ -5,20 +5,23 @@ import { ask, askTable, planPath, Refusal, tableOf } from "./api.js";
 import { showChanges } from "./changes.js";
 import { fillPaper, showChart } from "./chart.js";
 import {
-  all, byId, clear, download, faultNodes, fill, letTake, make, onSubmit, put, refusalNode, say,
-  tableNode, tell,
+  all, byId, clear, download, during, faultNodes, fill, letTake, make, onSubmit, put, refusalNode,
+  say, tableNode, tell,
 } from "./dom.js";
 import { showEditable } from "./edit.js";
 import { TEXTS } from "./handin.js";
+import { sentFile } from "./import.js";
+import { keptPlan } from "./keep.js";
 import { verdictWords } from "./messages.js";
 import { visitPlace } from "./place.js";
 import { markOpen, showPlans } from "./plans.js";
 import { searchWords, shorterOf } from "./search.js";
 import { page, recordOf, remember, RULES, shapeOf, WORDS_OF_KIND } from "./state.js";
-import { savedText, solved, verdictOf } from "./subject.js";
+import { ownList, savedText, solved, verdictOf } from "./subject.js";
 import { showTable } from "./table.js";
 import { learn, nameOf, namesIn, needWords, settle, viewOf } from "./view.js";
-import { wholeText } from "./whole.js";
+import { letAskWhatIf, showWhatIf } from "./whatif.js";
+import { bringBack, wholeText } from "./whole.js";
 import { COLUMN_WORDS, RULE_NAMES, RULE_WORDS } from "./words.js";
 
 let view = null;
@@ -101,6 +104,7 @@ export async function showPlan() {
   showPlans();
   showParts(plan);
   showChanges(plan);
+  showWhatIf(plan);
   showDates(plan);
   showEditable(plan);
   put("handin-words", "Mend the plan first: there is no schedule to hand in.");
@@ -140,6 +144,7 @@ function showDrawn() {
   showTable(view, `Schedule by ${nameOf(plan, plan.drawn)}`);
   showSaves(view);
   showDayNote(plan);
+  byId("keep-row").hidden = !isKeepable(plan);
   put("handin-words", `The schedule that is drawn: ${nameOf(plan, plan.drawn)}.`);
   return point;
 }
@@ -239,6 +244,12 @@ async function searchBest({ seconds }) {
   return searchWords(plan);
 }
 
+// a schedule by a rule is that of its plan already
+const isKeepable = ({ model, drawn, schedules }) =>
+  model && !RULES.project.concat(RULES.shop).includes(drawn) && !schedules.get(drawn).isInfeasible;
+
+const keep = async () => bringBack([await keptPlan(view)], sentFile);
+
 // without the plan's file the office searches
 const askBest = async (plan) => tableOf(await ask(planPath(plan.n, "best", OFFICE_BUDGET)));
 
@@ -264,7 +275,8 @@ function showSaves({ plan, calendar }) {
   for (const button of all("#saves button")) {
     const { value } = button;
     const isAble = value === "all.json" ? recordOf(plan.n).file
-      : TEXTS[value] || (plan.model && (value !== "ics" || calendar));
+      : value === "list.csv" ? calendar && ownList(plan)
+        : TEXTS[value] || (plan.model && (value !== "ics" || calendar));
     button.hidden = !isAble;
   }
 }
@@ -322,9 +334,11 @@ export async function takeStarts(text) {
 }
 
 export function letPlanAct() {
+  letAskWhatIf();
   onSubmit("best", searchBest);
   onSubmit("check", ({ starts }) => showVerdict(starts));
   byId("cancel").onclick = () => searching?.abort();
+  byId("keep").onclick = () => during(byId("keep"), byId("keep-answer"), keep);
   letTake(byId("check-zone"), async (file) => takeStarts(await file.text()));
   byId("saves").onclick = ({ target: { value } }) => value && save(value);
   byId("colours").onchange = byId("lines").onchange = showDrawn;

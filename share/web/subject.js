@@ -218,13 +218,26 @@ export async function solved(plan, seconds, told, signal) {
   return best;
 }
 
-/** Returns a file to save: `report`, `ics` or `svg`. */
-export function savedText({ model, subject: { files, words, title } }, form, starts, calendar) {
-  const { start, days, holidays = "" } = calendar ?? {};
-  const given = { ...files, holidays, starts: earlyStarts(model, starts) };
+/** Returns the list that a plan's file comes from, as its `text` with the capacities `given`; null
+ * if it has none, or if binds or lags changed the plan. */
+export function ownList({ n, kind, model }) {
+  const { list } = recordOf(n);
+  return kind === "project" && model && !model.isChanged && list ? list : null;
+}
+
+const capacitiesOf = (list) =>
+  (list?.given ?? []).flatMap(([name, amount]) => ["--capacity", `${name}=${amount}`]);
+
+/** Returns a file to save: the list, `report`, `ics` or `svg`. */
+export function savedText(plan, form, starts, calendar) {
+  const { model, subject: { files, words, title } } = plan;
+  const { start, days, holidays = "" } = calendar ?? {}, list = ownList(plan);
+  const given = { ...files, holidays, starts: earlyStarts(model, starts), "list.csv": list?.text ?? "" };
   const free = freeOf({ holidays });
   const dates = start ? ["--start", start, "--days", days, ...free] : [];
   const commands = {
+    "list.csv": ["days", "--format", "list", ...free, ...capacitiesOf(list), "--starts", "starts",
+      start, days, "list.csv"],
     html: ["report", `--title=${title}`, ...dates, "--starts", "starts", ...words],
     ics: ["days", "--format", "ics", ...free, "--starts", "starts", start, days, ...words],
     svg: ["chart", "--svg", "--starts", "starts", ...words],

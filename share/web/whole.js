@@ -1,10 +1,11 @@
 // Everything about a plan of a desk as one file, and its way back: the file and the list, binds,
-// lags, the calendar, and the schedule that was drawn. It has the form of what plan.html saves.
+// lags, the calendar, and the schedule that was drawn. It has the form of what plan.html saves. A
+// schedule that is kept becomes a new plan in the same way.
 
 import { command, orRefusal, planPath, Refusal } from "./api.js";
 import { fill, put, refusalNode } from "./dom.js";
 import { activityLabel, machineLabel, resourceLabel } from "./labels.js";
-import { fileOf } from "./local.js";
+import { fileOf, isAlone } from "./local.js";
 import { sentencesOf } from "./messages.js";
 import { openPlan, takeStarts } from "./plan.js";
 import { page, recordOf, rememberChange, remember } from "./state.js";
@@ -29,7 +30,8 @@ function changesIn({ bind = {}, lag = {}, calendar }) {
     return { part: "lag", value: { at, lag: time }, body: { from, to, lag: time } };
   });
   const { start, days, holidays } = calendar ?? {};
-  const dates = { part: "calendar", value: { start, days, holidays }, body: { start, days } };
+  const dates = { part: "calendar", value: { start, days, holidays },
+    body: { start, days, ...(holidays && isAlone() && { holidays }) } };
   return [...binds, ...lags, ...(calendar ? [dates] : [])];
 }
 
