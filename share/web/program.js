@@ -19,10 +19,22 @@ if (inside("worker-text")) {
   address = URL.createObjectURL(text);
 }
 
-// the policy passes one address, whatever it is asked for
+// the policy passes two addresses: of the worker, and of what keeps plan.html on a phone
+const addresses = { worker: address, cache: "plan-cache.js" };
 const policy = globalThis.trustedTypes?.createPolicy("program", {
-  createScriptURL: () => address,
+  createScriptURL: (name) => addresses[name],
 });
+const addressOf = (name) => policy?.createScriptURL(name) ?? addresses[name];
+
+/** Lets the browser keep plan.html if it is served, so that it opens without a network. */
+export async function keepPage() {
+  if (!location.protocol.startsWith("http")) return;
+  const link = document.createElement("link");
+  document.head.append(Object.assign(link, { rel: "manifest", href: "plan.webmanifest" }));
+  const options = { scope: location.pathname, updateViaCache: "none" };
+  // without the two files beside it, the page isn't kept
+  await navigator.serviceWorker?.register(addressOf("cache"), options).catch(() => {});
+}
 
 async function moduleBytes() {
   const packed = inside("packed-module");
@@ -44,7 +56,7 @@ const loaded = () => (module ??= moduleBytes().then((bytes) => load(bytes, DIGES
     fault.message}.`);
 }));
 
-const newWorker = () => new Worker(policy?.createScriptURL("") ?? address,
+const newWorker = () => new Worker(addressOf("worker"),
   { type: inside("worker-text") ? "classic" : "module" });
 
 const contentOf = (content) =>
