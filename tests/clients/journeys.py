@@ -58,8 +58,7 @@ def journey_planner(browser):
     wanted = ["" if row[2] == row[3] else str(days[int(row[3]) - 1]) for row in rows]
     same("the last days", column(browser, "last day"), wanted)
     same("weeks", "weeks begin on Monday" in seen(browser, "#caption"), True)
-    sheets = browser.printed()
-    same("the sheets", sheets.count(b"/Type /Page\n"), 2)
+    same("the sheets", browser.sheets(), 2)
     browser.click("#leave")
 
 

@@ -1468,6 +1468,35 @@ def visit_whole(browser, office):
     wait_text(browser, "#import-answer .refusal", "Drop another saved file: this one is damaged.")
 
 
+def visit_keep(browser, office):
+    """The schedule that a search found becomes a new plan of the desk, with the bind, the lag and the
+    calendar: all its schedules by rules are that one. Another capacity is tried without a change."""
+    n = max(seen_plans(browser))
+    wait_plan(browser, n)
+    submit(browser, "best")
+    browser.click("#drawn [value=best]")
+    table = seen_table(browser, "#table")
+    starts = column(browser, "start")
+    open_tab(browser, "changes")
+    browser.type("#whatif [name=capacity]", "9")
+    submit(browser, "whatif")
+    wait_text(browser, "#whatif-answer", "With 9 of ")
+    same("the office after what-if", listed(office.server)[-1], n)
+    browser.click("#keep")
+    wait_text(browser, "#news", f"house (kept) is plan {n + 1}, with 3 changes.")
+    wait_plan(browser, n + 1)
+    wait_idle(browser)
+    same("the values set", values_set(browser), ["1", "2", "3", "5", "2024-03-01"])
+    heads = ("start", "end", "first day", "last day")
+    same("the days that were kept", [column(browser, head) for head in heads],
+         [[row[table[0].index(head)] for row in table[1:]] for head in heads])
+    for rule in RULES:
+        path = f"/desks/{DESK}/plans/{n + 1}/schedule/{rule}"
+        answer = talk(office.server.port, Exchange("GET", path, KEY).request()).decode()
+        rows = rows_of(answer.partition("\r\n\r\n")[2].splitlines())
+        same(f"the office's schedule {rule}", [row[2] for row in rows], starts)
+
+
 def visit_module(browser):
     """A module of another digest is refused; the page goes on without slack."""
     state = lambda script: browser.call("POST", "/execute/async", {"script": script, "args": []})
@@ -1611,5 +1640,5 @@ VISIT = [
     visit_names, visit_other,
     visit_shop, visit_colours, visit_links, visit_focus, visit_closed, visit_refused, visit_keys, visit_back, visit_delete,
     visit_lost, visit_found, visit_waiting, visit_sizes, visit_senses, visit_paper, visit_orders,
-    visit_cancel, visit_whole, visit_quiet, visit_module, visit_pictures,
+    visit_cancel, visit_whole, visit_keep, visit_quiet, visit_module, visit_pictures,
 ]

@@ -176,6 +176,11 @@ class Browser:
         body = {"cmd": command, "params": parameters}
         return self.call("POST", "/goog/cdp/execute", body)
 
+    def not_installable(self):
+        """What is wrong with the manifest of the page, or hinders its installation."""
+        found = self.devtools("Page.getAppManifest")["errors"]
+        return found + self.devtools("Page.getInstallabilityErrors")["installabilityErrors"]
+
     def complaints(self):
         """What the browser says of the page in its console."""
         entries = self.call("POST", "/se/log", {"type": "browser"})
@@ -193,6 +198,15 @@ class Browser:
     def picture(self):
         """The window as a PNG."""
         return base64.b64decode(self.call("GET", "/screenshot"))
+
+    def saving(self, folder):
+        """Lets the page save files, and returns the folder that they go to."""
+        self.devtools("Browser.setDownloadBehavior", behavior="allow", downloadPath=folder)
+        return folder
+
+    def sheets(self):
+        """How many sheets the page has on paper."""
+        return self.printed().count(b"/Type /Page\n")
 
     def printed(self):
         """The page on paper, as a PDF."""
