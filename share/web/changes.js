@@ -12,7 +12,10 @@ import { dropPlan, showPlans } from "./plans.js";
 import { CODE_KINDS, page, recordOf, rememberChange } from "./state.js";
 import { namesIn } from "./view.js";
 
-const NOT_HERE = "Not set on this computer; the office doesn't tell it.";
+const notHere = () =>
+  (isAlone() ? "Not set." : "Not set on this computer; the office doesn't tell it.");
+const setOn = ({ on }) =>
+  (isAlone() ? `Set on ${on}.` : `Set here on ${on}; the office doesn't tell it.`);
 const DAYS = ["Mo", "Tu", "We", "Th", "Fr", "Sa", "Su"];
 
 const daysIn = (marks) => DAYS.filter((_, at) => marks[at] === "1").join(", ");
@@ -91,7 +94,7 @@ async function deletePlan() {
 function showSet(place, changes, words) {
   const made = Object.values(changes ?? {}).sort((a, b) => a.time - b.time);
   const told = made.map((change) => `${words(change)} (set here on ${change.on})`);
-  put(place, told.join("; ") || NOT_HERE);
+  put(place, told.join("; ") || notHere());
   return made.at(-1) ?? {};
 }
 
@@ -135,8 +138,7 @@ function showCalendar(calendar) {
   start.value = calendar?.start ?? "";
   holidays.value = calendar?.holidays ?? "";
   boxes().forEach((box, at) => { box.checked = (calendar?.days ?? "1111100")[at] === "1"; });
-  put("calendar-set", calendar
-    ? `Set here on ${calendar.on}; the office doesn't tell it.` : NOT_HERE);
+  put("calendar-set", calendar ? setOn(calendar) : notHere());
 }
 
 export function showChanges(plan) {

@@ -26,11 +26,12 @@ export function linksFor({ durations, arcs }, starts) {
 // the steps of a job shop as activities: their ids, and their names if there are some
 function stepLabels({ names, resources }, rows) {
   const idOf = ({ job, step }) => `${job}.${step}`;
-  const nameOf = ({ job, mach }) => [names[job] ?? `job ${job}`, resources[mach] ?? `machine ${mach}`];
+  const nameOf = ({ job, mach }) =>
+    [names[job] ?? `job ${job}`, resources[mach] ?? `machine ${mach}`].join(", ");
   const numbered = (wordsOf) => Object.fromEntries(rows.map((row, at) => [at + 1, wordsOf(row)]));
   const machines = Math.max(...rows.map(({ mach }) => mach)) + 1;
   return {
-    ids: numbered(idOf), names: numbered((row) => nameOf(row).join(", ")),
+    ids: numbered(idOf), names: numbered(nameOf),
     resources: Object.fromEntries(Array.from({ length: machines }, (_, mach) =>
       [mach + 1, resources[mach] ?? `machine ${mach}`])),
   };

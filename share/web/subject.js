@@ -232,7 +232,8 @@ const capacitiesOf = (list) =>
 export function savedText(plan, form, starts, calendar) {
   const { model, subject: { files, words, title } } = plan;
   const { start, days, holidays = "" } = calendar ?? {}, list = ownList(plan);
-  const given = { ...files, holidays, starts: earlyStarts(model, starts), "list.csv": list?.text ?? "" };
+  const early = earlyStarts(model, starts);
+  const given = { ...files, holidays, starts: early, "list.csv": list?.text ?? "" };
   const free = freeOf({ holidays });
   const dates = start ? ["--start", start, "--days", days, ...free] : [];
   const commands = {

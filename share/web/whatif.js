@@ -30,8 +30,9 @@ function withCapacity(plan, place, capacity) {
 function comparedWith(plan, total) {
   const shown = plan.schedules.get(plan.drawn).total;
   const gain = shown - total;
-  return gain ? `${Math.abs(gain)} ${gain > 0 ? "shorter" : "longer"} than the schedule that is drawn `
-    + `(${shown})` : "as long as the schedule that is drawn";
+  const word = gain > 0 ? "shorter" : "longer";
+  return gain ? `${Math.abs(gain)} ${word} than the schedule that is drawn (${shown})`
+    : "as long as the schedule that is drawn";
 }
 
 async function searchWith({ place, capacity }) {
@@ -39,7 +40,8 @@ async function searchWith({ place, capacity }) {
   const words = `${capacity} of ${resourceLabel(plan.labels, Number(place) + 1)}`;
   const told = (line) => page.plan === plan && fill("whatif-answer", tell(line));
   const { signal } = new AbortController();
-  const found = await solved(withCapacity(plan, Number(place), Number(capacity)), SECONDS, told, signal);
+  const other = withCapacity(plan, Number(place), Number(capacity));
+  const found = await solved(other, SECONDS, told, signal);
   if (page.plan !== plan) return "";
   fill("whatif-answer");
   if (!found) return `No schedule was found within ${SECONDS} seconds.`;

@@ -70,7 +70,7 @@ export async function bringBack(plans, imported) {
     const changes = changesIn(set);
     const lost = await setAgain(n, changes);
     const count = counted(changes.length - lost.length, "change");
-    told.push(`${record.title} is plan ${n}, with ${count}.`);
+    told.push(`${record.title} is plan ${n}${changes.length ? `, with ${count}` : ""}.`);
     await openPlan(n);
     refused.push(...lost.map((change) => lostNode(n, change)));
     if (/^(best|own)$/.test(schedule?.name)) await takeStarts(schedule.starts);
