@@ -1,5 +1,5 @@
 """The three journeys of examples/README.md, "A desk in the browser", step by step, at the desks of
-share/web/try.
+share/web/try; and a class that hands in schedules.
 """
 
 import csv
@@ -8,15 +8,16 @@ import importlib.machinery
 import importlib.util
 import io
 import os
+import subprocess
 
-from exchanges import file_of
+from exchanges import OFFICE_KEY, TOP, file_of
 from front import WEB
 from page_units import worked_days
 from pages import (
     drop, example, makespan_of, open_tab, printed, rows_of, seen, seen_table, set_date, submit, texts,
-    wait_plan, wait_text,
+    wait_idle, wait_plan, wait_text,
 )
-from programs import same
+from programs import plan, same
 from visits import column, downloaded, sign_in
 
 
@@ -107,4 +108,58 @@ def journey_foreman(browser, office):
     browser.click("#leave")
 
 
-JOURNEYS = [journey_planner, journey_student, journey_foreman]
+def new_class(office, count):
+    """Opens the desks of a class by plan-office: their names and keys."""
+    room = os.path.dirname(office.database)
+    for name, text in (("servers", f"127.0.0.1:{office.server.port}\n"), ("office.key", f"{OFFICE_KEY}\n")):
+        with open(os.path.join(room, name), "w", encoding="ascii") as file:
+            file.write(text)
+    words = [os.path.join(TOP, "plan-office"), "--new-keys", str(count), "--desks", "class.csv", "servers", "office.key"]
+    done = subprocess.run(words, cwd=room, capture_output=True, timeout=300, encoding="ascii")
+    same("a new class", (done.returncode, done.stderr, done.stdout.count("opened ")), (0, "", count))
+    with open(os.path.join(room, "class.csv"), encoding="ascii") as file:
+        return [line.strip().split(",") for line in file][1:]
+
+
+def hand_in(browser, office, desk, key, rule):
+    """A student signs in, imports the exercise, and saves a schedule as three files: their texts."""
+    sign_in(browser, desk, key)
+    wait_text(browser, "#plans", "No plans yet.")
+    drop_example(browser, "five.sm")
+    wait_plan(browser, 1)
+    if rule == "best":
+        submit(browser, "best")
+    browser.click(f"#drawn [value={rule}]")
+    texts_of = [downloaded(browser, office, form) for form in ("starts", "json", "all")]
+    same("the names of the files", [name for name, _ in texts_of],
+         [f"{desk}-plan-1-{rule}.{form}" for form in ("starts.txt", "json", "all.json")])
+    browser.click("#leave")
+    return [text for _, text in texts_of]
+
+
+def journey_class(browser, office):
+    """Three students of a class hand in schedules of one exercise. The teacher drops the files on her own
+    plan of it, and gets the verdict of `plan check` on each; everything about a plan becomes a plan."""
+    rules = ("lft", "spt", "best")
+    handed = [hand_in(browser, office, desk, key, rule) for (desk, key), rule in zip(new_class(office, 3), rules)]
+    # at her desk she has the exercise as plan 5
+    sign_in(browser, "north", "north-key-1")
+    browser.wait("plan 5", "return document.querySelector('#plans [value=\"5\"]')")
+    browser.click("#plans [value='5']")
+    wait_plan(browser, 5)
+    for (starts, as_json, _), rule in zip(handed, rules):
+        verdict = plan("check", example("five.sm"), "-", given=starts.encode())[1].decode().strip()
+        lines = printed("solve", example("five.sm"))[1:] if rule == "best" else printed("schedule", rule, example("five.sm"))
+        for text in (starts, as_json):
+            drop(browser, f"{rule}.txt", text)
+            wait_text(browser, "#check-answer code", verdict)
+            wait_text(browser, "#check-answer", f"makespan {makespan_of(lines)}.")
+            wait_idle(browser)
+    drop(browser, "all.json", handed[2][2])
+    wait_text(browser, "#news", "five is plan 7.")
+    wait_plan(browser, 7)
+    wait_text(browser, "#check-answer code", "active")
+    browser.click("#leave")
+
+
+JOURNEYS = [journey_planner, journey_student, journey_foreman, journey_class]
