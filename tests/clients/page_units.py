@@ -224,6 +224,31 @@ def try_slack(modules, draw):
         same(f"the slack of {case}", found, model)
 
 
+def try_kept(modules, draw):
+    """The links of a kept schedule give it by each rule, also in projects with lags. A schedule that is later
+    than it must be has none."""
+    models, starts = [], []
+    for _ in range(50):
+        durations, arcs, needs, capacities = drawn_project(draw)
+        lags = {(at, to - 1): draw.randrange(1, 4) for at, row in enumerate(arcs) for to in row if draw.random() < 0.3}
+        models.append(as_model(durations, arcs, needs, capacities, lags))
+    count = [len(model["durations"]) for model in models]
+    texts = modules.values([["subject", "projectText", [model]] for model in models])
+    for text, size in zip(texts, count):
+        starts.append(starts_by(draw.choice(["lft", "num", "spt"]), text.encode())[:size])
+    found = modules.values([["keep", "linksFor", list(case)] for case in zip(models, starts)])
+    for model, answer in zip(models, found):
+        model["arcs"] = [*model["arcs"], *answer["links"]]
+    kept = modules.values([["subject", "projectText", [model]] for model in models])
+    for text, wanted, size in zip(kept, starts, count):
+        for rule in ("lft", "slk", "spt", "mts", "num"):
+            same(f"{rule} of a kept schedule", starts_by(rule, text.encode())[:size], wanted)
+    same("some links", sum(len(answer["links"]) for answer in found) > 20, True)
+    late = modules.values([["keep", "linksFor", [model, [start + 1 for start in times]]]
+                           for model, times in zip(models, starts)])
+    same("links of late schedules", ["late" in answer for answer in late], [True] * len(late))
+
+
 def moved_earlier(model, starts):
     """The first activity that can start earlier, all others fixed, counted from 1; 0 for none."""
     for at, start in enumerate(starts):
@@ -591,8 +616,8 @@ def try_sorting(modules, draw):
     same("orders", [(order > 0) - (order < 0) for order in found], [-1, 1, 1, 1, -1, 0])
 
 
-TRIALS = [try_slack, try_verdicts, try_shops, try_use, try_search, try_hand_in, try_projects,
-          try_messages, try_layout, try_sorting]
+TRIALS = [try_slack, try_kept, try_verdicts, try_shops, try_use, try_search, try_hand_in,
+          try_projects, try_messages, try_layout, try_sorting]
 
 
 def try_units(room, web, seed=1):
