@@ -114,8 +114,8 @@ def new_class(office, count):
     for name, text in (("servers", f"127.0.0.1:{office.server.port}\n"), ("office.key", f"{OFFICE_KEY}\n")):
         with open(os.path.join(room, name), "w", encoding="ascii") as file:
             file.write(text)
-    words = [os.path.join(TOP, "plan-office"), "--new-keys", str(count), "--desks", "class.csv", "servers", "office.key"]
-    done = subprocess.run(words, cwd=room, capture_output=True, timeout=300, encoding="ascii")
+    words = ["--new-keys", str(count), "--desks", "class.csv", "servers", "office.key"]
+    done = subprocess.run([os.path.join(TOP, "plan-office"), *words], cwd=room, capture_output=True, timeout=300, encoding="ascii")
     same("a new class", (done.returncode, done.stderr, done.stdout.count("opened ")), (0, "", count))
     with open(os.path.join(room, "class.csv"), encoding="ascii") as file:
         return [line.strip().split(",") for line in file][1:]
@@ -149,11 +149,12 @@ def journey_class(browser, office):
     wait_plan(browser, 5)
     for (starts, as_json, _), rule in zip(handed, rules):
         verdict = plan("check", example("five.sm"), "-", given=starts.encode())[1].decode().strip()
-        lines = printed("solve", example("five.sm"))[1:] if rule == "best" else printed("schedule", rule, example("five.sm"))
+        words = ["solve"] if rule == "best" else ["schedule", rule]
+        makespan = makespan_of(printed(*words, example("five.sm")))
         for text in (starts, as_json):
             drop(browser, f"{rule}.txt", text)
             wait_text(browser, "#check-answer code", verdict)
-            wait_text(browser, "#check-answer", f"makespan {makespan_of(lines)}.")
+            wait_text(browser, "#check-answer", f"makespan {makespan}.")
             wait_idle(browser)
     drop(browser, "all.json", handed[2][2])
     wait_text(browser, "#news", "five is plan 7.")
