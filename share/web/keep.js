@@ -40,13 +40,13 @@ function stepLabels({ names, resources }, rows) {
 /** Returns the drawn schedule as a plan of a saved file. */
 export async function keptPlan({ plan, starts }) {
   const { n, kind, model, labels } = plan;
-  const { links, late } = linksFor(model, starts);
-  if (!links) {
-    throw new Refusal(`Keep another schedule: ${activityLabel(labels, late + 1, starts.length)} `
-      + "begins later than it must, and no link says so.");
-  }
   const [{ rows }] = plan.schedules.values();
   const names = kind === "shop" ? stepLabels(labels, rows) : labels;
+  const { links, late } = linksFor(model, starts);
+  if (!links) {
+    throw new Refusal(`Keep another schedule: ${activityLabel(names, late + 1, starts.length)} `
+      + "begins later than it must, and no link says so.");
+  }
   const linked = { ...model, arcs: [...model.arcs, ...links] };
   const text = await printed(["schedule", "num", "plan.sm"],
     { "plan.sm": projectText(linked, names) });
@@ -56,7 +56,7 @@ export async function keptPlan({ plan, starts }) {
   }
   // a project's file has its own capacities and no lags: binds and lags are set again
   const base = kind === "shop" ? model : page.projects.get(n);
-  const arcs = [...base.arcs, ...links].map((arc) => ({ ...arc, lag: 0 }));
+  const arcs = [...base.arcs, ...links];
   const { set, title } = recordOf(n);
   return {
     kind: "project", instance: "-", calendar: set?.calendar,
