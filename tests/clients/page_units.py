@@ -237,6 +237,7 @@ def try_kept(modules, draw):
     for text, size in zip(texts, count):
         starts.append(starts_by(draw.choice(["lft", "num", "spt"]), text.encode())[:size])
     found = modules.values([["keep", "linksFor", list(case)] for case in zip(models, starts)])
+    same("schedules that can't be kept", [answer for answer in found if "late" in answer], [])
     for model, answer in zip(models, found):
         model["arcs"] = [*model["arcs"], *answer["links"]]
     kept = modules.values([["subject", "projectText", [model]] for model in models])
