@@ -30,7 +30,7 @@ async function changePlan(part, body, valueOf, words, lacking) {
     throw fault;
   });
   rememberChange(n, part, valueOf(made));
-  if (page.plan?.n === n) await openPlan(n);
+  if (page.plan?.n === n) await openPlan(n, part === "calendar" ? page.plan : null);
   return words(made);
 }
 

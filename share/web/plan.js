@@ -28,7 +28,8 @@ let view = null;
 // ends the search that is on
 let searching = null;
 
-export async function openPlan(n) {
+/** Opens a plan. If only its calendar has changed, `before` is the plan as it was. */
+export async function openPlan(n, before = null) {
   const { kind } = page.plans.find((plan) => plan.n === n);
   const isNew = page.plan?.n !== n;
   const drawn = !isNew && RULES[kind].includes(page.plan.drawn) ? page.plan.drawn : RULES[kind][0];
@@ -42,6 +43,7 @@ export async function openPlan(n) {
     if (kind === "project") plan.dates = await askTable(planPath(n, "dates"));
     await askSchedules(plan);
     if (page.plan === plan) await showPlan();
+    if (page.plan === plan && before && !plan.fault) await keepOthers(plan, before);
   } catch (fault) {
     if (page.plan === plan) fill("plan-answer", ...faultNodes(fault));
   }
@@ -61,6 +63,18 @@ async function askSchedules(plan) {
     plan.days.set(rule, await askTable(planPath(plan.n, "days", rule)));
     if (plan.days.get(rule) instanceof Refusal) return;
   }
+}
+
+// keeps the schedules that no rule made, and the one that is drawn
+async function keepOthers(plan, { schedules, drawn }) {
+  const others = [...schedules].filter(([rule]) => !RULES[plan.kind].includes(rule));
+  for (const [rule, table] of others) {
+    plan.schedules.set(rule, table);
+    await learn(plan, rule);
+  }
+  if (page.plan !== plan || !others.length) return;
+  plan.drawn = drawn;
+  showSchedules();
 }
 
 const headOf = ({ n, kind }) => `Plan ${n}, a ${WORDS_OF_KIND[kind]}`;
