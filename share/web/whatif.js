@@ -1,4 +1,4 @@
-// What another capacity would change: a search with it, which leaves the plan as it is.
+// Searches for a schedule with another capacity of a resource. The plan stays as it is.
 
 import { byId, fill, make, onSubmit, tell } from "./dom.js";
 import { resourceLabel } from "./labels.js";
