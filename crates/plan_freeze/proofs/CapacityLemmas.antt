@@ -48,51 +48,63 @@ last_of_busy p starts s t k (suc n) = by_cases (last_of_busy p starts s t k n) (
     | inr (inl lower) ↦ none i lower
     | inr (inr above) ↦ absurd (omega (arith, below, above))
   ])
-  by_cases (inr none) (inl some) = inl (n, record {
-    inside = omega arith;
-    busy = busy_from p s t k n some;
-    last = λ i below busy. elim (cases_order i n) [
-      | inl same ↦ subst (λ (x : ℕ). get_or starts i 0 ≤ get_or starts x 0) same (omega arith)
-      | inr (inl lower) ↦
-          let during = amount_during p t k i (get_or s i 0) busy.begun busy.runs in
-          let free = none i lower in
-          let needs = busy.needs in
-          absurd (omega (arith, during, free, needs))
-      | inr (inr above) ↦ absurd (omega (arith, below, above))
-    ];
-  })
-  by_cases (inl (m, last)) (inr free) = inl (m, record {
-    inside = omega (arith, last.inside);
-    busy = last.busy;
-    last = λ i below busy. elim (cases_order i n) [
-      | inl same ↦
-          let during = amount_during p t k i (get_or s i 0) busy.begun busy.runs in
-          let here : amount_at p s t k i ≤ 0 = subst (λ (x : ℕ). amount_at p s t k x ≤ 0) (sym same) free in
-          let needs = busy.needs in
-          absurd (omega (arith, during, here, needs))
-      | inr (inl lower) ↦ last.last i lower busy
-      | inr (inr above) ↦ absurd (omega (arith, below, above))
-    ];
-  })
-  by_cases (inl (m, last)) (inl some) = elim (cases_lt (get_or starts m 0) (get_or starts n 0)) [
-    | inl later ↦ inl (n, record {
+  by_cases (inr none) (inl some) = inl (
+    n,
+    record {
       inside = omega arith;
       busy = busy_from p s t k n some;
       last = λ i below busy. elim (cases_order i n) [
         | inl same ↦ subst (λ (x : ℕ). get_or starts i 0 ≤ get_or starts x 0) same (omega arith)
-        | inr (inl lower) ↦ let high = last.last i lower busy in omega (arith, high, later)
+        | inr (inl lower) ↦
+            let during = amount_during p t k i (get_or s i 0) busy.begun busy.runs in
+            let free = none i lower in
+            let needs = busy.needs in
+            absurd (omega (arith, during, free, needs))
         | inr (inr above) ↦ absurd (omega (arith, below, above))
       ];
-    })
-    | inr earlier ↦ inl (m, record {
+    },
+  )
+  by_cases (inl (m, last)) (inr free) = inl (
+    m,
+    record {
       inside = omega (arith, last.inside);
       busy = last.busy;
       last = λ i below busy. elim (cases_order i n) [
-        | inl same ↦ subst (λ (x : ℕ). get_or starts x 0 ≤ get_or starts m 0) (sym same) earlier
+        | inl same ↦
+            let during = amount_during p t k i (get_or s i 0) busy.begun busy.runs in
+            let here : amount_at p s t k i ≤ 0 = subst (λ (x : ℕ). amount_at p s t k x ≤ 0) (sym same) free in
+            let needs = busy.needs in
+            absurd (omega (arith, during, here, needs))
         | inr (inl lower) ↦ last.last i lower busy
         | inr (inr above) ↦ absurd (omega (arith, below, above))
       ];
-    })
+    },
+  )
+  by_cases (inl (m, last)) (inl some) = elim (cases_lt (get_or starts m 0) (get_or starts n 0)) [
+    | inl later ↦ inl (
+      n,
+      record {
+        inside = omega arith;
+        busy = busy_from p s t k n some;
+        last = λ i below busy. elim (cases_order i n) [
+          | inl same ↦ subst (λ (x : ℕ). get_or starts i 0 ≤ get_or starts x 0) same (omega arith)
+          | inr (inl lower) ↦ let high = last.last i lower busy in omega (arith, high, later)
+          | inr (inr above) ↦ absurd (omega (arith, below, above))
+        ];
+      },
+    )
+    | inr earlier ↦ inl (
+      m,
+      record {
+        inside = omega (arith, last.inside);
+        busy = last.busy;
+        last = λ i below busy. elim (cases_order i n) [
+          | inl same ↦ subst (λ (x : ℕ). get_or starts x 0 ≤ get_or starts m 0) (sym same) earlier
+          | inr (inl lower) ↦ last.last i lower busy
+          | inr (inr above) ↦ absurd (omega (arith, below, above))
+        ];
+      },
+    )
   ]
 
 -- two activities that need a resource at one instant aren't in an order

@@ -1,5 +1,5 @@
 -- Lags that are copied from one network to another, arc by arc.
-use Rattle.std.proofs.Common.{ℕ, ◌≡◌, ◌+◌, ◌<◌, ◌⊎◌, inl, inr, List, [], ◌∷◌, ◌++◌, length, get_or, take, refl, sym, ◌∙◌, ap, subst, arith}
+use Rattle.std.proofs.Common.{ℕ, ◌≡◌, ◌+◌, ◌≤◌, ◌<◌, ◌⊎◌, inl, inr, List, [], ◌∷◌, ◌++◌, length, get_or, take, refl, sym, ◌∙◌, ap, subst, arith}
 use Rattle.std.specs.Prelude.{Contains}
 use Rattle.std.proofs.lemmas.Bool.{cases_eq}
 use Rattle.std.proofs.lemmas.List.{take_more, take_all}
@@ -58,8 +58,8 @@ copied_more given net after m i j within here value others before = record {
       ]
 
 -- once the lags of all arcs are copied, all lags are the same
-pub copied_all : (given net : Net) (m : ℕ) → length given.arcs ≡ m → IsCopied given m net → (a b : ℕ) → lag_of net a b ≡ lag_of given a b
+pub copied_all : (given net : Net) (m : ℕ) → length given.arcs ≤ m → IsCopied given m net → (a b : ℕ) → lag_of net a b ≡ lag_of given a b
 copied_all given net m whole all a b = at (decide_arc given a b) where
   at : Decided (IsArc given a b) → lag_of net a b ≡ lag_of given a b
-  at (inl arc) = all.copied a b (subst (λ (arcs : List (ℕ × ℕ)). Contains arcs (a, b)) (sym (take_all m given.arcs (omega (arith, whole)))) arc)
+  at (inl arc) = all.copied a b (subst (λ (arcs : List (ℕ × ℕ)). Contains arcs (a, b)) (sym (take_all m given.arcs whole)) arc)
   at (inr none) = all.none a b none ∙ sym (no_lag given a b none)

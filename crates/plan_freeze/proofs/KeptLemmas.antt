@@ -35,9 +35,9 @@ decide_leads net rows are a b end = elim (decide_activity net a) [
 pub decide_implied : (net : Net) (rows : List (Vec Bool Global)) → AreReaches net rows → (a b : ℕ) → IsActivity net b → Decided (IsImplied net a b)
 decide_implied net rows are a b end = elim (some_element (λ (arc : ℕ × ℕ). (arc.0 ≡ a) × Leads net arc.1 b)
     (λ arc. decide_both (arc.0 ≡ a) (Leads net arc.1 b) (cases_eq arc.0 a) (λ _. decide_leads net rows are arc.1 b end)) net.arcs) [
-  | inl (arc, has, same, leads) ↦ inl (arc.1, subst (λ (h : ℕ). IsArc net h arc.1) same has, leads)
-  | inr none ↦ inr (λ implied. none (a, implied.0) implied.1 (refl, implied.2))
-]
+      | inl (arc, has, (same, leads)) ↦ inl (arc.1, subst (λ (h : ℕ). IsArc net h arc.1) same has, leads)
+      | inr none ↦ inr (λ implied. none (a, implied.0) implied.1 (refl, implied.2))
+    ]
 
 module _ (given full net : Net) (rank : ℕ → ℕ) (rises : RisesAlong rank full) (limits : IsWithinLimits full)
     (kept : (a b : ℕ) → IsArc net a b → IsKept given full a b) where

@@ -10,8 +10,8 @@ use Rattle.plan_cpm.specs.Reached.{AreReaches}
 use Rattle.plan_sgs.specs.Problem.{IsFeasible}
 use Rattle.plan_sgs.specs.Instances.{Planned, problem_of}
 use Rattle.plan_freeze.specs.Frozen.{IsOrdered, IsFrozen}
-use Rattle.plan_freeze.specs.Rows.{AreRowsOf, IsFull, IsImplied, IsKept, net_of_rows}
-use Rattle.plan_freeze.proofs.RowsLemmas.{arc_from_rows, arc_of_rows}
+use Rattle.plan_freeze.specs.Rows.{AreRowsOf, AreTargets, IsFull, IsImplied, IsKept, net_of_rows}
+use Rattle.plan_freeze.proofs.RowsLemmas.{targets_from_rows, arc_from_rows, arc_of_rows}
 use Rattle.plan_freeze.proofs.RankLemmas.{RisesAlong, acyclic_by_rank, start_rank, ordered_rises}
 use Rattle.plan_freeze.proofs.KeptLemmas.{decide_implied, still_leads, only_path}
 
@@ -99,3 +99,44 @@ module _ (i : Planned) (starts : List ℕ) (full : Net) (reached : List (Vec Boo
       | inl implied ↦ inr implied
       | inr free ↦ inl (back a b (arc, inr free))
     ]
+
+-- ---- the same for a network that is that of the project
+
+-- the full network, what its paths reach, and the rows of kept arcs
+pub record AreKeptRows (i : Planned) (starts : List ℕ) (given full : Net) (reached : List (Vec Bool Global)) (rows : List (Vec ℕ Global)) : Type 0 where
+  pub sound : IsSound i.project.network
+  pub feasible : IsFeasible (problem_of i) starts
+  pub same : given ≡ i.project.network
+  pub is_full : IsFull i starts full
+  pub full_sound : IsSound full
+  pub reaches : AreReaches full reached
+  pub kept : AreRowsOf (count_of full) (IsKept given full) rows
+
+module _ (i : Planned) (starts : List ℕ) (given full : Net) (reached : List (Vec Bool Global)) (rows : List (Vec ℕ Global))
+    (are : AreKeptRows i starts given full reached rows) where
+  rows_kept : AreRowsOf (count_of full) (IsKept i.project.network full) rows
+  rows_kept = subst (λ (net : Net). AreRowsOf (count_of full) (IsKept net full) rows) are.same are.kept
+
+  pub made_targets : AreTargets (count_of given) rows
+  made_targets =
+      let counts : count_of full ≡ count_of given = ap (λ (ds : List ℕ). length ds) are.is_full.durations ∙ sym (ap count_of are.same) in
+      subst (λ (n : ℕ). AreTargets n rows) counts (targets_from_rows (count_of full) (IsKept given full) rows are.kept)
+
+  pub made_acyclic : IsAcyclic (net_of_rows given.durations rows)
+  made_acyclic = subst (λ (net : Net). IsAcyclic (net_of_rows net.durations rows)) (sym are.same)
+      (kept_acyclic i starts full reached rows are.sound are.feasible are.is_full are.full_sound are.reaches rows_kept)
+
+  pub made_arcs : (network : Net) → network ≡ net_of_rows given.durations rows → (a b : ℕ) → IsArc given a b → IsArc network a b
+  made_arcs network is a b arc =
+      let whole : IsArc full a b = are.is_full.whole a b (inl (subst (λ (net : Net). IsArc net a b) are.same arc)) in
+      let ends = arc_ends full a b are.full_sound.limits whole in
+      subst (λ (net : Net). IsArc net a b) (sym is)
+      (arc_of_rows (count_of full) given.durations (IsKept given full) rows are.kept a b ends.0 ends.1 (whole, inl arc))
+
+  pub made_frozen : (network net : Net) → network ≡ net_of_rows given.durations rows → net.durations ≡ network.durations → net.arcs ≡ network.arcs →
+      ((a b : ℕ) → lag_of net a b ≡ lag_of given a b) → IsSound net → IsFrozen i starts net
+  made_frozen network net is durations arcs lags net_sound =
+      let is' : network ≡ net_of_rows i.project.network.durations rows = subst (λ (n : Net). network ≡ net_of_rows n.durations rows) are.same is in
+      frozen_from i starts full reached rows are.sound are.feasible are.is_full are.full_sound are.reaches rows_kept net
+      (durations ∙ ap (λ (n : Net). n.durations) is') (arcs ∙ ap (λ (n : Net). n.arcs) is')
+      (λ a b. lags a b ∙ ap (λ (n : Net). lag_of n a b) are.same) net_sound

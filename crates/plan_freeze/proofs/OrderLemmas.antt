@@ -33,6 +33,7 @@ goes_before_by_tests i starts a b first second a_is b_is here there wide = (
 
   a_lasts : duration p (a - 1) ≡ duration_of i.project.network a
   a_lasts = duration-problem i (a - 1) a a_place
+
   b_lasts : duration p (b - 1) ≡ duration_of i.project.network b
   b_lasts = duration-problem i (b - 1) b b_place
 
@@ -43,7 +44,7 @@ goes_before_by_tests i starts a b first second a_is b_is here there wide = (
   second_needs k = need-problem i (b - 1) b second b_place there k
 
   by_tests : PassesTests i starts a b first second → GoesBefore p starts (a - 1) (b - 1)
-  by_tests (lasts, also, order, (k, within, some, more)) = record {
+  by_tests (lasts, also, order, (k, within, (some, more))) = record {
     first_lasts = omega (arith, a_lasts, lasts);
     second_lasts = omega (arith, b_lasts, also);
     share = (
@@ -66,7 +67,6 @@ goes_before_by_tests i starts a b first second a_is b_is here there wide = (
         (
           k,
           omega (arith, within, wide),
-          omega (arith, some, first_needs k),
-          omega (arith, more, second_needs k),
+          (omega (arith, some, first_needs k), omega (arith, more, second_needs k)),
         ),
       )

@@ -1,6 +1,6 @@
 -- Laws of a frozen network: its feasible lists, its earliest dates and its schedules.
 use Rattle.std.specs.Prelude.{ℕ, ◌≡◌, ◌-◌, ◌↔◌, List, length, slice_index}
-use Rattle.plan_net.specs.Network.{Net, IsActivity}
+use Rattle.plan_net.specs.Network.{Net, IsActivity, IsArc}
 use Rattle.plan_cpm.specs.Dates.{DateTable, AreDates, early_start_of}
 use Rattle.plan_sgs.specs.Problem.{count, KeepsArcs, IsFeasible, IsActive}
 use Rattle.plan_sgs.specs.Serial.{serial}
@@ -9,7 +9,7 @@ use Rattle.plan_sgs.specs.Keys.{IsRuleSchedule}
 use Rattle.plan_sgs.specs.Instances.{Planned, problem_of}
 use Rattle.plan_sgs.specs.declared.rule.Rule.{Rule}
 use Rattle.plan_freeze.specs.Order.{KeepsOrder}
-use Rattle.plan_freeze.specs.Frozen.{with_network, problem_with}
+use Rattle.plan_freeze.specs.Frozen.{with_network, problem_with, IsFrozen}
 
 -- the lists that are feasible with the network are the feasible lists of the project that keep the
 -- order of the starts
@@ -43,3 +43,9 @@ IsEachSerial i starts net =
 abbrev pub IsEachRules : Planned → List ℕ → Net → Type 0
 IsEachRules i starts net =
     (r : Rule) (s : List ℕ) → IsRuleSchedule (with_network i net) r s → s ≡ starts
+
+-- two frozen networks of the same project and starts have the same arcs
+unfoldable pub FrozenArcsAreUnique : Type 0
+FrozenArcsAreUnique =
+    (i : Planned) (starts : List ℕ) (one two : Net) → IsFrozen i starts one → IsFrozen i starts two
+    → (a b : ℕ) → IsArc one a b ↔ IsArc two a b

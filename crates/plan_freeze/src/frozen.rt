@@ -25,16 +25,12 @@ use std::alloc::Global;
 /// `n` cubed.
 ///
 /// Fails with [`FreezeFault::NotActive`] if the starts aren't those of an active schedule.
-pub fn freeze(
-    alloc: Global,
-    instance: &Instance,
-    starts: &[u64],
-) -> Result<Network, FreezeFault>
+pub fn freeze(alloc: Global, instance: &Instance, starts: &[u64]) -> Result<Network, FreezeFault>
     requires whole { length starts.now ≡ count_of instance.now.project.network }
     requires limit { All IsInTime starts.now }
     ensures active { IfOk result (λ _. IsActive (problem_of instance.now) starts.now) }
     ensures frozen { IfOk result (IsFrozen instance.now starts.now) }
-    ensures instance { IfOk result (λ net. IsInstance (with_network instance.now net)) }
+    ensures sound { IfOk result (λ net. IsInstance (with_network instance.now net)) }
     // the feasible lists are those of the project that keep the order of the starts
     ensures order { IfOk result (AllowsOrder instance.now starts.now) }
     // whatever keeps the arcs keeps the capacities
@@ -45,6 +41,8 @@ pub fn freeze(
     ensures rules { IfOk result (IsEachRules instance.now starts.now) }
     ensures refused { IfErr result (RefusesStarts (problem_of instance.now) starts.now) }
 {
+    // The proof needs the facts of the instance, which this call states.
+    let _network = instance.network();
     match check(alloc, instance, starts) {
         Ok(Verdict::Active) => Ok(frozen_network(alloc, instance, starts)?),
         Ok(verdict) => Err(FreezeFault::NotActive(verdict)),

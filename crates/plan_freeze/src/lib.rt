@@ -5,6 +5,7 @@
 
 mod fault;
 mod frozen;
+mod laws;
 mod network;
 mod order;
 mod reach;
@@ -12,3 +13,4 @@ mod rows;
 
 pub use fault::FreezeFault;
 pub use frozen::freeze;
+pub use laws::frozen_arcs_are_unique;

@@ -29,11 +29,7 @@ fn durations_of(alloc: Global, network: &Network) -> Result<Vec<u64>, AllocError
 
 // Returns the network with the durations of another one and these rows of successors. They must
 // have no cycle.
-fn network_of(
-    alloc: Global,
-    network: &Network,
-    rows: Vec<Vec<u32>>,
-) -> Result<Network, AllocError>
+fn network_of(alloc: Global, network: &Network, rows: Vec<Vec<u32>>) -> Result<Network, AllocError>
     requires rows { AreTargets (count_of network.now) rows.items }
     requires acyclic { IsAcyclic (net_of_rows network.now.durations rows.items) }
     ensures network { IfOk result (λ net. net ≡ net_of_rows network.now.durations rows.items) }
@@ -50,18 +46,16 @@ fn network_of(
 }
 
 // Returns the network of all ordered pairs.
-fn full_network(
-    alloc: Global,
-    instance: &Instance,
-    starts: &[u64],
-) -> Result<Network, AllocError>
+fn full_network(alloc: Global, instance: &Instance, starts: &[u64]) -> Result<Network, AllocError>
     requires limit { All IsInTime starts.now }
     requires feasible { IsFeasible (problem_of instance.now) starts.now }
     ensures full { IfOk result (IsFull instance.now starts.now) }
     ensures sound { IfOk result IsSound }
 {
+    let given = instance.network();
     let rows = ordered_rows(alloc, instance, starts)?;
-    network_of(alloc, instance.network(), rows)
+    let full = network_of(alloc, given, rows)?;
+    Ok(full)
 }
 
 // Sets the lag of an arc.
@@ -105,10 +99,11 @@ pub fn frozen_network(
     requires feasible { IsFeasible (problem_of instance.now) starts.now }
     ensures { IfOk result (IsFrozen instance.now starts.now) }
 {
+    let given = instance.network();
     let full = full_network(alloc, instance, starts)?;
     let reached = reaches(alloc, &full)?;
-    let rows = kept_rows(alloc, instance.network(), &full, &reached)?;
-    let mut network = network_of(alloc, instance.network(), rows)?;
-    copy_lags(instance.network(), &mut network);
+    let rows = kept_rows(alloc, given, &full, &reached)?;
+    let mut network = network_of(alloc, given, rows)?;
+    copy_lags(given, &mut network);
     Ok(network)
 }

@@ -1,12 +1,13 @@
 //! The order of two activities that share a resource.
 
 ghost use Rattle.std.specs.Prelude.{◌≡◌, ◌↔◌, ◌-◌, ◌<◌, length, slice_index, All, IsTrue, SomeIndex};
-ghost use Rattle.plan_net.specs.Network.{IsActivity, count_of};
+ghost use Rattle.plan_net.specs.Network.{IsActivity, IsArc, count_of};
 ghost use Rattle.plan_profile.specs.Usage.{IsInTime};
 ghost use Rattle.plan_sgs.specs.Instances.{problem_of};
 ghost use Rattle.plan_freeze.specs.Order as spec;
 ghost use Rattle.plan_freeze.specs.Frozen.{IsOrdered};
 
+use plan_net::Network;
 use plan_sgs::Instance;
 
 // Tests whether two activities need some of the same resource.
@@ -34,10 +35,23 @@ fn goes_before(instance: &Instance, starts: &[u64], i: u32, j: u32) -> bool
 {
     let network = instance.network();
     let lasting = network.duration(i);
-    lasting > 0
-        && network.duration(j) > 0
-        && starts[i as usize - 1] + lasting <= starts[j as usize - 1]
-        && share(instance.needs(i), instance.needs(j))
+    if lasting == 0 || network.duration(j) == 0 {
+        return false;
+    }
+    if starts[i as usize - 1] + lasting > starts[j as usize - 1] {
+        return false;
+    }
+    share(instance.needs(i), instance.needs(j))
+}
+
+/// Tests whether there is an arc from `i` to `j`.
+pub fn has_arc(network: &Network, i: u32, j: u32) -> bool
+    ensures { IsTrue result ↔ IsArc network.now i j }
+{
+    match network.lag(i, j) {
+        Some(_) => true,
+        None => false,
+    }
 }
 
 /// Tests whether there is an arc from `i` to `j`, or `i` goes before `j`.
@@ -48,5 +62,5 @@ pub fn is_ordered(instance: &Instance, starts: &[u64], i: u32, j: u32) -> bool
     requires limit { All IsInTime starts.now }
     ensures { IsTrue result ↔ IsOrdered instance.now starts.now i j }
 {
-    instance.network().lag(i, j).is_some() || goes_before(instance, starts, i, j)
+    has_arc(instance.network(), i, j) || goes_before(instance, starts, i, j)
 }

@@ -7,7 +7,7 @@ ghost use Rattle.plan_profile.specs.Usage.{IsInTime};
 ghost use Rattle.plan_freeze.specs.Frozen.{IsOrdered};
 ghost use Rattle.plan_freeze.specs.Rows.{AreRowsOf, IsKept};
 
-use crate::order::is_ordered;
+use crate::order::{has_arc, is_ordered};
 use crate::reach::is_implied;
 use plan_net::Network;
 use plan_sgs::Instance;
@@ -63,8 +63,7 @@ fn is_kept(network: &Network, full: &Network, reached: &[Vec<bool>], i: u32, j: 
     requires reached { AreReaches full.now reached.now }
     ensures { IsTrue result ↔ IsKept network.now full.now i j }
 {
-    full.lag(i, j).is_some()
-        && (network.lag(i, j).is_some() || !is_implied(full, reached, i, j))
+    has_arc(full, i, j) && (has_arc(network, i, j) || !is_implied(full, reached, i, j))
 }
 
 // Returns the activities to which kept arcs lead from activity `i`.
@@ -97,7 +96,7 @@ pub fn kept_rows(
     full: &Network,
     reached: &[Vec<bool>],
 ) -> Result<Vec<Vec<u32>>, AllocError>
-    requires reached { AreReaches full.now reached.now }
+    requires { AreReaches full.now reached.now }
     ensures { IfOk result (λ rows. AreRowsOf (count_of full.now)
         (IsKept network.now full.now) rows.items) }
 {
