@@ -9,3 +9,4 @@ pub mod CopyLemmas
 pub mod OrderLemmas
 pub mod MadeLemmas
 pub mod OnceLemmas
+pub mod FaultLemmas

@@ -7,6 +7,20 @@ use Rattle.plan_sgs.specs.Instances.{Planned, problem_of}
 use Rattle.plan_sgs.proofs.InstanceLemmas.{capacities-problem, duration-problem, need-problem}
 use Rattle.plan_freeze.specs.Order.{GoesBefore}
 
+-- what goes before says of the durations and starts
+pub goes_before_parts : (i : Planned) (starts : List ℕ) (a b : ℕ) → 1 ≤ a → 1 ≤ b → GoesBefore (problem_of i) starts (a - 1) (b - 1) →
+    (0 < duration_of i.project.network a) × (0 < duration_of i.project.network b)
+    × (get_or starts (a - 1) 0 + duration_of i.project.network a ≤ get_or starts (b - 1) 0)
+goes_before_parts i starts a b a_is b_is before =
+    let a_place : a ≡ a - 1 + 1 = omega (arith, a_is) in
+    let b_place : b ≡ b - 1 + 1 = omega (arith, b_is) in
+    let a_lasts = duration-problem i (a - 1) a a_place in
+    let b_lasts = duration-problem i (b - 1) b b_place in
+    let lasts = before.first_lasts in
+    let also = before.second_lasts in
+    let order = before.order in
+    (omega (arith, lasts, a_lasts), omega (arith, also, b_lasts), omega (arith, order, a_lasts))
+
 -- the tests of the code: both last, the order of the starts, and a need that both have
 abbrev pub PassesTests : Planned → List ℕ → ℕ → ℕ → List ℕ → List ℕ → Type 0
 PassesTests i starts a b first second =

@@ -35,10 +35,15 @@ fn goes_before(instance: &Instance, starts: &[u64], i: u32, j: u32) -> bool
 {
     let network = instance.network();
     let lasting = network.duration(i);
-    if lasting == 0 || network.duration(j) == 0 {
+    if lasting == 0 {
         return false;
     }
-    if starts[i as usize - 1] + lasting > starts[j as usize - 1] {
+    if network.duration(j) == 0 {
+        return false;
+    }
+    let end = starts[i as usize - 1] + lasting;
+    let start = starts[j as usize - 1];
+    if start < end {
         return false;
     }
     share(instance.needs(i), instance.needs(j))
@@ -62,5 +67,9 @@ pub fn is_ordered(instance: &Instance, starts: &[u64], i: u32, j: u32) -> bool
     requires limit { All IsInTime starts.now }
     ensures { IsTrue result ↔ IsOrdered instance.now starts.now i j }
 {
-    has_arc(instance.network(), i, j) || goes_before(instance, starts, i, j)
+    let network = instance.network();
+    if has_arc(network, i, j) {
+        return true;
+    }
+    goes_before(instance, starts, i, j)
 }

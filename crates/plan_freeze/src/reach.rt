@@ -83,7 +83,8 @@ pub fn is_implied(network: &Network, reached: &[Vec<bool>], i: u32, j: u32) -> b
     ensures { IsTrue result ↔ IsImplied network.now i j }
 {
     for &m in network.succs(i) {
-        if reached[m as usize - 1][j as usize - 1] {
+        let place = m as usize - 1;
+        if reached[place][j as usize - 1] {
             return true;
         }
     }

@@ -27,8 +27,9 @@ fn ordered_row(
         × (j ≤ count_of instance.now.project.network)
         × IsOrdered instance.now starts.now i j) row.items) }
 {
+    let network = instance.network();
     let mut row = Vec::new(alloc);
-    for k in 0..instance.network().len() {
+    for k in 0..network.len() {
         let j = k as u32 + 1;
         if is_ordered(instance, starts, i, j) {
             row.push(j)?;
@@ -48,9 +49,11 @@ pub fn ordered_rows(
     ensures { IfOk result (λ rows. AreRowsOf (count_of instance.now.project.network)
         (IsOrdered instance.now starts.now) rows.items) }
 {
+    let network = instance.network();
     let mut rows = Vec::new(alloc);
-    for k in 0..instance.network().len() {
-        rows.push(ordered_row(alloc, instance, starts, k as u32 + 1)?)?;
+    for k in 0..network.len() {
+        let row = ordered_row(alloc, instance, starts, k as u32 + 1)?;
+        rows.push(row)?;
     }
     Ok(rows)
 }
@@ -63,7 +66,13 @@ fn is_kept(network: &Network, full: &Network, reached: &[Vec<bool>], i: u32, j: 
     requires reached { AreReaches full.now reached.now }
     ensures { IsTrue result ↔ IsKept network.now full.now i j }
 {
-    has_arc(full, i, j) && (has_arc(network, i, j) || !is_implied(full, reached, i, j))
+    if !has_arc(full, i, j) {
+        return false;
+    }
+    if has_arc(network, i, j) {
+        return true;
+    }
+    !is_implied(full, reached, i, j)
 }
 
 // Returns the activities to which kept arcs lead from activity `i`.
@@ -102,7 +111,8 @@ pub fn kept_rows(
 {
     let mut rows = Vec::new(alloc);
     for k in 0..full.len() {
-        rows.push(kept_row(alloc, network, full, reached, k as u32 + 1)?)?;
+        let row = kept_row(alloc, network, full, reached, k as u32 + 1)?;
+        rows.push(row)?;
     }
     Ok(rows)
 }
