@@ -1,8 +1,8 @@
 -- Lists of starts that keep the order of a feasible list keep the capacities: activities that need
 -- a resource at one instant need it at one instant of the feasible list too.
-use Rattle.std.proofs.Common.{ℕ, zero, suc, ◌≡◌, ◌+◌, ◌≤◌, ◌<◌, ◌⊎◌, inl, inr, List, length, get_or, sym, subst, arith}
+use Rattle.std.proofs.Common.{ℕ, zero, suc, ◌≡◌, ◌+◌, ◌≤◌, ◌<◌, ◌⊎◌, inl, inr, List, length, get_or, Some, sym, subst, arith}
 use Rattle.std.proofs.lemmas.Bool.{cases_lt, cases_order}
-use Rattle.plan_sgs.specs.Problem.{Problem, count, duration, need, capacity, all_placed, usage, total, KeepsCapacities, IsFeasible}
+use Rattle.plan_sgs.specs.Problem.{Problem, count, duration, need, capacity, amount_of, all_placed, usage, total, KeepsCapacities, IsFeasible}
 use Rattle.plan_sgs.proofs.TotalLemmas.{total_grows, total_none}
 use Rattle.plan_sgs.proofs.AmountLemmas.{amount_before, amount_during}
 use Rattle.plan_sgs.proofs.StartLemmas.{amount_at, amount_late, amount_most, usage_is}
@@ -14,7 +14,7 @@ record IsBusy (p : Problem) (s : List ℕ) (t k i : ℕ) : Type 0 where
   runs : t < get_or s i 0 + duration p i
   needs : 0 < need p i k
 
-busy_from : (p : Problem) (s : List ℕ) (t k i : ℕ) → 0 < amount_at p s t k i → IsBusy p s t k i
+busy_from : (p : Problem) (s : List ℕ) (t k i : ℕ) → 0 < amount_of p t k i (Some (get_or s i 0)) → IsBusy p s t k i
 busy_from p s t k i some = elim (cases_lt t (get_or s i 0)) [
   | inl early ↦ absurd (omega (arith, some, amount_before p t k i (get_or s i 0) early))
   | inr begun ↦ elim (cases_lt t (get_or s i 0 + duration p i)) [
@@ -57,7 +57,7 @@ last_of_busy p starts s t k (suc n) = by_cases (last_of_busy p starts s t k n) (
         | inl same ↦ subst (λ (x : ℕ). get_or starts i 0 ≤ get_or starts x 0) same (omega arith)
         | inr (inl lower) ↦
             let during = amount_during p t k i (get_or s i 0) busy.begun busy.runs in
-            let free = none i lower in
+            let free : amount_of p t k i (Some (get_or s i 0)) ≡ 0 = none i lower in
             let needs = busy.needs in
             absurd (omega (arith, during, free, needs))
         | inr (inr above) ↦ absurd (omega (arith, below, above))
@@ -72,7 +72,7 @@ last_of_busy p starts s t k (suc n) = by_cases (last_of_busy p starts s t k n) (
       last = λ i below busy. elim (cases_order i n) [
         | inl same ↦
             let during = amount_during p t k i (get_or s i 0) busy.begun busy.runs in
-            let here : amount_at p s t k i ≤ 0 = subst (λ (x : ℕ). amount_at p s t k x ≤ 0) (sym same) free in
+            let here : amount_of p t k i (Some (get_or s i 0)) ≤ 0 = subst (λ (x : ℕ). amount_at p s t k x ≤ 0) (sym same) free in
             let needs = busy.needs in
             absurd (omega (arith, during, here, needs))
         | inr (inl lower) ↦ last.last i lower busy
@@ -121,8 +121,9 @@ not_before p starts s t k i m within keeps first second before =
 
 -- an activity needs no more at t than at the start of the last one in the feasible list
 amount_no_more : (p : Problem) (starts s : List ℕ) (t k m i : ℕ) → k < length p.capacities → KeepsOrder p starts s →
-    IsLast p starts s t k (count p) m → i < count p → amount_at p s t k i ≤ amount_at p starts (get_or starts m 0) k i
-amount_no_more p starts s t k m i within keeps last below = elim (cases_lt 0 (amount_at p s t k i)) [
+    IsLast p starts s t k (count p) m → i < count p →
+    amount_of p t k i (Some (get_or s i 0)) ≤ amount_of p (get_or starts m 0) k i (Some (get_or starts i 0))
+amount_no_more p starts s t k m i within keeps last below = elim (cases_lt 0 (amount_of p t k i (Some (get_or s i 0)))) [
   | inr free ↦ omega (arith, free)
   | inl some ↦
       let busy = busy_from p s t k i some in

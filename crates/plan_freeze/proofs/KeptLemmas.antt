@@ -1,9 +1,9 @@
 -- Arcs that other paths imply are left out: the arcs that are kept still lead to the same
 -- activities, and none of them is implied.
-use Rattle.std.proofs.Common.{ℕ, zero, suc, Bool, true, false, ◌≡◌, ◌+◌, ◌-◌, ◌≤◌, ◌<◌, ◌⊎◌, inl, inr, List, [], ◌∷◌, length, refl, sym, ◌∙◌, ap, subst, arith, Vec}
+use Rattle.std.proofs.Common.{ℕ, zero, suc, Bool, false, ◌≡◌, ◌+◌, ◌-◌, ◌≤◌, ◌<◌, ◌⊎◌, inl, inr, List, [], ◌∷◌, length, refl, sym, ◌∙◌, ap, subst, arith, Vec}
 use Rattle.std.specs.Prelude.{slice_index_or}
 use Rattle.std.specs.declared.alloc.Global.{Global}
-use Rattle.std.proofs.lemmas.Bool.{cases_eq, false≢true}
+use Rattle.std.proofs.lemmas.Bool.{cases_eq, cases_Bool, false≢true}
 use Rattle.plan_net.specs.Network.{Net, IsActivity, IsArc}
 use Rattle.plan_net.specs.Path.{IsWalk, IsPath, last_of}
 use Rattle.plan_net.specs.Indexed.{row_at}
@@ -19,14 +19,10 @@ use Rattle.plan_freeze.proofs.RankLemmas.{RisesAlong, walk_rises, leads_rises}
 
 -- ---- marks decide whether an arc is implied
 
-set_or_not : (mark : Bool) → (mark ≡ true) ⊎ (mark ≡ false)
-set_or_not true = inl refl
-set_or_not false = inr refl
-
 decide_leads : (net : Net) (rows : List (Vec Bool Global)) → AreReaches net rows → (a b : ℕ) → IsActivity net b → Decided (Leads net a b)
 decide_leads net rows are a b end = elim (decide_activity net a) [
   | inr none ↦ inr (λ leads. none leads.1.0)
-  | inl activity ↦ elim (set_or_not (slice_index_or (row_at rows (a - 1)) (b - 1) false)) [
+  | inl activity ↦ elim (cases_Bool (slice_index_or (row_at rows (a - 1)) (b - 1) false)) [
     | inl marked ↦ inl (((are.each a activity).exact b end).0 marked)
     | inr open_mark ↦ inr (λ leads. false≢true (sym open_mark ∙ ((are.each a activity).exact b end).1 leads))
   ]
@@ -62,7 +58,7 @@ module _ (given full net : Net) (rank : ℕ → ℕ) (rises : RisesAlong rank fu
           let rise = rises a m first in
           let later = leads_rises rank full rises m b (others, path, some, ends) in
           let last = ap rank ends in
-          let behind = walk_leads n (leads_by n) m others path.1 some (omega (arith, rise, last, below)) in
+          let behind = walk_leads n (λ x y close step. leads_by n x y close step) m others path.1 some (omega (arith, rise, last, below)) in
           leads_on net a m b (leads_by n a m (omega (arith, later, below)) first) (subst (Leads net m) ends behind)
     ]
 

@@ -35,3 +35,6 @@ pub returns-in_ok-frozen_network-in-Ok-Active-clause-rules : goal.returns-in_ok-
 returns-in_ok-frozen_network-in-Ok-Active-clause-rules c =
     is_each_rules c.args.instance.now c.args.starts.now c.in_ok-frozen_network-in-Ok-Active.field-0
     c.network-network.ensures.instance c.in_ok-frozen_network-in-Ok-Active.ensures c.in-Ok-Active.ensures.verdict
+
+pub frozen_network-requires-in-Ok-Active-clause-feasible : goal.frozen_network-requires-in-Ok-Active-clause-feasible
+frozen_network-requires-in-Ok-Active-clause-feasible c = c.in-Ok-Active.ensures.verdict.feasible
