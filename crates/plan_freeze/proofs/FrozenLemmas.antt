@@ -4,16 +4,17 @@ use Rattle.std.proofs.lemmas.Bool.{cases_lt}
 use Rattle.std.proofs.lemmas.List.{get_or_past}
 use Rattle.plan_net.specs.Network.{Net, IsActivity, IsArc, count_of, duration_of, lag_of}
 use Rattle.plan_net.specs.Path.{last_of}
+use Rattle.plan_net.proofs.RowLemmas.{arc_ends}
 use Rattle.plan_net.proofs.SearchLemmas.{Decided}
 use Rattle.plan_net.proofs.SomeOrderLemmas.{decide_arc}
 use Rattle.plan_cpm.specs.Lengths.{AreFinishes}
 use Rattle.plan_cpm.proofs.SomeDateLemmas.{some_dates}
-use Rattle.plan_sgs.specs.Problem.{Problem, count, duration, need, total, amount_of, usage, all_placed, KeepsArcs, KeepsCapacities, IsFeasible, IsActive}
+use Rattle.plan_sgs.specs.Problem.{Problem, count, duration, need, total, amount_of, usage, all_placed, KeepsArcs, KeepsCapacities, IsFeasible, IsActive, LinksInside}
 use Rattle.plan_sgs.specs.Rules.{is_activity_list, rule_list}
 use Rattle.plan_sgs.specs.Serial.{serial}
 use Rattle.plan_sgs.specs.Instances.{Planned, IsInstance, problem_of}
 use Rattle.plan_sgs.proofs.TotalLemmas.{total_same}
-use Rattle.plan_sgs.proofs.BoundedLemmas.{bounded}
+use Rattle.plan_sgs.proofs.BoundedLemmas.{links_from}
 use Rattle.plan_sgs.proofs.InstanceLemmas.{count-problem, duration-problem}
 use Rattle.plan_sgs.proofs.SerialLemmas.{serial_active}
 use Rattle.plan_sgs.proofs.ListLemmas.{told_by_entries}
@@ -200,18 +201,18 @@ module _ (i : Planned) (starts : List ℕ) (net : Net) (instance : IsInstance i)
       let long = ap (λ (ds : List ℕ). get_or ds (j - 1) 0) are.durations in
       omega (arith, here, long)
 
+  links_inside : LinksInside q
+  unfolding problem_of
+  links_inside = links_from (with_network i net) (λ l. (l.from < count q) × (l.to < count q)) (λ a b arc.
+      let ends = arc_ends net a b frozen.sound.limits arc in (omega (arith, ends.0), omega (arith, ends.1)))
+
   -- the serial schedule of a list in turn is the starts
   serial_is : IsActive p starts → (js : List ℕ) → is_activity_list q js ≡ true → serial q js ≡ starts
-  serial_is active js list =
-      let bounds = bounded (with_network i net) frozen_instance in
-      only_active active (serial q js) (serial_active q js bounds.inside bounds.fit list)
+  serial_is active js list = only_active active (serial q js) (serial_active q js links_inside frozen_instance.fit list)
 
   pub is_each_serial : IsActive p starts → IsEachSerial i starts net
-  is_each_serial active js list =
-      let bounds = bounded (with_network i net) frozen_instance in
-      serial_is active js (told_by_entries q js bounds.inside list)
+  is_each_serial active js list = serial_is active js (told_by_entries q js links_inside list)
 
   pub is_each_rules : IsActive p starts → IsEachRules i starts net
   is_each_rules active r s (key, is_key, same) =
-      let bounds = bounded (with_network i net) frozen_instance in
-      same ∙ serial_is active (rule_list q key) (rule_list_is q (rank_by net) key bounds.inside (ranked (with_network i net) frozen.sound))
+      same ∙ serial_is active (rule_list q key) (rule_list_is q (rank_by net) key links_inside (ranked (with_network i net) frozen.sound))
