@@ -2,10 +2,15 @@ use Rattle.std.proofs.Common.{ℕ, ◌≡◌, ◌+◌, ◌≤◌, List, sym, ◌
 use Rattle.std.specs.declared.alloc.Global.{Global}
 use Rattle.std.proofs.lemmas.Bool.{iff_false}
 use Rattle.plan_net.specs.Network.{ListsRising, count_of}
-use Rattle.plan_net.proofs.RisingLemmas.{ListsRising-push, ListsRising-skip}
+use Rattle.plan_net.proofs.RisingLemmas.{ListsRising-nil, ListsRising-push, ListsRising-skip}
 use Rattle.plan_freeze.specs.Rows.{IsKept}
 use Rattle.plan_freeze.proofs.rows.kept_row.Goals as goal
 use Rattle.plan_freeze.proofs.rows.kept_row.Goals.{then-is_kept+in_ok-push, else-is_kept}
+
+pub loop-k-init : goal.loop-k-init
+loop-k-init c =
+    subst (λ (row : List ℕ). ListsRising (λ j. (1 ≤ j) × (j ≤ 0) × IsKept c.args.network.now c.args.full.now c.args.i j) row) (sym c.new-row.ensures.items)
+    (ListsRising-nil (IsKept c.args.network.now c.args.full.now c.args.i))
 
 pub loop-k-preserved : goal.loop-k-preserved
 loop-k-preserved c =

@@ -2,10 +2,15 @@ use Rattle.std.proofs.Common.{ℕ, ◌≡◌, ◌+◌, ◌≤◌, List, sym, ◌
 use Rattle.std.specs.declared.alloc.Global.{Global}
 use Rattle.std.proofs.lemmas.Bool.{iff_false}
 use Rattle.plan_net.specs.Network.{ListsRising, count_of}
-use Rattle.plan_net.proofs.RisingLemmas.{ListsRising-push, ListsRising-skip}
+use Rattle.plan_net.proofs.RisingLemmas.{ListsRising-nil, ListsRising-push, ListsRising-skip}
 use Rattle.plan_freeze.specs.Frozen.{IsOrdered}
 use Rattle.plan_freeze.proofs.rows.ordered_row.Goals as goal
 use Rattle.plan_freeze.proofs.rows.ordered_row.Goals.{then-is_ordered+in_ok-push, else-is_ordered}
+
+pub loop-k-init : goal.loop-k-init
+loop-k-init c =
+    subst (λ (row : List ℕ). ListsRising (λ j. (1 ≤ j) × (j ≤ 0) × IsOrdered c.args.instance.now c.args.starts.now c.args.i j) row) (sym c.new-row.ensures.items)
+    (ListsRising-nil (IsOrdered c.args.instance.now c.args.starts.now c.args.i))
 
 pub loop-k-preserved : goal.loop-k-preserved
 loop-k-preserved c =

@@ -7,6 +7,12 @@ use Rattle.plan_freeze.specs.Frozen.{IsOrdered}
 use Rattle.plan_freeze.proofs.RowsLemmas.{rows_more}
 use Rattle.plan_freeze.proofs.rows.ordered_rows.Goals as goal
 
+pub loop-k-init : goal.loop-k-init
+loop-k-init c = record {
+  whole = ap (λ (xs : List (Vec ℕ Global)). length xs) c.new-rows.ensures.items;
+  each = λ m below. absurd (omega (arith, below));
+}
+
 pub loop-k-preserved : goal.loop-k-preserved
 loop-k-preserved c =
     let k = c.loop-k.k in
