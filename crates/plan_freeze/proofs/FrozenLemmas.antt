@@ -9,7 +9,7 @@ use Rattle.plan_net.proofs.SearchLemmas.{Decided}
 use Rattle.plan_net.proofs.SomeOrderLemmas.{decide_arc}
 use Rattle.plan_cpm.specs.Lengths.{AreFinishes}
 use Rattle.plan_cpm.proofs.SomeDateLemmas.{some_dates}
-use Rattle.plan_sgs.specs.Problem.{Problem, count, duration, need, total, amount_of, usage, all_placed, KeepsArcs, KeepsCapacities, IsFeasible, IsActive, LinksInside}
+use Rattle.plan_sgs.specs.Problem.{Problem, count, duration, need, capacity, total, amount_of, usage, all_placed, KeepsArcs, KeepsCapacities, IsFeasible, IsActive, LinksInside}
 use Rattle.plan_sgs.specs.Rules.{is_activity_list, rule_list}
 use Rattle.plan_sgs.specs.Serial.{serial}
 use Rattle.plan_sgs.specs.Instances.{Planned, IsInstance, problem_of}
@@ -73,16 +73,14 @@ module _ (i : Planned) (starts : List ℕ) (net : Net) (instance : IsInstance i)
   capacities_to : (placed : List (Option ℕ)) → KeepsCapacities p placed → KeepsCapacities q placed
   unfolding problem_of
   capacities_to placed keeps t k within =
-      let same = usage_same q p placed t k counts lasts_as (λ h. refl) in
-      let here = keeps t k within in
-      omega (arith, same, here)
+      let here : usage p placed t k ≤ capacity q k = keeps t k within in
+      subst (λ (n : ℕ). n ≤ capacity q k) (sym (usage_same q p placed t k counts lasts_as (λ h. refl))) here
 
   capacities_back : (placed : List (Option ℕ)) → KeepsCapacities q placed → KeepsCapacities p placed
   unfolding problem_of
   capacities_back placed keeps t k within =
-      let same = usage_same q p placed t k counts lasts_as (λ h. refl) in
-      let here = keeps t k within in
-      omega (arith, same, here)
+      let here : usage q placed t k ≤ capacity p k = keeps t k within in
+      subst (λ (n : ℕ). n ≤ capacity p k) (usage_same q p placed t k counts lasts_as (λ h. refl)) here
 
   -- the frozen project is an instance
   pub frozen_instance : IsInstance (with_network i net)
@@ -198,8 +196,9 @@ module _ (i : Planned) (starts : List ℕ) (net : Net) (instance : IsInstance i)
   pub are_earliest : IsActive p starts → AreEarliest starts net
   are_earliest active dates are j activity =
       let here : get_or starts (j - 1) 0 + duration_of net j ≡ get_or dates.finishes (j - 1) 0 = active_is_earliest (with_network i net) starts dates.finishes frozen.sound (suffices active) (still_active active) are.finishes j activity in
-      let long = ap (λ (ds : List ℕ). get_or ds (j - 1) 0) are.durations in
-      omega (arith, here, long)
+      let long : get_or dates.durations (j - 1) 0 ≡ duration_of net j = ap (λ (ds : List ℕ). get_or ds (j - 1) 0) are.durations in
+      let early : get_or dates.finishes (j - 1) 0 - get_or dates.durations (j - 1) 0 ≡ get_or starts (j - 1) 0 = omega (arith, here, long) in
+      early
 
   links_inside : LinksInside q
   unfolding problem_of
