@@ -1,6 +1,6 @@
 -- If a list of starts that keeps the arcs always keeps the capacities, the only active schedule
 -- starts each activity at its earliest start.
-use Rattle.std.proofs.Common.{ℕ, zero, suc, ◌≡◌, ◌≢◌, ◌+◌, ◌-◌, ◌≤◌, ◌<◌, inl, inr, List, length, get_or, set, get_or-set_same, get_or-set_other, sym, ◌∙◌, ap, subst, arith}
+use Rattle.std.proofs.Common.{ℕ, zero, suc, ◌≡◌, ◌≢◌, ◌+◌, ◌-◌, ◌≤◌, ◌<◌, ◌⊎◌, inl, inr, List, length, get_or, set, get_or-set_same, get_or-set_other, sym, ◌∙◌, ap, subst, arith}
 use Rattle.std.proofs.lemmas.List.{length-set}
 use Rattle.std.proofs.lemmas.Bool.{cases_lt, cases_eq}
 use Rattle.plan_net.specs.Network.{Net, IsActivity, IsArc, IsGreatest, count_of, duration_of, lag_of}
