@@ -39,12 +39,11 @@ acyclic_by_rank rank net rises a others (path, some, ends) =
     omega (arith, rise, last, some)
 
 -- so many times m
-weight : ℕ → ℕ → ℕ
+abbrev weight : ℕ → ℕ → ℕ
 weight m zero = 0
 weight m (suc s) = weight m s + m
 
 weight_rises : (m s t : ℕ) → s < t → weight m s + m ≤ weight m t
-unfolding weight
 weight_rises m s zero less = absurd (omega (arith, less))
 weight_rises m s (suc t) less = elim (cases_lt s t) [
   | inl lower ↦ let rest = weight_rises m s t lower in omega (arith, rest)
