@@ -1,14 +1,14 @@
 -- If a list of starts that keeps the arcs always keeps the capacities, the only active schedule
 -- starts each activity at its earliest start.
-use Rattle.std.proofs.Common.{ℕ, zero, suc, ◌≡◌, ◌≢◌, ◌+◌, ◌-◌, ◌≤◌, ◌<◌, ◌⊎◌, inl, inr, List, length, get_or, set, get_or-set_same, get_or-set_other, sym, ◌∙◌, ap, subst, arith}
+use Rattle.std.proofs.Common.{ℕ, zero, suc, ◌≡◌, ◌≢◌, ◌+◌, ◌-◌, ◌≤◌, ◌<◌, ◌⊎◌, inl, inr, List, length, get_or, set, get_or-set_same, get_or-set_other, ◌∙◌, ap, subst, arith}
 use Rattle.std.proofs.lemmas.List.{length-set}
 use Rattle.std.proofs.lemmas.Bool.{cases_lt, cases_eq}
-use Rattle.plan_net.specs.Network.{Net, IsActivity, IsArc, IsGreatest, count_of, duration_of, lag_of}
+use Rattle.plan_net.specs.Network.{Net, IsActivity, IsArc, duration_of, lag_of}
 use Rattle.plan_net.specs.Path.{last_of, path_length}
 use Rattle.plan_net.specs.Limits.{IsSound}
 use Rattle.plan_net.proofs.RowLemmas.{arc_ends}
 use Rattle.plan_net.proofs.OnceLemmas.{same_entries}
-use Rattle.plan_cpm.specs.Lengths.{IsLengthTo, AreFinishes}
+use Rattle.plan_cpm.specs.Lengths.{AreFinishes}
 use Rattle.plan_cpm.proofs.JoinLemmas.{lasts, after_finish}
 use Rattle.plan_sgs.specs.Problem.{count, KeepsArcs, IsFeasible, IsShift, IsActive}
 use Rattle.plan_sgs.specs.Instances.{Planned, problem_of}

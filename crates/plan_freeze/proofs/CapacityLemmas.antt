@@ -6,7 +6,7 @@ use Rattle.plan_sgs.specs.Problem.{Problem, count, duration, need, capacity, amo
 use Rattle.plan_sgs.proofs.TotalLemmas.{total_grows, total_none}
 use Rattle.plan_sgs.proofs.AmountLemmas.{amount_before, amount_during}
 use Rattle.plan_sgs.proofs.StartLemmas.{amount_at, amount_late, amount_most, usage_is}
-use Rattle.plan_freeze.specs.Order.{GoesBefore, EndsBefore, KeepsOrder}
+use Rattle.plan_freeze.specs.Order.{EndsBefore, KeepsOrder}
 
 -- an activity is under way at t and needs some of resource k
 record IsBusy (p : Problem) (s : List ℕ) (t k i : ℕ) : Type 0 where

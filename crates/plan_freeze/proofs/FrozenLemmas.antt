@@ -1,8 +1,8 @@
 -- The laws of a frozen network.
-use Rattle.std.proofs.Common.{ℕ, true, ◌≡◌, ◌+◌, ◌-◌, ◌≤◌, ◌<◌, ◌⊎◌, inl, inr, cond, ◌&&◌, nat_le, nat_lt, List, length, get_or, Option, Some, None, refl, sym, ◌∙◌, ap, subst, arith}
+use Rattle.std.proofs.Common.{ℕ, true, ◌≡◌, ◌+◌, ◌-◌, ◌≤◌, ◌<◌, inl, inr, cond, ◌&&◌, nat_le, nat_lt, List, length, get_or, Option, Some, None, refl, sym, ◌∙◌, ap, subst, arith}
 use Rattle.std.proofs.lemmas.Bool.{cases_lt}
 use Rattle.std.proofs.lemmas.List.{get_or_past}
-use Rattle.plan_net.specs.Network.{Net, IsActivity, IsArc, count_of, duration_of, lag_of}
+use Rattle.plan_net.specs.Network.{Net, IsArc, count_of, duration_of, lag_of}
 use Rattle.plan_net.specs.Path.{last_of}
 use Rattle.plan_net.proofs.RowLemmas.{arc_ends}
 use Rattle.plan_net.proofs.SearchLemmas.{Decided}
@@ -15,7 +15,7 @@ use Rattle.plan_sgs.specs.Serial.{serial}
 use Rattle.plan_sgs.specs.Instances.{Planned, IsInstance, problem_of}
 use Rattle.plan_sgs.proofs.TotalLemmas.{total_same}
 use Rattle.plan_sgs.proofs.BoundedLemmas.{links_from}
-use Rattle.plan_sgs.proofs.InstanceLemmas.{count-problem, duration-problem}
+use Rattle.plan_sgs.proofs.InstanceLemmas.{duration-problem}
 use Rattle.plan_sgs.proofs.SerialLemmas.{serial_active}
 use Rattle.plan_sgs.proofs.ListLemmas.{told_by_entries}
 use Rattle.plan_sgs.proofs.RuleLemmas.{rule_list_is}

@@ -5,7 +5,7 @@ use Rattle.std.specs.Prelude.{slice_index_or}
 use Rattle.std.specs.declared.alloc.Global.{Global}
 use Rattle.std.proofs.lemmas.Bool.{cases_eq, cases_Bool, false≢true}
 use Rattle.plan_net.specs.Network.{Net, IsActivity, IsArc}
-use Rattle.plan_net.specs.Path.{IsWalk, IsPath, last_of}
+use Rattle.plan_net.specs.Path.{IsWalk, last_of}
 use Rattle.plan_net.specs.Indexed.{row_at}
 use Rattle.plan_net.specs.Limits.{IsWithinLimits}
 use Rattle.plan_net.proofs.RowLemmas.{arc_ends}

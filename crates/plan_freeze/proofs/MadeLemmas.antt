@@ -1,5 +1,5 @@
 -- The full network and the frozen network, from the rows that they are made of.
-use Rattle.std.proofs.Common.{ℕ, Bool, ◌≡◌, ◌<◌, ◌⊎◌, inl, inr, List, length, sym, ◌∙◌, ap, subst, arith, Vec}
+use Rattle.std.proofs.Common.{ℕ, Bool, ◌≡◌, ◌⊎◌, inl, inr, List, length, sym, ◌∙◌, ap, subst, arith, Vec}
 use Rattle.std.specs.Prelude.{Contains}
 use Rattle.std.specs.declared.alloc.Global.{Global}
 use Rattle.plan_net.specs.Network.{Net, IsActivity, IsArc, count_of, lag_of}

@@ -1,10 +1,9 @@
 -- Frozen networks of the same starts have the same arcs.
-use Rattle.std.proofs.Common.{ℕ, ◌≡◌, ◌+◌, ◌≤◌, ◌⊎◌, inl, inr, List, [], ◌∷◌, ◌++◌, length, sym, ◌∙◌, ap, subst, arith}
+use Rattle.std.proofs.Common.{ℕ, ◌≡◌, inl, inr, List, [], ◌∷◌, ◌++◌, length, sym, ◌∙◌, ap, subst, arith}
 use Rattle.std.proofs.lemmas.List.{length-append}
 use Rattle.plan_net.specs.Network.{Net, IsArc}
 use Rattle.plan_net.specs.Path.{IsWalk, IsPath, last_of}
 use Rattle.plan_net.proofs.PathLemmas.{last_of-append, IsWalk-append}
-use Rattle.plan_net.proofs.SearchLemmas.{Decided}
 use Rattle.plan_net.proofs.SomeOrderLemmas.{decide_arc}
 use Rattle.plan_cpm.specs.Reached.{Leads}
 use Rattle.plan_cpm.proofs.ReachLemmas.{leads_on}

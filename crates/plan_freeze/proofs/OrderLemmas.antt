@@ -1,10 +1,10 @@
 -- The order of two activities by their durations, starts and rows of needs.
-use Rattle.std.proofs.Common.{ℕ, ◌≡◌, ◌+◌, ◌-◌, ◌≤◌, ◌<◌, ◌↔◌, List, length, get_or, Some, sym, subst, arith}
+use Rattle.std.proofs.Common.{ℕ, ◌≡◌, ◌+◌, ◌-◌, ◌≤◌, ◌<◌, ◌↔◌, List, length, get_or, Some, arith}
 use Rattle.std.specs.Prelude.{slice_get, SomeIndex}
 use Rattle.plan_net.specs.Network.{IsActivity, duration_of}
 use Rattle.plan_sgs.specs.Problem.{Problem, duration, need}
 use Rattle.plan_sgs.specs.Instances.{Planned, problem_of}
-use Rattle.plan_sgs.proofs.InstanceLemmas.{capacities-problem, duration-problem, need-problem}
+use Rattle.plan_sgs.proofs.InstanceLemmas.{duration-problem, need-problem}
 use Rattle.plan_freeze.specs.Order.{GoesBefore}
 
 -- what goes before says of the durations and starts

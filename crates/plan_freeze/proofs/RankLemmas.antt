@@ -1,6 +1,6 @@
 -- Ranks that rise along the arcs: a network with such ranks has no cycle. The starts of a feasible
 -- list, and the ranks of the project among equal starts, rise along all ordered pairs.
-use Rattle.std.proofs.Common.{ℕ, zero, suc, ◌≡◌, ◌+◌, ◌-◌, ◌≤◌, ◌<◌, ◌⊎◌, inl, inr, List, [], ◌∷◌, length, get_or, ap, arith}
+use Rattle.std.proofs.Common.{ℕ, zero, suc, ◌≡◌, ◌+◌, ◌-◌, ◌≤◌, ◌<◌, inl, inr, List, [], ◌∷◌, length, get_or, ap, arith}
 use Rattle.std.proofs.lemmas.Bool.{cases_lt}
 use Rattle.plan_net.specs.Network.{Net, IsActivity, IsArc, count_of}
 use Rattle.plan_net.specs.Path.{IsWalk, IsAcyclic, last_of}

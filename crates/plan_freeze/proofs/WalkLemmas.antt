@@ -1,5 +1,5 @@
 -- Lists of starts that keep the arcs: along a walk starts rise by the durations.
-use Rattle.std.proofs.Common.{ℕ, ◌≡◌, ◌+◌, ◌-◌, ◌≤◌, List, [], ◌∷◌, length, get_or, arith}
+use Rattle.std.proofs.Common.{ℕ, ◌+◌, ◌-◌, ◌≤◌, List, [], ◌∷◌, length, get_or, arith}
 use Rattle.plan_net.specs.Network.{IsArc, duration_of, lag_of}
 use Rattle.plan_net.specs.Path.{IsWalk, last_of, path_length}
 use Rattle.plan_sgs.specs.Problem.{duration, KeepsArcs}

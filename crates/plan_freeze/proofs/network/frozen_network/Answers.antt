@@ -1,9 +1,8 @@
-use Rattle.std.proofs.Common.{◌≡◌, List, sym, ◌∙◌, ap, subst, Vec}
+use Rattle.std.proofs.Common.{List, sym, ◌∙◌, ap, subst, Vec}
 use Rattle.std.specs.Prelude.{Bool}
 use Rattle.std.specs.declared.alloc.Global.{Global}
 use Rattle.plan_net.specs.Network.{Net, lag_of}
 use Rattle.plan_cpm.specs.Reached.{AreReaches}
-use Rattle.plan_freeze.specs.Rows.{AreRowsOf, IsKept}
 use Rattle.plan_freeze.proofs.RowsLemmas.{lag_of-rows}
 use Rattle.plan_freeze.proofs.MadeLemmas.{AreKeptRows, made_targets, made_acyclic, made_arcs, made_frozen}
 use Rattle.plan_freeze.proofs.network.frozen_network.Goals.{In_ok-rows}

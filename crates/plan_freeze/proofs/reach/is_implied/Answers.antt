@@ -1,4 +1,4 @@
-use Rattle.std.proofs.Common.{ℕ, Bool, true, false, ◌≡◌, ◌+◌, ◌-◌, ◌<◌, List, length, get_or, refl, sym, ◌∙◌, ap, subst, arith, below_more}
+use Rattle.std.proofs.Common.{ℕ, Bool, false, ◌≡◌, ◌-◌, ◌<◌, List, length, get_or, refl, sym, ◌∙◌, ap, arith, below_more}
 use Rattle.std.proofs.lemmas.Bool.{false≢true}
 use Rattle.std.proofs.lemmas.List.{get_or_read}
 use Rattle.std.proofs.lemmas.List.Elements.{Contains-get_or}
@@ -6,7 +6,7 @@ use Rattle.plan_net.specs.Network.{IsArc}
 use Rattle.plan_net.specs.Indexed.{row_at}
 use Rattle.plan_net.proofs.RowLemmas.{row_at-read}
 use Rattle.plan_net.proofs.RisingLemmas.{each_of_rising}
-use Rattle.plan_cpm.specs.Reached.{Leads, IsReach}
+use Rattle.plan_cpm.specs.Reached.{Leads}
 use Rattle.plan_freeze.proofs.reach.is_implied.Goals.{After-index}
 use Rattle.plan_freeze.proofs.reach.is_implied.Goals as goal
 
