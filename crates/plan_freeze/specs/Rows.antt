@@ -16,7 +16,7 @@ pub record AreRowsOf (n : ℕ) (P : ℕ → ℕ → Type 0) (rows : List (Vec �
   pub each : (k : ℕ) → k < n
       → ListsRising (λ b. (1 ≤ b) × (b ≤ n) × P (k + 1) b) (row_at rows k)
 
--- the network has the durations of the project, an arc for each ordered pair, and no lags
+-- the network has the durations of the project, and its arcs are the ordered pairs
 pub record IsFull (i : Planned) (starts : List ℕ) (net : Net) : Type 0 where
   pub durations : net.durations ≡ i.project.network.durations
   pub exact : (a b : ℕ) → IsArc net a b → IsOrdered i starts a b
