@@ -1,0 +1,50 @@
+//! The first activity that starts before a predecessor ends.
+
+ghost use Rattle.std.specs.Prelude.{◌≡◌, IsFalse, IsTrue};
+ghost use Rattle.plan_week.specs.Weeks as weeks;
+ghost use Rattle.plan_weekverdict.specs.Verdicts as spec;
+
+use crate::state::{at, is_open};
+use plan_kernel::Arc;
+use plan_week::{Week, end_of, state_of};
+
+// Whether an activity that is open starts before the end of its predecessor plus the lag.
+fn is_broken(week: &Week, starts: &[u32], arc: Arc) -> bool
+    ensures yes { IsTrue result → spec.BreaksArc week.now starts.now arc }
+    ensures kept { IsFalse result → spec.BreaksArc week.now starts.now arc → ⊥ }
+{
+    let ready = end_of(week, starts, arc.from as usize) as u128 + arc.lag as u128;
+    is_open(state_of(week, arc.to as usize)) && (at(starts, arc.to as usize) as u128) < ready
+}
+
+// Whether a pair is before another one, ordered by the first number and then by the second.
+fn is_before(pair: (u32, u32), other: (u32, u32)) -> bool
+    ensures yes { IsTrue result → spec.IsPairBefore pair other }
+    ensures behind { IsFalse result → spec.IsPairBefore pair other → ⊥ }
+{
+    pair.0 < other.0 || (pair.0 == other.0 && pair.1 < other.1)
+}
+
+// Returns the first of two pairs of an activity and a predecessor.
+fn earlier(found: Option<(u32, u32)>, pair: (u32, u32)) -> (u32, u32)
+    ensures { spec.IsEarlierPair found pair result }
+{
+    match found {
+        None => pair,
+        Some(first) => { if is_before(pair, first) { pair } else { first } }
+    }
+}
+
+// Returns the first activity that starts before the end of a predecessor plus the lag, with its
+// first such predecessor.
+pub(crate) fn first_broken(week: &Week, starts: &[u32]) -> Option<(u32, u32)>
+    ensures { spec.IsFoundAmong week.now starts.now week.now.arcs.items result }
+{
+    let mut found = None;
+    for &arc in &week.arcs {
+        if is_broken(week, starts, arc) {
+            found = Some(earlier(found, (arc.to, arc.from)));
+        }
+    }
+    found
+}
