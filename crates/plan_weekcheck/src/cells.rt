@@ -96,7 +96,7 @@ pub(crate) fn is_row_among(
     ensures { IfOk result (λ is. is ≡ spec.is_row_among (map (λ id. id.now) ids.now)
         (cells_of words.now) (cells_of fields.now)) }
 {
-    for id in ids {
+    for &id in ids {
         if begins_with(words, id) || has_field(alloc, fields, id)? {
             return Ok(true);
         }

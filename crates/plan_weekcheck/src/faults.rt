@@ -1,6 +1,7 @@
 //! The errors of starts of a week.
 
 ghost use Rattle.std.specs.Prelude.{◌≡◌, ◌++◌, IfOk, codes};
+ghost use Rattle.std.specs.Fmt.{decimal};
 ghost use Rattle.plan_documents.specs.Refusals as places;
 ghost use Rattle.plan_documents.specs.Starts as starts;
 ghost use Rattle.plan_errors.specs.Output.{Refuses};
@@ -35,18 +36,40 @@ fn code_of(code: FileCode) -> Code
     }
 }
 
-// Returns a line of the starts, and the activities of a cycle if there is one.
+// Returns the line of an error.
+fn line_parts(alloc: Global, line: u64) -> Result<Vec<Part>, AllocError>
+    ensures { IfOk result (λ list. parts_text list.items ≡ codes " line " ++ decimal line) }
+{
+    Ok(Vec::from_array(alloc, [Part::Number(Key::Line, line)])?)
+}
+
+// Returns the line of the error of a cycle, and its activities.
+fn cycle_parts(alloc: Global, line: u64, cycle: &[u32]) -> Result<Vec<Part>, AllocError>
+    ensures { IfOk result (λ list.
+        parts_text list.items ≡ places.place_by FileCode.Cycle line cycle.now) }
+{
+    let cycle = Part::Numbers(Key::Cycle, Vec::from_slice(alloc, cycle)?);
+    Ok(Vec::from_array(alloc, [Part::Number(Key::Line, line), cycle])?)
+}
+
+// Returns the place of an error in a text.
+fn place_parts(alloc: Global, fault: &FileFault) -> Result<Vec<Part>, AllocError>
+    ensures { IfOk result (λ list. parts_text list.items ≡ places.place_of fault.now) }
+{
+    match fault.code {
+        FileCode::Cycle => cycle_parts(alloc, fault.line, &fault.cycle),
+        _ => line_parts(alloc, fault.line),
+    }
+}
+
+// Returns the place of an error in a text of starts.
 fn starts_parts(alloc: Global, fault: &FileFault) -> Result<Vec<Part>, AllocError>
     ensures { IfOk result (λ list.
         parts_text list.items ≡ places.place_of fault.now ++ codes " of the starts") }
 {
-    let line = Part::Number(Key::Line, fault.line);
-    let words = Part::Words("of the starts");
-    if fault.code == FileCode::Cycle {
-        let cycle = Part::Numbers(Key::Cycle, Vec::from_slice(alloc, &fault.cycle)?);
-        return Ok(Vec::from_array(alloc, [line, cycle, words])?);
-    }
-    Ok(Vec::from_array(alloc, [line, words])?)
+    let mut parts = place_parts(alloc, fault)?;
+    parts.push(Part::Words("of the starts"))?;
+    Ok(parts)
 }
 
 // Returns the error of a text of starts.

@@ -3,6 +3,7 @@ use Rattle.std.proofs.Common.{◌≡◌, ◌≢◌, ◌∙◌, ℕ, ◌+◌, ◌
 use Rattle.std.specs.List.{All}
 use Rattle.std.specs.Option.{IfSome, IfNone}
 use Rattle.std.proofs.lemmas.Bool.{cases_lt, cases_eq}
+use Rattle.std.proofs.lemmas.List.{take_more, take_all}
 use Rattle.std.proofs.lemmas.List.Elements.{All-contains, Contains-get_or, Contains-append_left, Contains-push, Contains-push_cases}
 use Rattle.plan_sgs.specs.Verdicts.{IsNoLater}
 use Rattle.plan_kernel.specs.declared.input.Arc.{Arc}
@@ -128,3 +129,18 @@ found_broken week starts (Some pair) found = found
 pub found_unbroken : (week : Week) (starts : List ℕ) (found : Option (ℕ × ℕ)) → IsFoundAmong week starts week.arcs.items found → IfNone found (HasNoBroken week starts)
 found_unbroken week starts None found = found
 found_unbroken week starts (Some pair) found = tt
+
+-- the first broken arc of one arc more
+pub found_step : (week : Week) (starts : List ℕ) (items arcs : List Arc) (i : ℕ) (d : Arc) (found result : Option (ℕ × ℕ)) → items ≡ arcs → i < length items
+    → IsFoundAmong week starts (take i arcs) found
+    → ((xs : List Arc) → IsFoundAmong week starts xs found → IsFoundAmong week starts (xs ++ get_or items i d ∷ []) result)
+    → IsFoundAmong week starts (take (i + 1) arcs) result
+found_step week starts items arcs i d found result same inside before step =
+    subst (λ (xs : List Arc). IsFoundAmong week starts (take (i + 1) xs) result) same
+    (subst (λ (xs : List Arc). IsFoundAmong week starts xs result) (sym (take_more items i d inside))
+    (step (take i items) (subst (λ (xs : List Arc). IsFoundAmong week starts (take i xs) found) (sym same) before)))
+
+-- that of all arcs
+pub found_all : (week : Week) (starts : List ℕ) (arcs : List Arc) (i : ℕ) (found : Option (ℕ × ℕ)) → length arcs ≤ i
+    → IsFoundAmong week starts (take i arcs) found → IsFoundAmong week starts arcs found
+found_all week starts arcs i found all found_so_far = subst (λ (xs : List Arc). IsFoundAmong week starts xs found) (take_all i arcs all) found_so_far

@@ -111,10 +111,18 @@ first_wrong week starts (Some miss) (Some arc) some none broken kept = elim (cas
 ]
 
 -- without any there is neither
-pub none_wrong : (week : Week) (starts : List ℕ) (miss : Option (ℕ × Miss)) (arc : Option (ℕ × ℕ))
-    → IfNone miss (HasNoMiss week starts) → IfNone arc (HasNoBroken week starts) → IfNone (first_of miss arc) (HasNoMiss week starts × HasNoBroken week starts)
-none_wrong week starts None None none kept = (none, kept)
-none_wrong week starts None (Some arc) none kept = tt
-none_wrong week starts (Some miss) None none kept = tt
-none_wrong week starts (Some miss) (Some arc) none kept = by_test (λ (o : Option WeekVerdict). IfNone o (HasNoMiss week starts × HasNoBroken week starts))
-    (nat_lt arc.0 miss.0) (Some (Broken arc.0 arc.1)) (Some (Misplaced miss.0 miss.1)) tt tt
+pub none_dates : (week : Week) (starts : List ℕ) (miss : Option (ℕ × Miss)) (arc : Option (ℕ × ℕ))
+    → IfNone miss (HasNoMiss week starts) → IfNone (first_of miss arc) (HasNoMiss week starts)
+none_dates week starts None None none = none
+none_dates week starts None (Some arc) none = tt
+none_dates week starts (Some miss) None none = tt
+none_dates week starts (Some miss) (Some arc) none =
+    by_test (λ (o : Option WeekVerdict). IfNone o (HasNoMiss week starts)) (nat_lt arc.0 miss.0) (Some (Broken arc.0 arc.1)) (Some (Misplaced miss.0 miss.1)) tt tt
+
+pub none_arcs : (week : Week) (starts : List ℕ) (miss : Option (ℕ × Miss)) (arc : Option (ℕ × ℕ))
+    → IfNone arc (HasNoBroken week starts) → IfNone (first_of miss arc) (HasNoBroken week starts)
+none_arcs week starts None None none = none
+none_arcs week starts None (Some arc) none = tt
+none_arcs week starts (Some miss) None none = tt
+none_arcs week starts (Some miss) (Some arc) none =
+    by_test (λ (o : Option WeekVerdict). IfNone o (HasNoBroken week starts)) (nat_lt arc.0 miss.0) (Some (Broken arc.0 arc.1)) (Some (Misplaced miss.0 miss.1)) tt tt

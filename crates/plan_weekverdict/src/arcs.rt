@@ -1,7 +1,7 @@
 //! The first activity that starts before a predecessor ends.
 
-ghost use Rattle.std.specs.Prelude.{◌≡◌, IsFalse, IsTrue};
-ghost use Rattle.plan_week.specs.Weeks as weeks;
+ghost use Rattle.std.specs.Prelude.{◌≡◌, ◌++◌, ◌∷◌, [], IsFalse, IsTrue, List};
+ghost use Rattle.plan_kernel.specs.declared.input.Arc.{Arc as Link};
 ghost use Rattle.plan_weekverdict.specs.Verdicts as spec;
 
 use crate::state::{at, is_open};
@@ -35,6 +35,19 @@ fn earlier(found: Option<(u32, u32)>, pair: (u32, u32)) -> (u32, u32)
     }
 }
 
+// Returns the first broken arc of those before this one and of this one.
+#[tactic(auto, using(crate::proofs::ArcLemmas::found_kept, crate::proofs::ArcLemmas::found_more))]
+fn with_arc(week: &Week, starts: &[u32], found: Option<(u32, u32)>, arc: Arc) -> Option<(u32, u32)>
+    ensures { (arcs : List Link) → spec.IsFoundAmong week.now starts.now arcs found
+        → spec.IsFoundAmong week.now starts.now (arcs ++ arc ∷ []) result }
+{
+    if is_broken(week, starts, arc) {
+        Some(earlier(found, (arc.to, arc.from)))
+    } else {
+        found
+    }
+}
+
 // Returns the first activity that starts before the end of a predecessor plus the lag, with its
 // first such predecessor.
 pub(crate) fn first_broken(week: &Week, starts: &[u32]) -> Option<(u32, u32)>
@@ -42,9 +55,7 @@ pub(crate) fn first_broken(week: &Week, starts: &[u32]) -> Option<(u32, u32)>
 {
     let mut found = None;
     for &arc in &week.arcs {
-        if is_broken(week, starts, arc) {
-            found = Some(earlier(found, (arc.to, arc.from)));
-        }
+        found = with_arc(week, starts, found, arc);
     }
     found
 }

@@ -53,6 +53,7 @@ fn first_wrong(week: &Week, starts: &[u32]) -> Option<WeekVerdict>
 ///
 /// The violations, in this order: an activity misses its dates, or starts before a predecessor ends;
 /// a resource is overloaded from today on. [`all_starts`](crate::all_starts) makes such a list.
+#[tactic(auto, using(crate::proofs::VerdictLemmas::without_violation))]
 pub fn check_week(alloc: Global, week: &Week, starts: &[u32]) -> Result<WeekVerdict, AllocError>
     requires { spec.HasSettled week.now starts.now }
     ensures { IfOk result (spec.IsWeekVerdict week.now starts.now) }

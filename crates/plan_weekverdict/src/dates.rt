@@ -1,7 +1,7 @@
 //! The first activity that misses its dates.
 
 ghost use Rattle.std.specs.Prelude.{◌≡◌, IfNone, IfSome};
-ghost use Rattle.plan_week.specs.Weeks as weeks;
+ghost use Rattle.plan_week.specs.declared.week.State.TheVariants.{Open};
 ghost use Rattle.plan_weekverdict.specs.Verdicts as spec;
 ghost use Rattle.plan_weekverdict.specs.declared.verdict.Miss.{Miss as Reason};
 
@@ -28,20 +28,30 @@ fn moved(start: u32, fixed: Option<u32>) -> Option<Miss>
     }
 }
 
+// Returns how an activity that is open misses its dates, if it does.
+fn open_miss(today: u32, start: u32, earliest: u32, fixed: Option<u32>) -> Option<Miss>
+    ensures some { IfSome result (spec.Misses today start (Open earliest fixed)) }
+    ensures none { IfNone result
+        ((miss : Reason) → spec.Misses today start (Open earliest fixed) miss → ⊥) }
+{
+    if start < today {
+        return Some(Miss::Past { day: today });
+    }
+    if start < earliest {
+        return Some(Miss::Early { date: earliest });
+    }
+    moved(start, fixed)
+}
+
 // Returns how an activity with this state misses its dates, if it does.
 fn miss_of(today: u32, start: u32, state: State) -> Option<Miss>
     ensures some { IfSome result (spec.Misses today start state) }
     ensures none { IfNone result ((miss : Reason) → spec.Misses today start state miss → ⊥) }
 {
-    let State::Open { earliest, fixed } = state else {
-        return None;
-    };
-    if start < today {
-        Some(Miss::Past { day: today })
-    } else if start < earliest {
-        Some(Miss::Early { date: earliest })
-    } else {
-        moved(start, fixed)
+    match state {
+        State::Open { earliest, fixed } => open_miss(today, start, earliest, fixed),
+        State::Begun { .. } => None,
+        State::Done { .. } => None,
     }
 }
 

@@ -1,6 +1,7 @@
 //! The starts of all activities of a week.
 
-ghost use Rattle.std.specs.Prelude.{◌≡◌, IfOk};
+ghost use Rattle.std.specs.Prelude.{◌≡◌, ◌≤◌, cond, IfOk};
+ghost use Rattle.plan_week.specs.Weeks as weeks;
 ghost use Rattle.plan_weekverdict.specs.Starts as spec;
 ghost use Rattle.plan_weekverdict.specs.Verdicts.{HasSettled};
 
@@ -19,6 +20,14 @@ fn start_by(today: u32, given: u32, state: State) -> u32
     }
 }
 
+// Counts an activity with this state if it is open.
+fn counted(state: State) -> usize
+    ensures value { result ≡ cond (weeks.is_open state) 1 0 }
+    ensures small { result ≤ 1 }
+{
+    if is_open(state) { 1 } else { 0 }
+}
+
 /// Returns a start for each activity: one given start after another for what is open, today for what
 /// has begun, and the end of what is done.
 pub fn all_starts(alloc: Global, week: &Week, given: &[u32]) -> Result<Vec<u32>, AllocError>
@@ -30,9 +39,7 @@ pub fn all_starts(alloc: Global, week: &Week, given: &[u32]) -> Result<Vec<u32>,
     for place in 0..week.durations.len() {
         let state = state_of(week, place);
         starts.push(start_by(week.today, at(given, next), state))?;
-        if is_open(state) {
-            next += 1;
-        }
+        next += counted(state);
     }
     Ok(starts)
 }

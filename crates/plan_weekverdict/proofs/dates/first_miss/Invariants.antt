@@ -5,4 +5,4 @@ use Rattle.plan_weekverdict.proofs.dates.first_miss.Given as goal
 
 -- no activity so far misses its dates
 abbrev pub invariant-loop-place : goal.invariant-loop-place
-invariant-loop-place l = (i : ℕ) (miss : Miss) → i < l.place → MissesAt l.week l.starts i miss → ⊥
+invariant-loop-place l = (i : ℕ) → i < l.place → (miss : Miss) → MissesAt l.week l.starts i miss → ⊥
