@@ -51,10 +51,14 @@ SaysOpenStarts listed = SaysFor listed (open_durations listed.week)
 
 -- ---- errors
 
--- durations are above a limit, which isn't that of memory; line 0 is the whole list
+-- the line of durations above a limit; line 0 is the whole list
+abbrev pub limit_line : List ℕ
+limit_line = codes "T12 limit line 0"
+
+-- a line gives an error of a network, which isn't that of memory
 abbrev pub TellsLimit : NetFault → List ℕ → Type 0
 TellsLimit net.NoMemory line = ⊥
-TellsLimit fault line = line ≡ codes "T12 limit line 0"
+TellsLimit fault line = line ≡ limit_line
 
 -- a network of activities with these durations fails a check
 abbrev pub TellsAboveLimit : List ℕ → List ℕ → Type 0

@@ -4,6 +4,7 @@ ghost use Rattle.std.specs.Prelude.{◌≡◌, ◌++◌, IfOk, codes};
 ghost use Rattle.std.specs.Fmt.{decimal};
 ghost use Rattle.plan_documents.specs.Refusals as places;
 ghost use Rattle.plan_documents.specs.Starts as starts;
+ghost use Rattle.plan_errors.specs.Codes.{name_of};
 ghost use Rattle.plan_errors.specs.Output.{Refuses};
 ghost use Rattle.plan_errors.specs.Parts.{parts_text};
 ghost use Rattle.plan_weekcheck.specs.Starts as spec;
@@ -95,9 +96,17 @@ pub(crate) fn read_refusal(alloc: Global, error: ReadError) -> CliFault
 
 // Returns words and line 0, which is the whole list.
 fn limit_parts(alloc: Global) -> Result<Vec<Part>, AllocError>
-    ensures { IfOk result (λ list. parts_text list.items ≡ codes " limit line 0") }
+    ensures { IfOk result (λ list.
+        name_of Code.TableLimit ++ parts_text list.items ≡ spec.limit_line) }
 {
     Ok(Vec::from_array(alloc, [Part::Words("limit"), Part::Number(Key::Line, 0)])?)
+}
+
+// Returns the error of a list that is above a limit.
+fn above_limit(alloc: Global) -> CliFault
+    ensures { Refuses (λ line. line ≡ spec.limit_line) result }
+{
+    refuse(Code::TableLimit, About::List, limit_parts(alloc))
 }
 
 /// Returns the error of activities whose durations are above a limit.
@@ -106,6 +115,12 @@ pub(crate) fn limit_refusal(alloc: Global, fault: NetFault) -> CliFault
 {
     match fault {
         NetFault::NoMemory => CliFault::Memory,
-        _ => refuse(Code::TableLimit, About::List, limit_parts(alloc)),
+        NetFault::Size
+        | NetFault::BadDuration(_)
+        | NetFault::BadArc(_, _)
+        | NetFault::DoubleArc(_, _)
+        | NetFault::Cycle(_)
+        | NetFault::NoArc(_, _)
+        | NetFault::BadLag(_, _) => above_limit(alloc),
     }
 }

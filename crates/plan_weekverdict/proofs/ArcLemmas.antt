@@ -1,15 +1,15 @@
 -- Broken arcs: the first one among some, and that a plan has none.
-use Rattle.std.proofs.Common.{◌≡◌, ◌≢◌, ◌∙◌, ℕ, ◌+◌, ◌≤◌, ◌<◌, ◌⊎◌, inl, inr, List, [], ◌∷◌, ◌++◌, Option, Some, None, Contains, length, get_or, take, refl, sym, ap, subst, arith}
+use Rattle.std.proofs.Common.{◌≡◌, ℕ, ◌+◌, ◌≤◌, ◌<◌, ◌⊎◌, inl, inr, List, [], ◌∷◌, ◌++◌, Option, Some, None, Contains, length, get_or, take, refl, sym, ap, subst, arith}
 use Rattle.std.specs.List.{All}
 use Rattle.std.specs.Option.{IfSome, IfNone}
-use Rattle.std.proofs.lemmas.Bool.{cases_lt, cases_eq}
+use Rattle.std.proofs.lemmas.Bool.{cases_lt}
 use Rattle.std.proofs.lemmas.List.{take_more, take_all}
 use Rattle.std.proofs.lemmas.List.Elements.{All-contains, Contains-get_or, Contains-append_left, Contains-push, Contains-push_cases}
 use Rattle.plan_sgs.specs.Verdicts.{IsNoLater}
 use Rattle.plan_kernel.specs.declared.input.Arc.{Arc}
 use Rattle.plan_week.specs.declared.week.Week.{Week}
 use Rattle.plan_week.specs.Weeks.{state_of, is_open, end_of, KeepsArc}
-use Rattle.plan_weekverdict.specs.Verdicts.{BreaksArc, HasBrokenIn, HasBroken, HasNoBroken, IsFirstIn, IsFirstBroken, IsFoundAmong, IsPairBefore, IsEarlierPair}
+use Rattle.plan_weekverdict.specs.Verdicts.{BreaksArc, HasBrokenIn, HasBroken, HasNoBroken, IsFirstIn, IsFirstBroken, IsFoundAmong, IsEarlierPair}
 
 -- kept arcs aren't broken
 pub kept_none : (week : Week) (starts : List ℕ) → All (KeepsArc week starts) week.arcs.items → HasNoBroken week starts
@@ -26,37 +26,12 @@ none_kept week starts none k d inside on =
       | inr kept ↦ kept
     ]
 
--- a pair that isn't behind another one is no later
-pair_no_later : (i j h k : ℕ) → (IsPairBefore (h, k) (i, j) → ⊥) → IsNoLater i j h k
-pair_no_later i j h k behind = elim (cases_lt i h) [
-  | inl before ↦ inl before
-  | inr not_before ↦ elim (cases_eq i h) [
-    | inr other ↦ absurd (behind (inl (omega (arith, not_before, other))))
-    | inl same ↦ elim (cases_lt k j) [
-      | inl less ↦ absurd (behind (inr (sym same, less)))
-      | inr most ↦ inr (same, most)
-    ]
-  ]
-]
-
-no_later_before : (i j h k x y : ℕ) → IsPairBefore (i, j) (h, k) → IsNoLater h k x y → IsNoLater i j x y
-no_later_before i j h k x y (inl a) (inl b) = inl (omega (arith, a, b))
-no_later_before i j h k x y (inl a) (inr b) = inl (omega (arith, a, b.0))
-no_later_before i j h k x y (inr a) (inl b) = inl (omega (arith, a.0, b))
-no_later_before i j h k x y (inr a) (inr b) = inr (omega (arith, a.0, b.0), omega (arith, a.1, b.1))
-
--- a pair is before another one, or not
-before_or_not : (i j h k : ℕ) → IsPairBefore (i, j) (h, k) ⊎ (IsPairBefore (i, j) (h, k) → ⊥)
-before_or_not i j h k = elim (cases_lt i h) [
-  | inl before ↦ inl (inl before)
-  | inr not_before ↦ elim (cases_eq i h) [
-    | inr other ↦ inr (λ pair. elim pair [ inl less ↦ omega (arith, less, not_before) | inr same ↦ omega (arith, other, same.0) ])
-    | inl same ↦ elim (cases_lt j k) [
-      | inl less ↦ inl (inr (same, less))
-      | inr most ↦ inr (λ pair. elim pair [ inl less ↦ omega (arith, less, not_before) | inr both ↦ omega (arith, most, both.1) ])
-    ]
-  ]
-]
+-- the order of pairs
+no_later_trans : (i j h k x y : ℕ) → IsNoLater i j h k → IsNoLater h k x y → IsNoLater i j x y
+no_later_trans i j h k x y (inl a) (inl b) = inl (omega (arith, a, b))
+no_later_trans i j h k x y (inl a) (inr b) = inl (omega (arith, a, b.0))
+no_later_trans i j h k x y (inr a) (inl b) = inl (omega (arith, a.0, b))
+no_later_trans i j h k x y (inr a) (inr b) = inr (omega (arith, a.0, b.0), omega (arith, a.1, b.1))
 
 -- a broken arc among some and one more
 broken_split : (week : Week) (starts : List ℕ) (arcs : List Arc) (arc : Arc) (i j : ℕ) → HasBrokenIn week starts (arcs ++ arc ∷ []) i j
@@ -84,37 +59,69 @@ found_kept week starts arcs arc (Some first) found keeps = record {
   ];
 }
 
--- the pair of the last arc is no later than itself
-itself : (arc : Arc) (h k : ℕ) → arc.to ≡ h → arc.from ≡ k → IsNoLater arc.to arc.from h k
-itself arc h k to from = inr (to, omega (arith, from))
+-- an order with the last arc
+last_order : (i j : ℕ) (arc : Arc) (h k : ℕ) → IsNoLater i j arc.to arc.from → arc.to ≡ h → arc.from ≡ k → IsNoLater i j h k
+last_order i j arc h k order to from =
+    subst (λ (x : ℕ). IsNoLater i j x k) to (subst (λ (y : ℕ). IsNoLater i j arc.to y) from order)
+
+itself : (arc : Arc) → IsNoLater arc.to arc.from arc.to arc.from
+itself arc = inr (refl, omega arith)
+
+-- one broken arc more that isn't before the first one
+stays : (week : Week) (starts : List ℕ) (arcs : List Arc) (arc : Arc) (i j : ℕ) → IsFirstIn week starts arcs i j → IsNoLater i j arc.to arc.from
+    → IsFirstIn week starts (arcs ++ arc ∷ []) i j
+stays week starts arcs arc i j found order = record {
+  here = broken_still week starts arcs arc i j found.here;
+  first = λ h k has. elim (broken_split week starts arcs arc h k has) [
+    | inl old ↦ found.first h k old
+    | inr last ↦ last_order i j arc h k order last.1 last.2
+  ];
+}
+
+-- one that is before it
+replaced : (week : Week) (starts : List ℕ) (arcs : List Arc) (arc : Arc) (i j : ℕ) → IsFirstIn week starts arcs i j → BreaksArc week starts arc
+    → IsNoLater arc.to arc.from i j → IsFirstIn week starts (arcs ++ arc ∷ []) arc.to arc.from
+replaced week starts arcs arc i j found breaks order = record {
+  here = (arc, Contains-push arcs arc, breaks, refl, refl);
+  first = λ h k has. elim (broken_split week starts arcs arc h k has) [
+    | inl old ↦ no_later_trans arc.to arc.from i j h k order (found.first h k old)
+    | inr last ↦ last_order arc.to arc.from arc h k (itself arc) last.1 last.2
+  ];
+}
+
+-- the only one
+only : (week : Week) (starts : List ℕ) (arcs : List Arc) (arc : Arc) → ((i j : ℕ) → HasBrokenIn week starts arcs i j → ⊥) → BreaksArc week starts arc
+    → IsFirstIn week starts (arcs ++ arc ∷ []) arc.to arc.from
+only week starts arcs arc none breaks = record {
+  here = (arc, Contains-push arcs arc, breaks, refl, refl);
+  first = λ h k has. elim (broken_split week starts arcs arc h k has) [
+    | inl old ↦ absurd (none h k old)
+    | inr last ↦ last_order arc.to arc.from arc h k (itself arc) last.1 last.2
+  ];
+}
+
+-- a result by its pair
+by_pair : (week : Week) (starts : List ℕ) (arcs : List Arc) (pair result : ℕ × ℕ) → result ≡ pair → IsFirstIn week starts arcs pair.0 pair.1
+    → IsFirstIn week starts arcs result.0 result.1
+by_pair week starts arcs pair result is first = subst (λ (r : ℕ × ℕ). IsFirstIn week starts arcs r.0 r.1) (sym is) first
 
 -- one broken arc more
 pub found_more : (week : Week) (starts : List ℕ) (arcs : List Arc) (arc : Arc) (found : Option (ℕ × ℕ)) (result : ℕ × ℕ) → IsFoundAmong week starts arcs found → BreaksArc week starts arc
     → IsEarlierPair found (arc.to, arc.from) result → IsFoundAmong week starts (arcs ++ arc ∷ []) (Some result)
 found_more week starts arcs arc None result none breaks is =
-    subst (λ (r : ℕ × ℕ). IsFirstIn week starts (arcs ++ arc ∷ []) r.0 r.1) (sym is) (record {
-      here = (arc, Contains-push arcs arc, breaks, refl, refl);
-      first = λ h k has. elim (broken_split week starts arcs arc h k has) [
-        | inl before ↦ absurd (none h k before)
-        | inr last ↦ itself arc h k last.1 last.2
-      ];
-    })
-found_more week starts arcs arc (Some first) result found breaks is = elim (before_or_not arc.to arc.from first.0 first.1) [
-  | inl before ↦ subst (λ (r : ℕ × ℕ). IsFirstIn week starts (arcs ++ arc ∷ []) r.0 r.1) (sym (is.0 before)) (record {
-    here = (arc, Contains-push arcs arc, breaks, refl, refl);
-    first = λ h k has. elim (broken_split week starts arcs arc h k has) [
-      | inl old ↦ no_later_before arc.to arc.from first.0 first.1 h k before (found.first h k old)
-      | inr last ↦ itself arc h k last.1 last.2
-    ];
-  })
-  | inr behind ↦ subst (λ (r : ℕ × ℕ). IsFirstIn week starts (arcs ++ arc ∷ []) r.0 r.1) (sym (is.1 behind)) (record {
-    here = broken_still week starts arcs arc first.0 first.1 found.here;
-    first = λ h k has. elim (broken_split week starts arcs arc h k has) [
-      | inl old ↦ found.first h k old
-      | inr last ↦ subst (λ (x : ℕ). IsNoLater first.0 first.1 x k) last.1 (subst (λ (x : ℕ). IsNoLater first.0 first.1 arc.to x) last.2
-          (pair_no_later first.0 first.1 arc.to arc.from behind))
-    ];
-  })
+    by_pair week starts (arcs ++ arc ∷ []) (arc.to, arc.from) result is (only week starts arcs arc none breaks)
+found_more week starts arcs arc (Some first) result found breaks is = elim (cases_lt first.0 arc.to) [
+  | inl after ↦ by_pair week starts (arcs ++ arc ∷ []) first result (is.0 after) (stays week starts arcs arc first.0 first.1 found (inl after))
+  | inr not_after ↦ elim (cases_lt arc.to first.0) [
+    | inl before ↦ by_pair week starts (arcs ++ arc ∷ []) (arc.to, arc.from) result (is.1 before) (replaced week starts arcs arc first.0 first.1 found breaks (inl before))
+    | inr not_before ↦
+        let same : arc.to ≡ first.0 = omega (arith, not_after, not_before) in
+        elim (cases_lt arc.from first.1) [
+          | inl less ↦ by_pair week starts (arcs ++ arc ∷ []) (arc.to, arc.from) result (is.2 same less)
+              (replaced week starts arcs arc first.0 first.1 found breaks (inr (same, omega (arith, less))))
+          | inr most ↦ by_pair week starts (arcs ++ arc ∷ []) first result (is.3 same most) (stays week starts arcs arc first.0 first.1 found (inr (sym same, most)))
+        ]
+  ]
 ]
 
 -- without an arc there is no broken one

@@ -84,3 +84,33 @@ not_moved today start earliest (Some date) result since after is = elim (cases_e
       (λ miss misses. keeps_all today start (Open earliest (Some date)) miss (since, after, same) misses)
   | inr other ↦ subst (λ (r : Option Miss). IfNone r ((miss : Miss) → Misses today start (Open earliest (Some date)) miss → ⊥)) (sym (is.1 other)) tt
 ]
+
+-- the activity at a place misses its dates, by the values that the program has
+pub misses_at : (week : Week) (starts : List ℕ) (i start : ℕ) (s : State) (miss : Miss) → i < count (project_of week) → start ≡ get_or starts i 0 → s ≡ state_of week i
+    → Misses week.today start s miss → MissesAt week starts i miss
+misses_at week starts i start s miss inside same is misses = (
+  inside,
+  subst (λ (x : ℕ). Misses week.today x (state_of week i) miss) same (subst (λ (x : State). Misses week.today start x miss) is misses),
+)
+
+-- it doesn't
+pub misses_not : (week : Week) (starts : List ℕ) (i start : ℕ) (s : State) → start ≡ get_or starts i 0 → s ≡ state_of week i
+    → ((miss : Miss) → Misses week.today start s miss → ⊥) → (miss : Miss) → MissesAt week starts i miss → ⊥
+misses_not week starts i start s same is none miss has =
+    none miss (subst (λ (x : ℕ). Misses week.today x s miss) (sym same) (subst (λ (x : State). Misses week.today (get_or starts i 0) x miss) (sym is) has.1))
+
+-- it is the first one
+pub first_miss_at : (week : Week) (starts : List ℕ) (i : ℕ) (miss : Miss) → ((h : ℕ) → h < i → (other : Miss) → MissesAt week starts h other → ⊥)
+    → MissesAt week starts i miss → IsFirstMiss week starts i miss
+first_miss_at week starts i miss before here = record {
+  here = here;
+  first = λ h other has. elim (cases_lt h i) [
+    | inl less ↦ absurd (before h less other has)
+    | inr most ↦ most
+  ];
+}
+
+-- none does
+pub no_miss_at_all : (week : Week) (starts : List ℕ) (n : ℕ) → count (project_of week) ≤ n → ((h : ℕ) → h < n → (other : Miss) → MissesAt week starts h other → ⊥)
+    → HasNoMiss week starts
+no_miss_at_all week starts n all before i miss has = before i (omega (arith, has.0, all)) miss has

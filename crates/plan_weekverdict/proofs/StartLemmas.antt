@@ -33,6 +33,14 @@ settled_by today given (Open earliest fixed) closed = absurd (both_ways true clo
 settled_by today given (Begun began remaining) closed = refl
 settled_by today given (Done ended) closed = refl
 
+-- the starts of as many activities as there are
+pub all_of : (week : Week) (given starts : List ℕ) (n : ℕ) → n ≡ count (project_of week) → length starts ≡ n
+    → ((i : ℕ) → i < n → get_or starts i 0 ≡ start_by week.today (get_or given (open_before week i) 0) (state_of week i)) → AreAllStarts week given starts
+all_of week given starts n all whole each = record {
+  whole = whole ∙ all;
+  each = λ i inside. each i (omega (arith, inside, all));
+}
+
 pub all_settled : (week : Week) (given starts : List ℕ) → AreAllStarts week given starts → HasSettled week starts
 all_settled week given starts all = record {
   each_started = all.whole;

@@ -1,6 +1,6 @@
 -- Verdicts on starts of a week: the first activity that misses a date or starts before a predecessor
 -- ends, else the first overload, else feasible (docs/definitions.md, "Weeks").
-use Rattle.std.specs.Prelude.{◌≡◌, ◌≢◌, ℕ, ◌+◌, ◌≤◌, ◌<◌, ◌⊎◌, nat_lt, if◌then◌else◌, IsTrue, IsFalse, List, length, get_or, Contains, Option, Some, None}
+use Rattle.std.specs.Prelude.{◌≡◌, ◌≢◌, ℕ, ◌+◌, ◌≤◌, ◌<◌, nat_lt, if◌then◌else◌, IsTrue, IsFalse, List, length, get_or, Contains, Option, Some, None}
 use Rattle.plan_sgs.specs.Problem.{count, capacity}
 use Rattle.plan_sgs.specs.Verdicts.{IsNoLater}
 use Rattle.plan_kernel.specs.declared.input.Arc.{Arc}
@@ -126,15 +126,13 @@ IsMoveFrom None start result = result ≡ None
 IsMoveFrom (Some date) start result =
     (start ≡ date → result ≡ None) × (start ≢ date → result ≡ Some (Moved start date))
 
--- a pair is before another one
-abbrev pub IsPairBefore : ℕ × ℕ → ℕ × ℕ → Type 0
-IsPairBefore pair other = (pair.0 < other.0) ⊎ ((pair.0 ≡ other.0) × (pair.1 < other.1))
-
--- a pair, or one that was found and isn't behind it
+-- the first of two pairs, ordered by the first number and then by the second
 abbrev pub IsEarlierPair : Option (ℕ × ℕ) → ℕ × ℕ → ℕ × ℕ → Type 0
 IsEarlierPair None pair result = result ≡ pair
 IsEarlierPair (Some first) pair result =
-    (IsPairBefore pair first → result ≡ pair) × ((IsPairBefore pair first → ⊥) → result ≡ first)
+    (first.0 < pair.0 → result ≡ first) × (pair.0 < first.0 → result ≡ pair)
+    × (pair.0 ≡ first.0 → pair.1 < first.1 → result ≡ pair)
+    × (pair.0 ≡ first.0 → first.1 ≤ pair.1 → result ≡ first)
 
 -- the first broken one of some arcs, or none
 abbrev pub IsFoundAmong : Week → List ℕ → List Arc → Option (ℕ × ℕ) → Type 0

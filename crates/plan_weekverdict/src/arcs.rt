@@ -13,30 +13,30 @@ fn is_broken(week: &Week, starts: &[u32], arc: Arc) -> bool
     ensures yes { IsTrue result → spec.BreaksArc week.now starts.now arc }
     ensures kept { IsFalse result → spec.BreaksArc week.now starts.now arc → ⊥ }
 {
+    if !is_open(state_of(week, arc.to as usize)) {
+        return false;
+    }
     let ready = end_of(week, starts, arc.from as usize) as u128 + arc.lag as u128;
-    is_open(state_of(week, arc.to as usize)) && (at(starts, arc.to as usize) as u128) < ready
-}
-
-// Whether a pair is before another one, ordered by the first number and then by the second.
-fn is_before(pair: (u32, u32), other: (u32, u32)) -> bool
-    ensures yes { IsTrue result → spec.IsPairBefore pair other }
-    ensures behind { IsFalse result → spec.IsPairBefore pair other → ⊥ }
-{
-    pair.0 < other.0 || (pair.0 == other.0 && pair.1 < other.1)
+    (at(starts, arc.to as usize) as u128) < ready
 }
 
 // Returns the first of two pairs of an activity and a predecessor.
 fn earlier(found: Option<(u32, u32)>, pair: (u32, u32)) -> (u32, u32)
     ensures { spec.IsEarlierPair found pair result }
 {
-    match found {
-        None => pair,
-        Some(first) => { if is_before(pair, first) { pair } else { first } }
+    let Some(first) = found else {
+        return pair;
+    };
+    if first.0 < pair.0 {
+        return first;
     }
+    if pair.0 < first.0 {
+        return pair;
+    }
+    if pair.1 < first.1 { pair } else { first }
 }
 
 // Returns the first broken arc of those before this one and of this one.
-#[tactic(auto, using(crate::proofs::ArcLemmas::found_kept, crate::proofs::ArcLemmas::found_more))]
 fn with_arc(week: &Week, starts: &[u32], found: Option<(u32, u32)>, arc: Arc) -> Option<(u32, u32)>
     ensures { (arcs : List Link) → spec.IsFoundAmong week.now starts.now arcs found
         → spec.IsFoundAmong week.now starts.now (arcs ++ arc ∷ []) result }

@@ -3,9 +3,9 @@ use Rattle.plan_sgs.specs.Problem.{count}
 use Rattle.plan_sgs.proofs.StartLemmas.{total_next}
 use Rattle.plan_week.specs.declared.week.State.{State}
 use Rattle.plan_week.specs.Weeks.{project_of, state_of, is_open}
-use Rattle.plan_weekverdict.specs.Starts.{open_before, start_by, AreAllStarts}
+use Rattle.plan_weekverdict.specs.Starts.{open_before, start_by}
 use Rattle.plan_weekverdict.proofs.PinLemmas.{project_count}
-use Rattle.plan_weekverdict.proofs.StartLemmas.{each_more, length_more, all_settled}
+use Rattle.plan_weekverdict.proofs.StartLemmas.{each_more, length_more, all_of, all_settled}
 use Rattle.plan_weekverdict.proofs.starts.all_starts.Goals as goal
 
 pub loop-place-preserved : goal.loop-place-preserved
@@ -26,12 +26,17 @@ loop-place-preserved c =
           c.start_by.result 0 place c.loop-place.invariant.whole c.in_ok-push.ensures.items c.loop-place.invariant.each here;
     }
 
-all : (c : goal.After-loop-place) → AreAllStarts c.args.week.now c.args.given.now c.loop-place.starts.items
-all c =
+pub returns-clause-all : goal.returns-clause-all
+returns-clause-all c =
     let week = c.args.week.now in
     let n : c.loop-place.place ≡ count (project_of week) =
     omega (arith, c.loop-place-test.false, c.len-place-end.ensures, c.loop-place.auto.place-end, project_count week) in
-    record {
-      whole = c.loop-place.invariant.whole ∙ n;
-      each = λ i inside. c.loop-place.invariant.each i (omega (arith, inside, n));
-    }
+    all_of week c.args.given.now c.loop-place.starts.items c.loop-place.place n c.loop-place.invariant.whole c.loop-place.invariant.each
+
+pub returns-clause-settled : goal.returns-clause-settled
+returns-clause-settled c =
+    let week = c.args.week.now in
+    let n : c.loop-place.place ≡ count (project_of week) =
+    omega (arith, c.loop-place-test.false, c.len-place-end.ensures, c.loop-place.auto.place-end, project_count week) in
+    all_settled week c.args.given.now c.loop-place.starts.items
+    (all_of week c.args.given.now c.loop-place.starts.items c.loop-place.place n c.loop-place.invariant.whole c.loop-place.invariant.each)
