@@ -1,2 +1,3 @@
+mod OpenedLemmas
 mod StartLemmas
 mod OutputLemmas

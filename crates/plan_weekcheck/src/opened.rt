@@ -11,6 +11,7 @@ use plan_weekverdict::is_open;
 use std::alloc::{AllocError, Global};
 
 /// Returns the durations of the activities that are open.
+#[tactic(auto, using(crate::proofs::OpenedLemmas::open_next, crate::proofs::OpenedLemmas::open_passed))]
 pub(crate) fn open_durations(alloc: Global, week: &Week) -> Result<Vec<u32>, AllocError>
     ensures { IfOk result (λ durations. durations.items ≡ spec.open_durations week.now) }
 {
@@ -37,6 +38,7 @@ pub(crate) fn between_zeros(alloc: Global, numbers: &[u32]) -> Result<Vec<u64>, 
 }
 
 /// Returns the ids of the activities that are open, by their numbers among these, from 2 on.
+#[tactic(auto, using(crate::proofs::OpenedLemmas::open_next, crate::proofs::OpenedLemmas::open_passed))]
 pub(crate) fn open_ids<'a>(
     alloc: Global,
     week: &Week,
@@ -59,6 +61,7 @@ pub(crate) fn open_ids<'a>(
 }
 
 /// Returns the ids of the activities that have begun or are done.
+#[tactic(auto, using(crate::proofs::OpenedLemmas::settled_next, crate::proofs::OpenedLemmas::settled_passed))]
 pub(crate) fn settled_ids<'a>(
     alloc: Global,
     week: &Week,

@@ -1,6 +1,9 @@
 use Rattle.std.proofs.Common.{List, ap, length, arith}
-use Rattle.plan_weekverdict.proofs.ArcLemmas.{found_step, found_all}
+use Rattle.plan_weekverdict.proofs.ArcLemmas.{found_first, found_step, found_all}
 use Rattle.plan_weekverdict.proofs.arcs.first_broken.Goals as goal
+
+pub loop-arc-init : goal.loop-arc-init
+loop-arc-init c = found_first c.args.week.now c.args.starts.now
 
 pub loop-arc-preserved : goal.loop-arc-preserved
 loop-arc-preserved c =

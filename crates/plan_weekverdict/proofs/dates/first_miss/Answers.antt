@@ -5,6 +5,9 @@ use Rattle.plan_weekverdict.proofs.MissLemmas.{misses_at, first_miss_at, no_miss
 use Rattle.plan_weekverdict.proofs.PinLemmas.{project_count}
 use Rattle.plan_weekverdict.proofs.dates.first_miss.Goals as goal
 
+pub loop-place-init : goal.loop-place-init
+loop-place-init c = λ i below. absurd (omega (arith, below))
+
 pub returns-in-Some-clause-some : goal.returns-in-Some-clause-some
 returns-in-Some-clause-some c =
     let week = c.args.week.now in
