@@ -1,10 +1,8 @@
 //! The starts in a text of the activities that are open.
 
-ghost use Rattle.std.specs.Prelude.{◌≡◌, ◌≤◌, All, IfErr, IfOk, length};
+ghost use Rattle.std.specs.Prelude.{◌≡◌, All, IfErr, IfOk};
 ghost use Rattle.plan_errors.specs.Output.{Refuses};
-ghost use Rattle.plan_net.specs.Limits.{IsSound};
 ghost use Rattle.plan_profile.specs.Usage.{IsInTime};
-ghost use Rattle.plan_weekcheck.specs.Opened as opened;
 ghost use Rattle.plan_weekcheck.specs.Starts as spec;
 
 use crate::faults::{limit_refusal, read_refusal};
