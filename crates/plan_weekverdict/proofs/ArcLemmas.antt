@@ -47,7 +47,7 @@ broken_still week starts arcs arc i j (other, inside, breaks, to, from) = (other
 -- one arc more that isn't broken
 pub found_kept : (week : Week) (starts : List ℕ) (arcs : List Arc) (arc : Arc) (found : Option (ℕ × ℕ)) → IsFoundAmong week starts arcs found → (BreaksArc week starts arc → ⊥)
     → IsFoundAmong week starts (arcs ++ arc ∷ []) found
-found_kept week starts arcs arc None none keeps i j has = elim (broken_split week starts arcs arc i j has) [
+found_kept week starts arcs arc None none keeps = λ i j has. elim (broken_split week starts arcs arc i j has) [
   | inl before ↦ none i j before
   | inr last ↦ keeps last.0
 ]

@@ -92,8 +92,8 @@ no_later_first i j h k (inl before) = omega (arith, before)
 no_later_first i j h k (inr same) = omega (arith, same.0)
 
 by_test : {X : Type 0} (P : X → Type 0) (b : Bool) (x y : X) → P x → P y → P (if b then x else y)
-by_test P true x y yes other = yes
-by_test P false x y yes other = other
+by_test P true x y one other = one
+by_test P false x y one other = other
 
 -- what the first miss and the first broken arc make
 pub first_wrong : (week : Week) (starts : List ℕ) (miss : Option (ℕ × Miss)) (arc : Option (ℕ × ℕ))

@@ -16,12 +16,12 @@ loop-place-preserved c =
     let here : c.start_by.result ≡ start_by week.today (get_or given (open_before week place) 0) (state_of week place) =
     c.start_by.ensures ∙ ap (λ (s : State). start_by week.today c.at.result s) c.state_of-state.ensures
     ∙ ap (λ (x : ℕ). start_by week.today x (state_of week place)) (c.at.ensures ∙ ap (λ (n : ℕ). get_or given n 0) c.loop-place.invariant.opened) in
-    let counted : c.counted.result ≡ cond (is_open (state_of week place)) 1 0 =
-    c.counted.ensures.value ∙ ap (λ (s : State). cond (is_open s) 1 0) c.state_of-state.ensures in
+    let counted : c.counted-next.result ≡ cond (is_open (state_of week place)) 1 0 =
+    c.counted-next.ensures.value ∙ ap (λ (s : State). cond (is_open s) 1 0) c.state_of-state.ensures in
     record {
       whole = length_more c.loop-place.starts.items c.push.new.self.items c.start_by.result place c.loop-place.invariant.whole c.in_ok-push.ensures.items;
       opened = omega (arith, c.loop-place.invariant.opened, counted, total_next place (λ i. cond (is_open (state_of week i)) 1 0));
-      few = omega (arith, c.loop-place.invariant.few, c.counted.ensures.small);
+      few = omega (arith, c.loop-place.invariant.few, c.counted-next.ensures.small);
       each = each_more (λ i x. x ≡ start_by week.today (get_or given (open_before week i) 0) (state_of week i)) c.loop-place.starts.items c.push.new.self.items
           c.start_by.result 0 place c.loop-place.invariant.whole c.in_ok-push.ensures.items c.loop-place.invariant.each here;
     }
