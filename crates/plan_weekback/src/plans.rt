@@ -184,18 +184,8 @@ pub fn plan_entries(
         spec.HasEntryBeyond (spec.days_in calendar.entry) listed.now.table
         (map dated_of rows.now) listed.now.week plan.now.starts.items }
 {
-    let list = Rows {
-        own_ids: listed.table.own_ids,
-        rows,
-    };
-    let activities = planned(listed);
-    let entries = entries_of(
-        alloc,
-        calendar,
-        list,
-        &listed.week,
-        &plan.starts,
-        activities,
-    )?;
+    let own = listed.table.own_ids;
+    let ones = planned(listed);
+    let entries = entries_of(alloc, calendar, own, rows, &listed.week, &plan.starts, ones)?;
     Ok(entries)
 }
