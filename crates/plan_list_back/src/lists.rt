@@ -5,6 +5,7 @@ ghost use Rattle.plan_encoding.specs.Encodings.{utf8_of};
 ghost use Rattle.plan_table.specs.Csv.{row_of};
 ghost use Rattle.plan_table.specs.Overrides.{override_of};
 ghost use Rattle.plan_spreadsheet.specs.Options.{options_of};
+ghost use Rattle.plan_spreadsheet.specs.Rows.{Spells};
 ghost use Rattle.plan_list_back.specs.ListBack as spec;
 
 use crate::columns::with_times;
@@ -36,6 +37,24 @@ fn changed(fault: ListBackFault) -> ListBackFault {
     }
 }
 
+/// Returns the text of rows, each in its line. It has the separator of `text`, which is the text of
+/// the file in UTF-8, and begins with a byte-order mark if `bytes` do, which are those of the file.
+pub fn spelled_rows(
+    alloc: Global,
+    bytes: &[u8],
+    text: &[u8],
+    rows: &[Row],
+) -> Result<Vec<u8>, ListBackFault>
+    ensures { IfOk result (λ made. Spells made.items (map row_of rows.now)) }
+{
+    let made = text_of(alloc, bytes, separator_of(text), rows)?;
+    let right = spells(alloc, &made, rows)?;
+    if !right {
+        return Err(too_long_or_changed(&made));
+    }
+    Ok(made)
+}
+
 // A list with the times of its activities, which are no part of the project.
 #[tactic(auto, using(crate::proofs::ListBackLemmas::back))]
 fn with_texts(alloc: Global, bytes: &[u8], times: &[Times<'_>]) -> Result<Vec<u8>, ListBackFault>
@@ -50,11 +69,7 @@ fn with_texts(alloc: Global, bytes: &[u8], times: &[Times<'_>]) -> Result<Vec<u8
         Err(ReadError::Fault(_)) => return Err(ListBackFault::NoList),
     };
     let rows = with_times(alloc, times, &rows)?;
-    let made = text_of(alloc, bytes, separator_of(text), &rows)?;
-    let right = spells(alloc, &made, &rows)?;
-    if !right {
-        return Err(too_long_or_changed(&made));
-    }
+    let made = spelled_rows(alloc, bytes, text, &rows)?;
     Ok(made)
 }
 

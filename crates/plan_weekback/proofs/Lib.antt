@@ -1,0 +1,4 @@
+pub mod BackLemmas
+pub mod EntryLemmas
+pub mod OutputLemmas
+pub mod ReadingLemmas

@@ -1,0 +1,6 @@
+use Rattle.std.proofs.Common.{◌≡◌, drop}
+use Rattle.plan_weekback.proofs.sameness.same_absences.Given as goal
+
+-- all absences are the same if those that are left are
+abbrev pub invariant-loop-one : goal.invariant-loop-one
+invariant-loop-one l = drop l.one-index l.a ≡ l.rest → l.a ≡ l.b

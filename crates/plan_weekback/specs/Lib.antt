@@ -1,0 +1,5 @@
+pub mod Entries
+pub mod Columns
+pub mod Readings
+pub mod Sameness
+pub mod Outputs
