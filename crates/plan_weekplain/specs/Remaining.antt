@@ -7,7 +7,8 @@ use Rattle.plan_week.specs.declared.week.State.{State}
 use Rattle.plan_week.specs.declared.week.State.TheVariants.{Open, Begun, Done}
 use Rattle.plan_week.specs.declared.week.Week.{Week}
 use Rattle.plan_week.specs.Inputs.{count_of}
-use Rattle.plan_week.specs.Weeks.{is_open, rest_of, state_of}
+use Rattle.plan_week.specs.Weeks.{is_open, rest, state_of}
+use Rattle.plan_weeks.specs.WeekTables.{lasts_of}
 
 -- an activity is done
 abbrev pub is_done : State → Bool
@@ -18,7 +19,8 @@ is_done (Done ended) = true
 -- how long activity k of a list lasts from today on. A wait, which isn't in the week, lasts as long
 -- as its list says.
 abbrev pub left_of : Week → ℕ → ℕ → ℕ
-left_of week k lasts = if nat_lt k (count_of week) then rest_of week k else lasts
+left_of week k lasts =
+    if nat_lt k (count_of week) then rest (lasts_of week k) (state_of week k) else lasts
 
 -- an activity has another one among its predecessors, by its number
 abbrev pub follows : ℕ → Activity → Bool

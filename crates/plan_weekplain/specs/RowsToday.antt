@@ -54,15 +54,15 @@ no_activity =
     record { line = 0; id = []; name = []; duration = 0; predecessors = []; needs = [] }
 
 -- how long activity k of a list lasts
-abbrev pub lasts_of : List Activity → ℕ → ℕ
-lasts_of activities k = (get_or activities k no_activity).duration
+abbrev pub duration_at : List Activity → ℕ → ℕ
+duration_at activities k = (get_or activities k no_activity).duration
 
 -- the row of activity k, in the same line
 abbrev pub row_today : List Column → Week → List Activity → ℕ → Row → Row
 row_today kinds week activities k row = record {
   line = row.line;
-  cells = cells_from kinds (state_of week k) (left_of week k (lasts_of activities k))
-      (lasts_of activities k) [] 0 row.cells;
+  cells = cells_from kinds (state_of week k) (left_of week k (duration_at activities k))
+      (duration_at activities k) [] 0 row.cells;
 }
 
 -- rows with that of activity k, if it is left

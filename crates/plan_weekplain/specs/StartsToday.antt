@@ -1,5 +1,5 @@
 -- The starts of a plan of a week as those of a plain list.
-use Rattle.std.specs.Prelude.{◌≡◌, ◌⊎◌, ℕ, ◌+◌, ◌-◌, ◌<◌, ◌&&◌, Bool, if◌then◌else◌, cond}
+use Rattle.std.specs.Prelude.{◌≡◌, ◌⊎◌, ℕ, ◌+◌, ◌-◌, ◌<◌, ◌&&◌, Bool, if◌then◌else◌}
 use Rattle.std.specs.Prelude.{List, get_or, length, nat_eq, nat_le, nat_lt}
 use Rattle.plan_documents.specs.Documents.{problem_of, sheet_of}
 use Rattle.plan_documents.specs.Starts.{TellsNoStarts}
@@ -20,10 +20,14 @@ use Rattle.plan_weekplain.specs.ListsToday.{TellsNoList}
 
 -- ---- starts
 
--- the end of the predecessor of an arc, if the arc is one to activity j
+-- an arc is one to activity j, from an activity with a start
+abbrev pub is_into : ℕ → List ℕ → ℕ × ℕ → Bool
+is_into j starts arc = nat_eq arc.1 j && (nat_le 1 arc.0 && nat_le arc.0 (length starts))
+
+-- the end of the predecessor of such an arc
 abbrev pub end_by : Net → List ℕ → ℕ → ℕ × ℕ → ℕ
 end_by net starts j arc =
-    cond (nat_eq arc.1 j) (get_or starts (arc.0 - 1) 0 + duration_of net arc.0) 0
+    if is_into j starts arc then get_or starts (arc.0 - 1) 0 + duration_of net arc.0 else 0
 
 -- the greatest end of a predecessor of activity j, 0 if there is none
 abbrev pub latest_end : Net → List ℕ → ℕ → ℕ

@@ -1,6 +1,6 @@
 //! The cells of an activity from today on.
 
-ghost use Rattle.std.specs.Prelude.{◌≡◌, [], decimal, map, slice_index_or, IfOk};
+ghost use Rattle.std.specs.Prelude.{◌≡◌, [], if◌then◌else◌, decimal, map, slice_index_or, IfOk};
 ghost use Rattle.plan_table.specs.declared.header.Column.TheVariants.{Nothing};
 ghost use Rattle.plan_weekplain.specs.RowsToday as spec;
 

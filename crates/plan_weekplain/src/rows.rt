@@ -36,8 +36,8 @@ fn copy_row(alloc: Global, row: &Row) -> Result<Row, AllocError>
 }
 
 // Returns how long activity `k` of a list lasts.
-fn lasts_of(activities: &[Activity], k: usize) -> u32
-    ensures { result ≡ spec.lasts_of (map activity_of activities.now) k }
+fn duration_at(activities: &[Activity], k: usize) -> u32
+    ensures { result ≡ spec.duration_at (map activity_of activities.now) k }
 {
     match activities.get(k) {
         Some(activity) => activity.duration,
@@ -57,7 +57,7 @@ fn row_today(
     ensures { IfOk result (λ made. row_of made ≡ spec.row_today kinds.now week.now
         (map activity_of activities.now) k (row_of row.now)) }
 {
-    let lasts = lasts_of(activities, k);
+    let lasts = duration_at(activities, k);
     let of = Left {
         state: state_of(week, k),
         left: left_of(week, k, lasts),

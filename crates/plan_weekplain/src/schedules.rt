@@ -23,14 +23,6 @@ use plan_week::Week;
 use plan_weeks::WeekPlan;
 use std::alloc::{AllocError, Global};
 
-// Returns the number at a place, 0 if there is none.
-fn start_at(starts: &[u64], place: usize) -> u64
-    ensures value { result ≡ get_or starts.now place 0 }
-    ensures limit { All IsInTime starts.now → result ≤ 10000000 }
-{
-    if place < starts.len() { starts[place] } else { 0 }
-}
-
 // Returns the start of an activity of the week in a plan, 0 if there is none.
 fn planned_at(plan: &[u32], place: usize) -> u64
     ensures { result ≡ get_or plan.now place 0 }
@@ -40,13 +32,13 @@ fn planned_at(plan: &[u32], place: usize) -> u64
 
 // Returns the end of the predecessor of an arc, if the arc is one to activity `j`.
 fn end_by(network: &Network, starts: &[u64], j: usize, arc: (u32, u32)) -> u64
-    requires arc { networks.IsActivity network.now arc.0 }
+    requires whole { length starts.now ≡ networks.count_of network.now }
     requires limit { All IsInTime starts.now }
     ensures { result ≡ spec.end_by network.now starts.now j arc }
 {
     let (from, to) = arc;
-    if to as usize == j {
-        start_at(starts, from as usize - 1) + network.duration(from)
+    if to as usize == j && from >= 1 && from as usize <= starts.len() {
+        starts[from as usize - 1] + network.duration(from)
     } else {
         0
     }
@@ -54,6 +46,7 @@ fn end_by(network: &Network, starts: &[u64], j: usize, arc: (u32, u32)) -> u64
 
 // Returns the greatest end of a predecessor of activity `j`, 0 if there is none.
 fn latest_end(network: &Network, starts: &[u64], j: usize) -> u64
+    requires whole { length starts.now ≡ networks.count_of network.now }
     requires limit { All IsInTime starts.now }
     ensures { result ≡ spec.latest_end network.now starts.now j }
 {
@@ -66,6 +59,7 @@ fn latest_end(network: &Network, starts: &[u64], j: usize) -> u64
 
 // Returns the start at a place: that of the plan, or the end of what a wait or a dummy waits for.
 fn start_today(week: &Week, plan: &WeekPlan, network: &Network, starts: &[u64], x: usize) -> u64
+    requires whole { length starts.now ≡ networks.count_of network.now }
     requires limit { All IsInTime starts.now }
     requires place { x < networks.count_of network.now }
     ensures { result ≡ spec.start_today week.now plan.now network.now starts.now x }
@@ -79,11 +73,12 @@ fn start_today(week: &Week, plan: &WeekPlan, network: &Network, starts: &[u64], 
 
 // Whether starts are those of a plan.
 fn are_starts_today(week: &Week, plan: &WeekPlan, network: &Network, starts: &[u64]) -> bool
+    requires whole { length starts.now ≡ networks.count_of network.now }
     requires limit { All IsInTime starts.now }
     ensures { IsTrue result → spec.AreStartsToday week.now plan.now network.now starts.now }
 {
     for x in 0..network.len() {
-        if start_at(starts, x) != start_today(week, plan, network, starts, x) {
+        if starts[x] != start_today(week, plan, network, starts, x) {
             return false;
         }
     }
@@ -92,6 +87,7 @@ fn are_starts_today(week: &Week, plan: &WeekPlan, network: &Network, starts: &[u
 
 // Whether starts are those of a plan, in a project.
 fn are_starts_in(week: &Week, plan: &WeekPlan, project: &Plan<'_>, starts: &[u64]) -> bool
+    requires whole { length starts.now ≡ count_of project.now }
     requires limit { All IsInTime starts.now }
     ensures { IsTrue result → spec.AreStartsIn week.now plan.now project.now starts.now }
 {

@@ -5,13 +5,21 @@ use plan_week::Week;
 use std::alloc::{AllocError, Global};
 use std::fmt::Write;
 
-// Returns the greatest end of a predecessor of activity `j`.
+// Returns the end of an activity, 0 if it has no start.
+fn end_of(network: &Network, starts: &[u64], activity: u32) -> u64 {
+    if activity >= 1 && activity as usize <= starts.len() && activity as usize <= network.len() {
+        starts[activity as usize - 1].saturating_add(network.duration(activity))
+    } else {
+        0
+    }
+}
+
+// Returns the greatest end of a predecessor of activity `j`, 0 if there is none.
 fn latest_end(network: &Network, starts: &[u64], j: usize) -> u64 {
-    let mut latest = 0;
+    let mut latest: u64 = 0;
     for &(from, to) in network.arcs() {
-        let place = from.saturating_sub(1) as usize;
-        if to as usize == j && place < starts.len() && place < network.len() {
-            latest = latest.max(starts[place].saturating_add(network.duration(place as u32 + 1)));
+        if to as usize == j {
+            latest = latest.max(end_of(network, starts, from));
         }
     }
     latest
