@@ -7,8 +7,9 @@ use Rattle.plan_errors.specs.Output.{Refuses}
 use Rattle.plan_weekfile.specs.Weeks.{IsWeekWith, TellsNoWeek, TellsUnplanned}
 use Rattle.plan_weekfile.specs.declared.order.WeekOrder.{WeekOrder}
 use Rattle.plan_weeklist.specs.declared.listed.ListedWeek.{ListedWeek}
-use Rattle.plan_weekplain.specs.ListsToday.{TellsNoList}
-use Rattle.plan_weekplain.specs.PlainWeeks.{RefusesPlainWeek, TellsNoPlain}
+use Rattle.plan_weekplain.specs.Lines.{TellsNoList}
+use Rattle.plan_weekplain.specs.PlainWeeks.{RefusesPlainWeek}
+use Rattle.plan_weekplain.specs.Schedules.{TellsNoPlain}
 
 -- the error of a list with dates
 pub week_refused : (order : WeekOrder) (text : List ℕ) (e : CliFault)

@@ -10,8 +10,8 @@ use Rattle.plan_errors.specs.Output.{Refuses}
 use Rattle.plan_report.specs.VerdictText.{sentence_of}
 use Rattle.plan_sgs.specs.Verdicts.{IsFirstVerdict}
 use Rattle.plan_sgs.specs.declared.verdict.Verdict.{Verdict}
-use Rattle.plan_weekplain.specs.ListsToday.{TellsNoList}
-use Rattle.plan_weekplain.specs.StartsToday.{TellsNoSchedule}
+use Rattle.plan_weekplain.specs.Lines.{TellsNoList}
+use Rattle.plan_weekplain.specs.Schedules.{TellsNoSchedule}
 
 -- there is no plain list
 pub unlisted : (project : Plan) (e : CliFault) → Refuses TellsNoList e → Refuses (TellsNoSchedule project) e

@@ -1,5 +1,5 @@
 -- The plain list of a list with a week from today on, which all commands read.
-use Rattle.std.specs.Prelude.{◌≡◌, ℕ, List, [], Option, Ok, codes}
+use Rattle.std.specs.Prelude.{◌≡◌, ℕ, List, [], Option, Ok}
 use Rattle.plan_spreadsheet.specs.declared.list.PlainList.{PlainList}
 use Rattle.plan_encoding.specs.Encodings.{utf8_of}
 use Rattle.plan_spreadsheet.specs.PlainLists.{IsPlain}
@@ -45,7 +45,3 @@ pub record IsListToday (today : Option ℕ) (text : List ℕ) (listed : ListedWe
   pub has : HasRows today text before
   pub today_is : AreRowsToday listed.week listed.table.activities before rows
   pub spelled : Spells made rows
-
--- a line reports that a list doesn't become a plain list
-abbrev pub TellsNoList : List ℕ → Type 0
-TellsNoList line = line ≡ codes "T1 too long"

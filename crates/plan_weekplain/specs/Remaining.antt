@@ -1,6 +1,6 @@
 -- What a plan has left of the activities of a list.
 use Rattle.std.specs.Prelude.{ℕ, ◌+◌, ◌==◌, ◌&&◌, ◌||◌, Bool, true, false, if◌then◌else◌}
-use Rattle.std.specs.Prelude.{List, [], ◌∷◌, nat_lt}
+use Rattle.std.specs.Prelude.{List, [], ◌∷◌, get_or, nat_lt}
 use Rattle.std.specs.List.{list_any}
 use Rattle.plan_table.specs.Table.{Activity}
 use Rattle.plan_week.specs.declared.week.State.{State}
@@ -8,13 +8,16 @@ use Rattle.plan_week.specs.declared.week.State.TheVariants.{Open, Begun, Done}
 use Rattle.plan_week.specs.declared.week.Week.{Week}
 use Rattle.plan_week.specs.Inputs.{count_of}
 use Rattle.plan_week.specs.Weeks.{is_open, rest, state_of}
-use Rattle.plan_weeks.specs.WeekTables.{lasts_of}
 
 -- an activity is done
 abbrev pub is_done : State → Bool
 is_done (Open earliest fixed) = false
 is_done (Begun began remaining) = false
 is_done (Done ended) = true
+
+-- how long activity k of a week lasts in whole
+abbrev pub lasts_of : Week → ℕ → ℕ
+lasts_of week k = get_or week.durations.items k 0
 
 -- how long activity k of a list lasts from today on. A wait, which isn't in the week, lasts as long
 -- as its list says.

@@ -80,7 +80,7 @@ rows_from kinds ids week activities before k (row ∷ rows) =
     if is_capacities ids row
     then rows_from kinds ids week activities (before ++ row ∷ []) k rows
     else rows_from kinds ids week activities (with_activity kinds week activities before k row)
-        (k + 1) rows
+    (k + 1) rows
 
 -- ---- lists
 

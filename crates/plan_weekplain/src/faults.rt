@@ -1,7 +1,7 @@
 //! The error of a list that doesn't become a plain list.
 
 ghost use Rattle.plan_errors.specs.Output.{Refuses};
-ghost use Rattle.plan_weekplain.specs.ListsToday.{TellsNoList};
+ghost use Rattle.plan_weekplain.specs.Lines.{TellsNoList};
 
 use plan_errors::{About, CliFault, Code, refuse_words};
 use std::alloc::Global;

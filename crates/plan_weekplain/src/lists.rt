@@ -6,6 +6,7 @@ ghost use Rattle.plan_spreadsheet.specs.Rows.{Spells};
 ghost use Rattle.plan_table.specs.Csv.{row_of};
 ghost use Rattle.plan_table.specs.Header.{head_of};
 ghost use Rattle.plan_table.specs.Table.{activity_of};
+ghost use Rattle.plan_weekplain.specs.Lines.{TellsNoList};
 ghost use Rattle.plan_weekplain.specs.ListsToday as spec;
 ghost use Rattle.plan_weekplain.specs.RowsToday.{AreRowsToday};
 
@@ -23,7 +24,7 @@ use std::alloc::Global;
 // Returns a list without its dates.
 fn undated(alloc: Global, today: Option<u32>, text: &[u8]) -> Result<WeekList, CliFault>
     ensures list { IfOk result (spec.IsUndated today text.now) }
-    ensures refused { IfErr result (Refuses spec.TellsNoList) }
+    ensures refused { IfErr result (Refuses TellsNoList) }
 {
     match read_week_list(alloc, &[], today, text) {
         Ok(list) => Ok(list),
@@ -33,9 +34,9 @@ fn undated(alloc: Global, today: Option<u32>, text: &[u8]) -> Result<WeekList, C
 }
 
 // Returns the plain list of a list without dates.
-fn plain(alloc: Global, text: &[u8]) -> Result<PlainList, CliFault>
+fn plain_in(alloc: Global, text: &[u8]) -> Result<PlainList, CliFault>
     ensures list { IfOk result (spec.IsPlainOf text.now) }
-    ensures refused { IfErr result (Refuses spec.TellsNoList) }
+    ensures refused { IfErr result (Refuses TellsNoList) }
 {
     match plain_list(alloc, &[], text) {
         Ok(list) => Ok(list),
@@ -47,7 +48,7 @@ fn plain(alloc: Global, text: &[u8]) -> Result<PlainList, CliFault>
 // Returns the rows of a text that have content.
 fn filled_rows(alloc: Global, text: &[u8]) -> Result<Vec<Row>, CliFault>
     ensures rows { IfOk result (λ rows. spec.AreFilled text.now (map row_of rows.items)) }
-    ensures refused { IfErr result (Refuses spec.TellsNoList) }
+    ensures refused { IfErr result (Refuses TellsNoList) }
 {
     match read_rows_of(alloc, text) {
         Ok(rows) => Ok(filled(alloc, &rows)?),
@@ -59,11 +60,11 @@ fn filled_rows(alloc: Global, text: &[u8]) -> Result<Vec<Row>, CliFault>
 // Returns the rows with content that plan_table reads of a list with dates.
 fn rows_of_list(alloc: Global, today: Option<u32>, text: &[u8]) -> Result<Vec<Row>, CliFault>
     ensures rows { IfOk result (λ rows. spec.HasRows today text.now (map row_of rows.items)) }
-    ensures refused { IfErr result (Refuses spec.TellsNoList) }
+    ensures refused { IfErr result (Refuses TellsNoList) }
 {
     let list = undated(alloc, today, text)?;
     let own = list.text(text);
-    let plain = plain(alloc, own)?;
+    let plain = plain_in(alloc, own)?;
     let rows = filled_rows(alloc, plain.utf8(own))?;
     Ok(rows)
 }
@@ -72,7 +73,7 @@ fn rows_of_list(alloc: Global, today: Option<u32>, text: &[u8]) -> Result<Vec<Ro
 fn heads_of(alloc: Global, first: &Row) -> Result<Vec<Head>, CliFault>
     ensures heads { IfOk result (λ heads. spec.AreHeads (row_of first.now)
         (map head_of heads.items)) }
-    ensures refused { IfErr result (Refuses spec.TellsNoList) }
+    ensures refused { IfErr result (Refuses TellsNoList) }
 {
     match read_heads(alloc, first.line, &first.cells) {
         Ok(heads) => Ok(heads),
@@ -91,7 +92,7 @@ fn rows_behind(
 ) -> Result<Vec<Row>, CliFault>
     ensures rows { IfOk result (λ made. AreRowsToday week.now (map activity_of activities.now)
         (row_of first.now ∷ map row_of rows.now) (map row_of made.items)) }
-    ensures refused { IfErr result (Refuses spec.TellsNoList) }
+    ensures refused { IfErr result (Refuses TellsNoList) }
 {
     if rows.len() > LONGEST_TEXT {
         return Err(no_list(alloc));
@@ -109,7 +110,7 @@ fn rows_today(
 ) -> Result<Vec<Row>, CliFault>
     ensures rows { IfOk result (λ made. AreRowsToday week.now (map activity_of activities.now)
         (map row_of rows.now) (map row_of made.items)) }
-    ensures refused { IfErr result (Refuses spec.TellsNoList) }
+    ensures refused { IfErr result (Refuses TellsNoList) }
 {
     match rows {
         [first, rest @ ..] => rows_behind(alloc, week, activities, first, rest),
@@ -120,7 +121,7 @@ fn rows_today(
 // Returns the text of rows.
 fn text_of(alloc: Global, rows: &[Row]) -> Result<Vec<u8>, CliFault>
     ensures text { IfOk result (λ text. Spells text.items (map row_of rows.now)) }
-    ensures refused { IfErr result (Refuses spec.TellsNoList) }
+    ensures refused { IfErr result (Refuses TellsNoList) }
 {
     match write_rows(alloc, rows) {
         Ok(text) => Ok(text),
@@ -138,7 +139,7 @@ pub(crate) fn list_today(
 ) -> Result<Vec<u8>, CliFault>
     ensures list { IfOk result (λ made.
         spec.IsListToday today text.now listed.now made.items) }
-    ensures refused { IfErr result (Refuses spec.TellsNoList) }
+    ensures refused { IfErr result (Refuses TellsNoList) }
 {
     let before = rows_of_list(alloc, today, text)?;
     let rows = rows_today(alloc, &listed.week, &listed.table.activities, &before)?;

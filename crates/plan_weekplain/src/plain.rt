@@ -42,6 +42,6 @@ pub fn plain_week<W: Watcher>(
     let plan = plan_of(alloc, order, &listed, watcher)?;
     let list = list_today(alloc, order.today, text, &listed)?;
     let subject = Subject::Project(order.capacities);
-    let starts = list_schedule(alloc, &listed.week, &plan, subject, &list)?;
+    let starts = list_schedule(alloc, &listed.week, &plan.starts, subject, &list)?;
     Ok(PlainWeek { list, starts })
 }

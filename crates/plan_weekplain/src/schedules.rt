@@ -7,9 +7,9 @@ ghost use Rattle.plan_net.specs.Network as networks;
 ghost use Rattle.plan_profile.specs.Usage.{IsInTime};
 ghost use Rattle.plan_sgs.specs.Problem.{IsFeasible};
 ghost use Rattle.plan_sgs.specs.Verdicts.{IsFirstVerdict};
-ghost use Rattle.plan_weekplain.specs.ListsToday.{TellsNoList};
-ghost use Rattle.plan_weekplain.specs.PlainWeeks as lists;
-ghost use Rattle.plan_weekplain.specs.StartsToday as spec;
+ghost use Rattle.plan_weekplain.specs.Lines.{TellsNoList};
+ghost use Rattle.plan_weekplain.specs.Schedules as spec;
+ghost use Rattle.plan_weekplain.specs.StartsToday as starting;
 
 use crate::faults::no_list;
 use crate::starts::starts_text;
@@ -20,21 +20,24 @@ use plan_errors::CliFault;
 use plan_net::Network;
 use plan_sgs::{Verdict, check};
 use plan_week::Week;
-use plan_weeks::WeekPlan;
 use std::alloc::{AllocError, Global};
 
 // Returns the start of an activity of the week in a plan, 0 if there is none.
 fn planned_at(plan: &[u32], place: usize) -> u64
     ensures { result ≡ get_or plan.now place 0 }
 {
-    if place < plan.len() { plan[place] as u64 } else { 0 }
+    if place < plan.len() {
+        plan[place] as u64
+    } else {
+        0
+    }
 }
 
 // Returns the end of the predecessor of an arc, if the arc is one to activity `j`.
 fn end_by(network: &Network, starts: &[u64], j: usize, arc: (u32, u32)) -> u64
     requires whole { length starts.now ≡ networks.count_of network.now }
     requires limit { All IsInTime starts.now }
-    ensures { result ≡ spec.end_by network.now starts.now j arc }
+    ensures { result ≡ starting.end_by network.now starts.now j arc }
 {
     let (from, to) = arc;
     if to as usize == j && from >= 1 && from as usize <= starts.len() {
@@ -48,7 +51,7 @@ fn end_by(network: &Network, starts: &[u64], j: usize, arc: (u32, u32)) -> u64
 fn latest_end(network: &Network, starts: &[u64], j: usize) -> u64
     requires whole { length starts.now ≡ networks.count_of network.now }
     requires limit { All IsInTime starts.now }
-    ensures { result ≡ spec.latest_end network.now starts.now j }
+    ensures { result ≡ starting.latest_end network.now starts.now j }
 {
     let mut latest = 0;
     for &arc in network.arcs() {
@@ -58,24 +61,24 @@ fn latest_end(network: &Network, starts: &[u64], j: usize) -> u64
 }
 
 // Returns the start at a place: that of the plan, or the end of what a wait or a dummy waits for.
-fn start_today(week: &Week, plan: &WeekPlan, network: &Network, starts: &[u64], x: usize) -> u64
+fn start_today(week: &Week, plan: &[u32], network: &Network, starts: &[u64], x: usize) -> u64
     requires whole { length starts.now ≡ networks.count_of network.now }
     requires limit { All IsInTime starts.now }
     requires place { x < networks.count_of network.now }
-    ensures { result ≡ spec.start_today week.now plan.now network.now starts.now x }
+    ensures { result ≡ starting.start_today week.now plan.now network.now starts.now x }
 {
     if x > 0 && x <= week.durations.len() {
-        planned_at(&plan.starts, x - 1)
+        planned_at(plan, x - 1)
     } else {
         latest_end(network, starts, x + 1)
     }
 }
 
 // Whether starts are those of a plan.
-fn are_starts_today(week: &Week, plan: &WeekPlan, network: &Network, starts: &[u64]) -> bool
+fn are_starts_today(week: &Week, plan: &[u32], network: &Network, starts: &[u64]) -> bool
     requires whole { length starts.now ≡ networks.count_of network.now }
     requires limit { All IsInTime starts.now }
-    ensures { IsTrue result → spec.AreStartsToday week.now plan.now network.now starts.now }
+    ensures { IsTrue result → starting.AreStartsToday week.now plan.now network.now starts.now }
 {
     for x in 0..network.len() {
         if starts[x] != start_today(week, plan, network, starts, x) {
@@ -86,10 +89,10 @@ fn are_starts_today(week: &Week, plan: &WeekPlan, network: &Network, starts: &[u
 }
 
 // Whether starts are those of a plan, in a project.
-fn are_starts_in(week: &Week, plan: &WeekPlan, project: &Plan<'_>, starts: &[u64]) -> bool
+fn are_starts_in(week: &Week, plan: &[u32], project: &Plan<'_>, starts: &[u64]) -> bool
     requires whole { length starts.now ≡ count_of project.now }
     requires limit { All IsInTime starts.now }
-    ensures { IsTrue result → spec.AreStartsIn week.now plan.now project.now starts.now }
+    ensures { IsTrue result → starting.AreStartsIn week.now plan.now project.now starts.now }
 {
     match project {
         Plan::Project(instance, _) => are_starts_today(week, plan, instance.network(), starts),
@@ -143,14 +146,14 @@ fn check_feasible(alloc: Global, project: &Plan<'_>, starts: &[u64]) -> Result<(
 fn check_starts(
     alloc: Global,
     week: &Week,
-    plan: &WeekPlan,
+    plan: &[u32],
     project: &Plan<'_>,
     starts: &[u64],
 ) -> Result<(), CliFault>
     requires whole { length starts.now ≡ count_of project.now }
     requires limit { All IsInTime starts.now }
     ensures planned { IfOk result (λ _.
-        spec.AreStartsIn week.now plan.now project.now starts.now) }
+        starting.AreStartsIn week.now plan.now project.now starts.now) }
     ensures feasible { IfOk result (λ _. IsFeasible (problem_of project.now) starts.now) }
     ensures refused { IfErr result (Refuses (spec.TellsNoSchedule project.now)) }
 {
@@ -164,11 +167,11 @@ fn check_starts(
 fn text_for(
     alloc: Global,
     week: &Week,
-    plan: &WeekPlan,
+    plan: &[u32],
     project: &Plan<'_>,
 ) -> Result<Vec<u8>, AllocError> {
     match project {
-        Plan::Project(instance, _) => starts_text(alloc, week, &plan.starts, instance.network()),
+        Plan::Project(instance, _) => starts_text(alloc, week, plan, instance.network()),
         Plan::Shop(_) => Ok(Vec::new(alloc)),
     }
 }
@@ -178,7 +181,7 @@ fn text_for(
 fn schedule_text(
     alloc: Global,
     week: &Week,
-    plan: &WeekPlan,
+    plan: &[u32],
     project: &Plan<'_>,
 ) -> Result<Vec<u8>, CliFault>
     ensures schedule { IfOk result (λ text.
@@ -195,7 +198,7 @@ fn schedule_text(
 fn file_schedule(
     alloc: Global,
     week: &Week,
-    plan: &WeekPlan,
+    plan: &[u32],
     subject: Subject<'_>,
     file: &[u8],
 ) -> Result<Vec<u8>, CliFault>
@@ -214,13 +217,13 @@ fn file_schedule(
 pub(crate) fn list_schedule(
     alloc: Global,
     week: &Week,
-    plan: &WeekPlan,
+    plan: &[u32],
     subject: Subject<'_>,
     list: &[u8],
 ) -> Result<Vec<u8>, CliFault>
     ensures schedule { IfOk result (λ text.
-        lists.SchedulesList subject.entry week.now plan.now list.now text.items) }
-    ensures refused { IfErr result (Refuses (lists.TellsNoPlain subject.entry list.now)) }
+        spec.SchedulesList subject.entry week.now plan.now list.now text.items) }
+    ensures refused { IfErr result (Refuses (spec.TellsNoPlain subject.entry list.now)) }
 {
     let reading = readable(alloc, subject, list)?;
     file_schedule(alloc, week, plan, reading.subject, reading.text(list))

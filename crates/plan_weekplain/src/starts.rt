@@ -30,7 +30,10 @@ fn planned_start(week: &Week, plan: &[u32], x: usize) -> Option<u64> {
     if x == 0 || x > week.durations.len() {
         return None;
     }
-    plan.get(x - 1).map(|&start| start as u64)
+    match plan.get(x - 1) {
+        Some(start) => Some(*start as u64),
+        None => None,
+    }
 }
 
 // Returns the starts of all activities of a project.
@@ -58,8 +61,9 @@ pub(crate) fn starts_text(
     plan: &[u32],
     network: &Network,
 ) -> Result<Vec<u8>, AllocError> {
+    let starts = all_starts(alloc, week, plan, network)?;
     let mut text = String::new(alloc);
-    for &start in &all_starts(alloc, week, plan, network)? {
+    for &start in &starts {
         writeln!(text, "{start}")?;
     }
     Ok(text.into_bytes())

@@ -3,7 +3,7 @@ use Rattle.plan_documents.proofs.DocumentLemmas.{of_subject, no_document, no_pla
 use Rattle.plan_documents.proofs.ErrorLemmas.{if_err_weaker}
 use Rattle.plan_documents.specs.Documents.{IsOfSubject, RefusesSubject}
 use Rattle.plan_errors.specs.Output.{Refuses}
-use Rattle.plan_weekplain.specs.StartsToday.{IsSchedule, TellsNoSchedule}
+use Rattle.plan_weekplain.specs.Schedules.{IsSchedule, TellsNoSchedule}
 use Rattle.plan_weekplain.proofs.schedules.file_schedule.Goals as goal
 
 pub returns-in_err-document-clause-refused : goal.returns-in_err-document-clause-refused

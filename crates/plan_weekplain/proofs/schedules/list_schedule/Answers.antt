@@ -6,8 +6,7 @@ use Rattle.plan_documents.proofs.ListLemmas.{read_as, read_refused, reading_refu
 use Rattle.plan_documents.specs.Documents.{IsOfSubject, RefusesSubject}
 use Rattle.plan_documents.specs.Lists.{text_of}
 use Rattle.plan_errors.specs.Output.{Refuses}
-use Rattle.plan_weekplain.specs.PlainWeeks.{TellsNoPlain}
-use Rattle.plan_weekplain.specs.StartsToday.{IsSchedule, TellsNoSchedule}
+use Rattle.plan_weekplain.specs.Schedules.{IsSchedule, TellsNoPlain, TellsNoSchedule}
 use Rattle.plan_weekplain.proofs.schedules.list_schedule.Goals as goal
 
 pub returns-clause-schedule : goal.returns-clause-schedule
