@@ -116,7 +116,6 @@ fn first_verdict(alloc: Global, project: &Plan<'_>, starts: &[u64]) -> Result<Ve
 }
 
 // Returns the error of infeasible starts, for their verdict.
-#[tactic(auto, using(crate::proofs::ScheduleLemmas::infeasible))]
 fn infeasible(alloc: Global, project: &Plan<'_>, starts: &[u64], verdict: Verdict) -> CliFault
     requires { IsFirstVerdict (problem_of project.now) starts.now verdict }
     ensures { Refuses (spec.TellsNoSchedule project.now) result }
