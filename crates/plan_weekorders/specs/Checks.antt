@@ -64,19 +64,26 @@ has_no_plan e =
     is_empty e.wait && is_empty e.fixed && is_empty e.begun && is_empty e.remaining
     && is_empty e.done
 
+-- a row has no dates
+abbrev pub has_no_dates : Entry → Bool
+has_no_dates e =
+    has_no_plan e && is_empty e.release && is_empty e.earliest && is_empty e.due
+
 -- a row for a machine names one of the machines
 abbrev pub machine_checked : List (List ℕ) → Entry → Result (Unit {0}) Fault
 machine_checked machines e =
     check (list_any (λ name. same name e.machine) machines) code.NoMachine e.line e.machine
+
+abbrev pub is_first_capacity : List Entry → Entry → Bool
+is_first_capacity before e = not (list_any (is_capacity_of e.machine) before)
 
 -- the number of equal machines has no dates, and comes once
 unfoldable pub capacity_checked : List (List ℕ) → List Entry → Entry → Result (Unit {0}) Fault
 capacity_checked machines before e = do
   machine ← machine_checked machines e
   amount ← check (is_amount (number e.time)) code.BadNumber e.line e.time
-  once ← check (not (list_any (is_capacity_of e.machine) before)) code.Contradiction e.line e.machine
-  check (has_no_plan e && is_empty e.release && is_empty e.earliest && is_empty e.due)
-  code.Contradiction e.line e.order
+  once ← check (is_first_capacity before e) code.Contradiction e.line e.machine
+  check (has_no_dates e) code.Contradiction e.line e.order
 
 -- an absence has at most a begin
 unfoldable pub absence_checked : List (List ℕ) → Entry → Result (Unit {0}) Fault

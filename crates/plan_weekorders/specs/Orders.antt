@@ -16,7 +16,7 @@ is_step_of order e = is_step e.kind && same e.order order
 abbrev pub steps_in : List ℕ → List Entry → ℕ
 steps_in order entries = count_by (is_step_of order) entries
 
--- no step of an order is among rows: its first step has none before it, its last step none behind it
+-- no step of an order is among rows: its first step has none before it, its last one none behind it
 abbrev pub has_no_step : List ℕ → List Entry → Bool
 has_no_step order entries = steps_in order entries == 0
 

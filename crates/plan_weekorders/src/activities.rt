@@ -6,7 +6,7 @@ ghost use Rattle.plan_weekorders.specs.Entries.{entry_of};
 ghost use Rattle.plan_weekorders.specs.Orders as orders;
 
 use crate::entries::Entry;
-use crate::orders::{capacity_of, has_no_step, steps_in, wait_behind};
+use crate::orders::{capacity_of, steps_in, wait_behind};
 use plan_table::same;
 use std::alloc::{AllocError, Global};
 
@@ -63,20 +63,18 @@ fn step_and_wait(alloc: Global, order: &[u8], n: usize, wait: &[u8]) -> Result<V
 }
 
 /// Returns what precedes a step behind other rows.
+#[tactic(auto, using(crate::proofs::PredecessorLemmas::predecessor_is))]
 pub fn predecessor_of(alloc: Global, before: &[Entry], entry: &Entry) -> Result<Vec<u8>, AllocError>
     ensures { IfOk result (λ v. v.items
         ≡ spec.predecessor_of (map entry_of before.now) (entry_of entry.now).order) }
 {
-    let order = &entry.order;
-    if has_no_step(order, before) {
+    let n = steps_in(&entry.order, before);
+    if n == 0 {
         return Ok(Vec::new(alloc));
     }
-    step_and_wait(
-        alloc,
-        order,
-        steps_in(order, before),
-        wait_behind(order, before),
-    )
+    let wait = wait_behind(&entry.order, before);
+    let text = step_and_wait(alloc, &entry.order, n, wait)?;
+    Ok(text)
 }
 
 // Returns the need of a machine.

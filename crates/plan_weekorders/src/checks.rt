@@ -62,7 +62,8 @@ fn check_date(
 // Checks a row of an order.
 #[tactic(auto, unfolding(crate::specs::Checks::order_checked))]
 fn check_order(alloc: Global, all: &[Entry], entry: &Entry) -> Result<(), OrderError>
-    ensures { Gives (λ u. u) result (spec.order_checked (map entry_of all.now) (entry_of entry.now)) }
+    ensures { Gives (λ u. u) result
+        (spec.order_checked (map entry_of all.now) (entry_of entry.now)) }
 {
     check(
         alloc,
@@ -134,6 +135,16 @@ fn has_no_plan(entry: &Entry) -> bool
         && entry.done.is_empty()
 }
 
+// Whether a row has no dates.
+fn has_no_dates(entry: &Entry) -> bool
+    ensures { result ≡ spec.has_no_dates (entry_of entry.now) }
+{
+    has_no_plan(entry)
+        && entry.release.is_empty()
+        && entry.earliest.is_empty()
+        && entry.due.is_empty()
+}
+
 // Checks that a row names one of the machines.
 fn check_machine(alloc: Global, machines: &[Vec<u8>], entry: &Entry) -> Result<(), OrderError>
     ensures { Gives (λ u. u) result
@@ -177,13 +188,9 @@ fn check_capacity(
         entry.line,
         &entry.machine,
     )?;
-    let plain = has_no_plan(entry)
-        && entry.release.is_empty()
-        && entry.earliest.is_empty()
-        && entry.due.is_empty();
     check(
         alloc,
-        plain,
+        has_no_dates(entry),
         OrderCode::Contradiction,
         entry.line,
         &entry.order,

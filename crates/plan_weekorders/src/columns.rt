@@ -157,7 +157,8 @@ fn is_known(key: &[u8]) -> bool
 
 // Whether one of some headers is this one.
 fn has_key(keys: &[Vec<u8>], key: &[u8]) -> bool
-    ensures { result ≡ list_any (λ other. same_text other key.now) (map (λ key. key.items) keys.now) }
+    ensures { result ≡ list_any (λ other. same_text other key.now)
+        (map (λ key. key.items) keys.now) }
 {
     for other in keys {
         if same(other, key) {

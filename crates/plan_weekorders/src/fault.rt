@@ -1,7 +1,6 @@
 //! The errors of a list of orders with dates.
 
-ghost use Rattle.std.specs.Prelude.{◌≡◌, List};
-ghost use Rattle.plan_weekorders.specs.Entries.{Entry};
+ghost use Rattle.std.specs.Prelude.{◌≡◌};
 ghost use Rattle.plan_weekorders.specs.Faults as spec;
 ghost use Rattle.plan_weekorders.specs.Faults.{Fails, Gives, fault};
 ghost use Rattle.plan_weekorders.specs.declared.fault.OrderError.TheVariants.{Memory};
@@ -69,8 +68,7 @@ impl<T: Drop> From<AllocFailed<T>> for OrderError {
 
 /// Returns a fault that names a word.
 pub fn word_fault(alloc: Global, code: OrderCode, line: u64, word: &[u8]) -> OrderError
-    ensures unit { Fails result (fault {A = Unit {0}} code line word.now) }
-    ensures entries { Fails result (fault {A = List Entry} code line word.now) }
+    ensures { Fails result (fault {A = Unit {0}} code line word.now) }
 {
     match Vec::from_slice(alloc, word) {
         Ok(word) => OrderError::Fault(OrderFault { code, line, word }),
