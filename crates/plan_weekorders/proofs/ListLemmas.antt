@@ -1,6 +1,7 @@
 -- The texts and the errors of a list of orders.
 use Rattle.std.proofs.Common.{◌≡◌, ℕ, ◌⊎◌, inl, inr, Bool, true, false, List, ◌∷◌, sym, ◌∙◌, subst}
-use Rattle.std.specs.Prelude.{Result, Ok, Err, Some}
+use Rattle.std.specs.Prelude.{Option, Result, Ok, Err, Some, None, Vec}
+use Rattle.std.specs.declared.alloc.Global.{Global}
 use Rattle.plan_spreadsheet.specs.Rows.{Spells, filled}
 use Rattle.plan_table.specs.Csv.{Row}
 use Rattle.plan_table.specs.Kinds.{IsKind}
@@ -13,7 +14,7 @@ use Rattle.plan_weekorders.specs.Checks.{orders_read}
 use Rattle.plan_weekorders.specs.Entries.{Entry}
 use Rattle.plan_weekorders.specs.Faults.{Fails, fault_of}
 use Rattle.plan_weekorders.specs.OrderColumns.{columns_of, has_dates}
-use Rattle.plan_weekorders.specs.OrderLists.{IsTooLong, Refuses, RefusesBehind, RefusesBy, RefusesIf, RefusesUnder, SpellsOrders, Tells, keys_of}
+use Rattle.plan_weekorders.specs.OrderLists.{IsOrderText, IsOrderedBehind, IsOrderedIf, IsTooLong, Refuses, RefusesBehind, RefusesBy, RefusesIf, RefusesUnder, SpellsOrders, Tells, keys_of}
 
 -- a text of the rows of activities
 pub spelled : (first : Row) (rows made : List Row) (keys : List (List ℕ)) (entries : List Entry) (text : List ℕ) → keys ≡ keys_of first
@@ -38,6 +39,15 @@ refused first rows keys (errors.Fault f) same told = inl (subst (λ k. orders_re
 pub unwritten : (first : Row) (rows : List Row) (e : OrderError) → Tells IsTooLong e → Tells (RefusesUnder first rows) e
 unwritten first rows errors.Memory told = tt
 unwritten first rows (errors.Fault f) told = inr told
+
+-- the text of rows with dates, and rows without dates
+pub dated_text : (first : Row) (rows : List Row) (text : Option (Vec ℕ Global)) → has_dates (columns_of (keys_of first)) rows ≡ true
+    → IsOrderText first rows text → IsOrderedBehind (first ∷ rows) text
+dated_text first rows text dated is = subst (λ d. IsOrderedIf d first rows text) (sym dated) is
+
+pub undated : (first : Row) (rows : List Row) (text : Option (Vec ℕ Global)) → has_dates (columns_of (keys_of first)) rows ≡ false → text ≡ None
+    → IsOrderedBehind (first ∷ rows) text
+undated first rows text plain is = subst (λ d. IsOrderedIf d first rows text) (sym plain) is
 
 -- an error of rows with dates
 pub dated_refused : (first : Row) (rows : List Row) (e : OrderError) → has_dates (columns_of (keys_of first)) rows ≡ true

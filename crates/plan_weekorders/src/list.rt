@@ -56,7 +56,7 @@ fn text_with(
 }
 
 // Returns the text of rows under a header, if they have dates.
-#[tactic(auto, using(crate::proofs::ListLemmas::dated_refused))]
+#[tactic(auto, using(crate::proofs::ListLemmas::dated_refused, crate::proofs::ListLemmas::dated_text, crate::proofs::ListLemmas::undated))]
 fn text_under(alloc: Global, first: &Row, rows: &[Row]) -> Result<Option<Vec<u8>>, OrderError>
     ensures text { IfOk result
         (spec.IsOrderedBehind (row_of first.now ∷ map row_of rows.now)) }
@@ -68,7 +68,8 @@ fn text_under(alloc: Global, first: &Row, rows: &[Row]) -> Result<Option<Vec<u8>
     if !has_dates(&columns, rows) {
         return Ok(None);
     }
-    text_with(alloc, first, &keys, rows)
+    let text = text_with(alloc, first, &keys, rows)?;
+    Ok(text)
 }
 
 // Returns the text of rows with content.
@@ -77,7 +78,10 @@ fn text_in(alloc: Global, rows: &[Row]) -> Result<Option<Vec<u8>>, OrderError>
     ensures refused { IfErr result (spec.Tells (spec.RefusesBehind (map row_of rows.now))) }
 {
     match rows {
-        [first, rest @ ..] => text_under(alloc, first, rest),
+        [first, rest @ ..] => {
+            let text = text_under(alloc, first, rest)?;
+            Ok(text)
+        }
         [] => Ok(None),
     }
 }
@@ -91,7 +95,8 @@ fn orders(alloc: Global, text: &[u8]) -> Result<Option<Vec<u8>>, OrderError>
     match read_rows_of(alloc, text) {
         Ok(rows) => {
             let rows = filled(alloc, &rows)?;
-            text_in(alloc, &rows)
+            let text = text_in(alloc, &rows)?;
+            Ok(text)
         }
         Err(ReadError::Memory) => Err(OrderError::Memory),
         Err(ReadError::Fault(_)) => Ok(None),
@@ -105,7 +110,10 @@ fn text_of(alloc: Global, text: &[u8]) -> Result<Option<Vec<u8>>, OrderError>
     ensures refused { IfErr result (spec.Tells (spec.Refuses text.now)) }
 {
     match list_kind(alloc, text)? {
-        Some(ListKind::Orders) => orders(alloc, text),
+        Some(ListKind::Orders) => {
+            let text = orders(alloc, text)?;
+            Ok(text)
+        }
         Some(ListKind::Activities) => Ok(None),
         None => Ok(None),
     }
