@@ -3,11 +3,9 @@
 ghost use Rattle.std.specs.Prelude.{◌≡◌, ◌≢◌, ◌+◌, ◌⊎◌, [], IfErr};
 ghost use Rattle.plan_serve.specs.CheckRun.{ChecksOnFiles};
 
-use crate::check::Scratch;
 use crate::devices::{FileReader, FileWriter};
-use crate::fault::PairFault;
-use crate::pair::{Origin, Target};
 use crate::plain::{create_plain, open_plain};
+use plan_copies::{Origin, PairFault, Scratch, Target};
 use plan_io::{MOST_CALLS, Sink, Tally};
 use plan_serve::{ServeFault, check_office_on_file};
 use sqlite::{FileFrom, FileStore, Start, Unknown};

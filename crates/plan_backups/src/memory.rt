@@ -2,7 +2,7 @@
 //! 1,000,000 bytes.
 
 ghost use Rattle.std.specs.Prelude.{◌≡◌, ◌+◌, ◌*◌, ◌≤◌, ◌<◌};
-ghost use Rattle.plan_copies.specs.Memory.{IsMegabytes, IsStartMemory};
+ghost use Rattle.plan_backups.specs.Memory.{IsMegabytes, IsStartMemory};
 
 use crate::lines::shown;
 use std::alloc::{AllocError, Global};

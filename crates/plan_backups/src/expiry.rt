@@ -1,8 +1,8 @@
 //! The removal of the copies of a folder that `expired` chooses.
 
 use crate::backup::ROOM;
-use crate::choice::{ChoiceFault, expired};
 use crate::lines::{CopyFault, store_fault};
+use plan_copies::{ChoiceFault, expired};
 use plan_serve::ServeFault;
 use std::alloc::{AllocError, Global};
 use std::{fs, io};

@@ -5,12 +5,11 @@ ghost use Rattle.plan_io.specs.Devices.{most_calls};
 ghost use Rattle.plan_serve.specs.CheckRun.{IsPrinted, IsPrintedInPart};
 ghost use Rattle.plan_copies.specs.Checks.{IsCheckFault};
 
-use crate::check::{CheckFault, check_copy};
-use crate::fault::PairFault;
 use crate::lines::{CopyFault, store_fault};
 use crate::named::{NamedCopy, NamedPair, target_fault};
 use crate::owner::check_folder;
 use crate::room::Room;
+use plan_copies::{CheckFault, PairFault, check_copy};
 use plan_io::Sink;
 use plan_serve::ServeFault;
 use std::env;

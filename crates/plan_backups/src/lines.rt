@@ -1,7 +1,6 @@
 //! The error lines of the commands on copies. A line has the code, the name and what to do.
 
-use crate::check::CheckFault;
-use crate::fault::PairFault;
+use plan_copies::{CheckFault, PairFault};
 use plan_serve::ServeFault;
 use std::alloc::{AllocError, Global};
 

@@ -1,8 +1,6 @@
 //! `plan restore`: a copy of an office in the place of its database.
 
 use crate::backup::{digest_in, is_folder, print};
-use crate::check::{CheckFault, copy_checked};
-use crate::fault::PairFault;
 use crate::lines::{CopyFault, copy_fault, office_fault, store_fault};
 use crate::named::{NamedCopy, NamedPair, target_fault};
 use crate::orphans::check_orphans;
@@ -10,8 +8,8 @@ use crate::owner::check_owner;
 use crate::plain::{copy_access, open_plain};
 use crate::replacement::{Replacement, SUFFIXES};
 use crate::room::{Room, folder_of, stamp, stem_of};
-use crate::settle::settle_from;
 use crate::strays::{has_log, remove_stray_log};
+use plan_copies::{CheckFault, PairFault, copy_checked, settle_from};
 use plan_io::{MemSink, Sink};
 use plan_serve::ServeFault;
 use sqlite::{FileFrom, Files, Unknown};
