@@ -2,4 +2,4 @@
 
 /// The digest of all sources of the program but this file, in hexadecimal digits, as
 /// `./release --digest` prints it.
-pub(crate) const SOURCES: &str = "52e2dcaf009166d3bd41983e350cd2569d1be8df802bbf430c9cae1ff2cc7d52";
+pub(crate) const SOURCES: &str = "f3310c4b7b83a20da1525229a1dcdc9a3a72acd28d42bf7ad4c4e5c2ed612973";
