@@ -253,8 +253,8 @@ ids_whole form sheet rows starts rest shows =
     ap (λ (xs : List ℕ). length xs) shows.all
     ∙ omega (arith, most, length-append shows.inner waits, length-map sheet.waits (end_at sheet.by_id shows.inner), inner)
 
-by_whole : (b : Bool) (form : Form) (sheet : Sheet) (rows : List Row) (starts : List ℕ) (rest : List Row) → (b ≡ true → length sheet.by_id + length sheet.waits + 2 ≡ length sheet.entries) → ShowsBy b form sheet rows starts rest
-    → length starts ≡ length sheet.entries
+by_whole : (b : Bool) (form : Form) (sheet : Sheet) (rows : List Row) (starts : List ℕ) (rest : List Row)
+    → (b ≡ true → length sheet.by_id + length sheet.waits + 2 ≡ length sheet.entries) → ShowsBy b form sheet rows starts rest → length starts ≡ length sheet.entries
 by_whole true form sheet rows starts rest is shows = ids_whole form sheet rows starts rest shows ∙ is refl
 by_whole false form sheet rows starts rest is shows = sheet_whole sheet rows starts rest shows
 
