@@ -155,6 +155,7 @@ fn ids_of_project<'a>(
 
 /// Returns the ids in a project file whose activities are shown. The file must have been read
 /// before, so that only memory can run out.
+#[tactic(auto, using(crate::proofs::WaitLemmas::rows_shown, crate::proofs::WaitLemmas::project_shown))]
 pub(crate) fn shown_ids<'a>(
     alloc: Global,
     file: &'a [u8],
