@@ -70,15 +70,11 @@ abbrev pub wait_places : List Name → Net → List ℕ
 wait_places ids net =
     if are_complete ids net then places_from net (first_behind ids net) else []
 
--- the sheet of a project's starts with these entries and waits
-abbrev pub sheet_with : Net → List IdEntry → List ℕ → Sheet
-sheet_with net entries waits = record {
-  columns = codes "act" ∷ codes "d" ∷ codes "start" ∷ codes "end" ∷ [];
-  entries = activity_entries net;
-  by_id = entries;
-  waits = waits;
-}
-
 -- the sheet of a project's starts, as `schedule` prints it with ids or with numbers
 abbrev pub id_sheet : List Name → Net → Sheet
-id_sheet ids net = sheet_with net (id_entries ids net) (wait_places ids net)
+id_sheet ids net = record {
+  columns = codes "act" ∷ codes "d" ∷ codes "start" ∷ codes "end" ∷ [];
+  entries = activity_entries net;
+  by_id = id_entries ids net;
+  waits = wait_places ids net;
+}

@@ -119,6 +119,8 @@ fn row_entries<'a>(
     ensures short { IfOk result (λ entries.
         All (λ entry. entry.entry.duration ≤ 10000) entries.items) }
 {
+    // The proof needs the network's limits, which this call states.
+    let _count = network.len();
     let mut entries = Vec::new(alloc);
     for j in 2..behind {
         let entry = id_entry(alloc, ids, network, j as u32)?;
@@ -138,29 +140,6 @@ fn places_from(alloc: Global, network: &Network, behind: usize) -> Result<Vec<us
     Ok(places)
 }
 
-// Returns a sheet with these entries and waits.
-fn sheet_with<'a>(
-    alloc: Global,
-    network: &Network,
-    by_id: Vec<IdEntry<'a>>,
-    waits: Vec<usize>,
-) -> Result<Sheet<'a>, AllocError>
-    requires { All (λ entry. entry.entry.duration ≤ 10000) by_id.items }
-    ensures sheet { IfOk result (λ sheet. sheets.sheet_of sheet ≡ spec.sheet_with network.now
-        (map sheets.id_entry_of by_id.items) waits.items) }
-    ensures short { IfOk result (λ sheet.
-        All (λ entry. entry.duration ≤ 10000) sheet.entries.items) }
-    ensures ids { IfOk result (λ sheet.
-        All (λ entry. entry.entry.duration ≤ 10000) sheet.by_id.items) }
-{
-    Ok(Sheet {
-        columns: ACTIVITY_COLUMNS,
-        entries: activity_entries(alloc, network)?,
-        by_id,
-        waits,
-    })
-}
-
 /// Returns the sheet of a project's starts, with the ids of its activities.
 pub(crate) fn id_sheet<'a>(
     alloc: Global,
@@ -175,10 +154,16 @@ pub(crate) fn id_sheet<'a>(
         All (λ entry. entry.entry.duration ≤ 10000) sheet.by_id.items) }
 {
     let behind = first_behind(ids, network);
-    if !are_complete(ids, network, behind) {
-        return sheet_with(alloc, network, Vec::new(alloc), Vec::new(alloc));
+    let mut by_id = Vec::new(alloc);
+    let mut waits = Vec::new(alloc);
+    if are_complete(ids, network, behind) {
+        by_id = row_entries(alloc, ids, network, behind)?;
+        waits = places_from(alloc, network, behind)?;
     }
-    let entries = row_entries(alloc, ids, network, behind)?;
-    let waits = places_from(alloc, network, behind)?;
-    sheet_with(alloc, network, entries, waits)
+    Ok(Sheet {
+        columns: ACTIVITY_COLUMNS,
+        entries: activity_entries(alloc, network)?,
+        by_id,
+        waits,
+    })
 }
