@@ -1,5 +1,5 @@
 -- The rows of a table or a chart, one after another.
-use Rattle.std.proofs.Common.{◌≡◌, ℕ, zero, suc, ◌+◌, List, [], ◌∷◌, ◌++◌, Vec, map, fold, sym, ap, ◌∙◌, arith}
+use Rattle.std.proofs.Common.{◌≡◌, ℕ, zero, suc, ◌+◌, ◌-◌, ◌≤◌, List, [], ◌∷◌, ◌++◌, Vec, map, fold, sym, ap, ◌∙◌, arith}
 use Rattle.std.specs.List.{range_with_len, flat_map}
 use Rattle.std.proofs.lemmas.List.{append-nil, map-append}
 use Rattle.std.proofs.lemmas.List.Concat.{flat_map-append}
@@ -44,6 +44,15 @@ pub next_item_from_zero : {X Y : Type 0} (g : X → Y) (f : ℕ → Y) (k : ℕ)
 next_item_from_zero g f k old new v so_far is step =
     let place : k ≡ 0 + k = omega arith in
     next_item g f 0 k old new v so_far (is ∙ ap f place) step
+
+-- items numbered from the first one
+pub next_item_from : {X Y : Type 0} (g : X → Y) (f : ℕ → Y) (first k : ℕ) (old new : List X) (v : X) → first ≤ k
+    → map g old ≡ map f (range_with_len first (k - first)) → g v ≡ f k → new ≡ old ++ v ∷ []
+    → map g new ≡ map f (range_with_len first (k + 1 - first))
+next_item_from g f first k old new v low so_far is step =
+    let place : k ≡ first + (k - first) = omega (arith, low) in
+    let more : (k - first) + 1 ≡ k + 1 - first = omega (arith, low) in
+    next_item g f first (k - first) old new v so_far (is ∙ ap f place) step ∙ ap (λ n. map f (range_with_len first n)) more
 
 range_more : (first n : ℕ) → range_with_len first (suc n) ≡ range_with_len first n ++ (first + n) ∷ []
 range_more first zero =

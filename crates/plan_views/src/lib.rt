@@ -22,6 +22,7 @@ mod schedules;
 mod slacks;
 mod solutions;
 mod steps;
+mod wait_words;
 
 pub use bar_tables::chart_bars;
 pub use bars::{Bar, ChartRow, StepNumber};

@@ -1,0 +1,108 @@
+//! The words for the predecessors of activities: ids, and `A+2` for a wait of 2 behind A.
+
+ghost use Rattle.std.specs.Prelude.{◌≡◌, ◌++◌, IfOk, map};
+ghost use Rattle.plan_net.specs.Network.{IsActivity};
+ghost use Rattle.plan_table.specs.Names.{name_of, first_name as named};
+ghost use Rattle.plan_report.specs.IdSheets.{first_behind as first_wait};
+ghost use Rattle.plan_views.specs.WaitWords as spec;
+
+use plan_net::Network;
+use plan_report::{first_behind, is_wait, only_predecessor};
+use plan_table::{NameLine, first_name};
+use std::alloc::{AllocError, Global};
+
+/// The word for a wait, by the number of its activity.
+#[derive(Drop)]
+pub struct WaitWord {
+    pub number: u64,
+    pub word: Vec<u8>,
+}
+
+// Returns the id of an activity with a lag behind it, empty if it has none.
+fn with_lag(alloc: Global, ids: &[NameLine<'_>], i: u32, lag: u64) -> Result<Vec<u8>, AllocError>
+    ensures { IfOk result (λ word. word.items
+        ≡ spec.with_lag (named i (map name_of ids.now)) lag) }
+{
+    let mut word = Vec::new(alloc);
+    if let Some(id) = first_name(ids, u64::from(i)) {
+        let behind = format!(in alloc; "+{lag}")?;
+        word.extend_from_slice(id)?;
+        word.extend_from_slice(behind.as_bytes())?;
+    }
+    Ok(word)
+}
+
+// Returns the word for a wait.
+fn wait_word(
+    alloc: Global,
+    ids: &[NameLine<'_>],
+    network: &Network,
+    j: u32,
+) -> Result<Vec<u8>, AllocError>
+    requires { IsActivity network.now j }
+    ensures { IfOk result (λ word.
+        word.items ≡ spec.wait_word (map name_of ids.now) network.now j) }
+{
+    match only_predecessor(network, j) {
+        Some(i) => with_lag(alloc, ids, i, network.duration(j)),
+        None => Ok(Vec::new(alloc)),
+    }
+}
+
+// Returns the word for an activity behind the rows, empty if it is no wait.
+fn word_behind(
+    alloc: Global,
+    ids: &[NameLine<'_>],
+    network: &Network,
+    behind: usize,
+    j: u32,
+) -> Result<WaitWord, AllocError>
+    requires { IsActivity network.now j }
+    ensures { IfOk result (λ word.
+        spec.word_of word ≡ spec.word_behind (map name_of ids.now) network.now behind j) }
+{
+    let mut word = Vec::new(alloc);
+    if is_wait(behind, network, j) {
+        word = wait_word(alloc, ids, network, j)?;
+    }
+    Ok(WaitWord {
+        number: u64::from(j),
+        word,
+    })
+}
+
+/// Returns the words for the waits of a project whose activities have these ids.
+pub(crate) fn wait_words(
+    alloc: Global,
+    ids: &[NameLine<'_>],
+    network: &Network,
+) -> Result<Vec<WaitWord>, AllocError>
+    ensures { IfOk result (λ words. map spec.word_of words.items ≡ spec.words_from
+        (map name_of ids.now) network.now (first_wait (map name_of ids.now) network.now)) }
+{
+    let behind = first_behind(ids, network);
+    let mut words = Vec::new(alloc);
+    for j in behind..network.len() {
+        words.push(word_behind(alloc, ids, network, behind, j as u32)?)?;
+    }
+    Ok(words)
+}
+
+/// Returns ids, and behind them the words for waits.
+pub(crate) fn ids_and_words<'a>(
+    alloc: Global,
+    ids: &[NameLine<'a>],
+    words: &'a [WaitWord],
+) -> Result<Vec<NameLine<'a>>, AllocError>
+    ensures { IfOk result (λ lines. map name_of lines.items
+        ≡ map name_of ids.now ++ map spec.word_of words.now) }
+{
+    let mut lines = Vec::from_slice(alloc, ids)?;
+    for word in words {
+        lines.push(NameLine {
+            number: word.number,
+            name: &word.word,
+        })?;
+    }
+    Ok(lines)
+}
