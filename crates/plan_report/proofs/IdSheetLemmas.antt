@@ -1,5 +1,5 @@
 -- The sheet of a project's starts whose activities have ids.
-use Rattle.std.proofs.Common.{◌≡◌, ℕ, zero, suc, ◌+◌, ◌-◌, ◌<◌, ◌≤◌, ◌&&◌, Bool, true, false, if◌then◌else◌, List, [], ◌∷◌, ◌++◌, length, map, filter, refl, sym, ap, ◌∙◌, arith}
+use Rattle.std.proofs.Common.{◌≡◌, ℕ, zero, suc, ◌+◌, ◌-◌, ◌<◌, ◌≤◌, ◌&&◌, Bool, true, false, if◌then◌else◌, List, [], ◌∷◌, ◌++◌, length, map, filter, append_assoc, append-nil, refl, sym, ap, ◌∙◌, arith}
 use Rattle.std.specs.Prelude.{nat_lt, slice_index_or}
 use Rattle.std.specs.List.{list_all, range_with_len}
 use Rattle.std.proofs.lemmas.Bool.{ltb-true}
@@ -65,14 +65,20 @@ passed_same p j n below not =
     let rest = range_with_len (j + 1) (n - (j + 1)) in
     ap (λ (k : ℕ). length (filter p (range_with_len j k))) more ∙ ap (λ (b : Bool). length (if b then j ∷ filter p rest else filter p rest)) not
 
--- one place more
-pub places_more : (f : ℕ → ℕ) (first j : ℕ) (before after : List ℕ) (place : ℕ) → first ≤ j → before ≡ map f (range_with_len first (j - first))
-    → after ≡ before ++ place ∷ [] → place ≡ f j → after ≡ map f (range_with_len first (j + 1 - first))
-places_more f first j before after place low made pushed is =
-    let at : first + (j - first) ≡ j = omega (arith, low) in
-    let next : (j - first) + 1 ≡ j + 1 - first = omega (arith, low) in
-    pushed ∙ ap (λ (xs : List ℕ). xs ++ place ∷ []) made ∙ ap (λ (x : ℕ). map f (range_with_len first (j - first)) ++ x ∷ []) is
-    ∙ sym (map-range_with_len_more f first (j - first) j at) ∙ ap (λ (n : ℕ). map f (range_with_len first n)) next
+-- one place more, and those that are left
+pub places_go_on : (f : ℕ → ℕ) (j n : ℕ) (before after : List ℕ) (place : ℕ) (all : List ℕ) → j < n → before ++ map f (range_with_len j (n - j)) ≡ all
+    → after ≡ before ++ place ∷ [] → place ≡ f j → after ++ map f (range_with_len (j + 1) (n - (j + 1))) ≡ all
+places_go_on f j n before after place all below left pushed is =
+    let more : n - j ≡ suc (n - (j + 1)) = omega (arith, below) in
+    let rest = map f (range_with_len (j + 1) (n - (j + 1))) in
+    ap (λ (xs : List ℕ). xs ++ rest) pushed ∙ append_assoc before (place ∷ []) rest ∙ ap (λ (x : ℕ). before ++ x ∷ rest) is
+    ∙ sym (ap (λ (k : ℕ). before ++ map f (range_with_len j k)) more) ∙ left
+
+-- no place is left
+pub places_end : (f : ℕ → ℕ) (j n : ℕ) (items all : List ℕ) → n ≤ j → items ++ map f (range_with_len j (n - j)) ≡ all → items ≡ all
+places_end f j n items all past left =
+    let none : n - j ≡ 0 = omega (arith, past) in
+    sym (append-nil items) ∙ sym (ap (λ (k : ℕ). items ++ map f (range_with_len j k)) none) ∙ left
 
 -- one activity more of a range up to the last
 pub all_from : (p : ℕ → Bool) (j n : ℕ) → j < n → list_all p (range_with_len j (n - j)) ≡ (p j && list_all p (range_with_len (j + 1) (n - (j + 1))))
