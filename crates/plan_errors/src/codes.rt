@@ -1,7 +1,7 @@
 //! The codes of error lines, their likely causes, and the texts that `plan explain` prints for
 //! them. Written by docs/entries from docs/errors.md.
 
-ghost use Rattle.std.specs.Prelude.{◌≡◌, IfSome, IfNone};
+ghost use Rattle.std.specs.Prelude.{◌≡◌, All, IfSome, IfNone};
 ghost use Rattle.plan_errors.specs.Codes.{name_of, cause_of, carries_error};
 ghost use Rattle.plan_errors.specs.Codes.{form_of, meaning_of, remedy_of};
 ghost use Rattle.plan_errors.specs.declared.codes.Code.{Code};
@@ -93,97 +93,112 @@ pub enum Code {
     Output,
 }
 
+// All codes.
+const ALL: [Code; 82] = [
+    Code::TooLong,
+    Code::NotText,
+    Code::MissingHead,
+    Code::Unsupported,
+    Code::MissingSection,
+    Code::BadNumber,
+    Code::JobOrder,
+    Code::Modes,
+    Code::Count,
+    Code::Limit,
+    Code::Double,
+    Code::Cycle,
+    Code::NoInstance,
+    Code::BadMachine,
+    Code::LongTable,
+    Code::NoTableText,
+    Code::NoDurations,
+    Code::ColumnTwice,
+    Code::BadDuration,
+    Code::BadId,
+    Code::IdTwice,
+    Code::NoPredecessor,
+    Code::BadNeed,
+    Code::NoCapacity,
+    Code::TableCycle,
+    Code::TableLimit,
+    Code::BadCells,
+    Code::NoListResource,
+    Code::ManySteps,
+    Code::SuccessorColumn,
+    Code::NoToday,
+    Code::Workbook,
+    Code::HighNeed,
+    Code::BadInstant,
+    Code::BadDates,
+    Code::NeedsTooMuch,
+    Code::UnknownRule,
+    Code::MachineClosed,
+    Code::TooLarge,
+    Code::BadBudget,
+    Code::BadNodes,
+    Code::NoResource,
+    Code::LateEnd,
+    Code::Infeasible,
+    Code::Overload,
+    Code::NoPlan,
+    Code::NoneFound,
+    Code::BadDate,
+    Code::BadDays,
+    Code::BeyondCalendar,
+    Code::NoCalendar,
+    Code::BadHoliday,
+    Code::ManyHolidays,
+    Code::BadHours,
+    Code::DoesNotFollow,
+    Code::BadLogLine,
+    Code::UnknownCode,
+    Code::BadMessage,
+    Code::LargeBody,
+    Code::Coding,
+    Code::NoRoute,
+    Code::OtherMethod,
+    Code::WrongKey,
+    Code::NotFound,
+    Code::BadBody,
+    Code::DeskExists,
+    Code::NotPublished,
+    Code::KindDiffers,
+    Code::OtherPlan,
+    Code::ManyPlans,
+    Code::NumbersSpent,
+    Code::BadFile,
+    Code::NoSchedule,
+    Code::BadCalendar,
+    Code::NotOurs,
+    Code::Version,
+    Code::NoKey,
+    Code::NoMemory,
+    Code::StoreRefused,
+    Code::Input,
+    Code::Socket,
+    Code::Output,
+];
+
+// Returns the first of these codes with this name.
+fn named(codes: &[Code], name: &str) -> Option<Code>
+    ensures some { IfSome result (λ code. name.now ≡ name_of code) }
+    ensures none { IfNone result (All (λ code. name.now ≡ name_of code → ⊥) codes.now) }
+{
+    for code in codes {
+        if code.name() == name {
+            return Some(*code);
+        }
+    }
+    None
+}
+
 impl Code {
     /// Returns the code with this name.
     pub(crate) fn parse(name: &str) -> Option<Code>
         ensures some { IfSome result (λ code. name.now ≡ name_of code) }
         ensures none { IfNone result ((code : Code) → name.now ≡ name_of code → ⊥) }
     {
-        match name {
-            "F1" => Some(Code::TooLong),
-            "F2" => Some(Code::NotText),
-            "F3" => Some(Code::MissingHead),
-            "F4" => Some(Code::Unsupported),
-            "F5" => Some(Code::MissingSection),
-            "F6" => Some(Code::BadNumber),
-            "F7" => Some(Code::JobOrder),
-            "F8" => Some(Code::Modes),
-            "F9" => Some(Code::Count),
-            "F10" => Some(Code::Limit),
-            "F11" => Some(Code::Double),
-            "F12" => Some(Code::Cycle),
-            "F13" => Some(Code::NoInstance),
-            "F14" => Some(Code::BadMachine),
-            "T1" => Some(Code::LongTable),
-            "T2" => Some(Code::NoTableText),
-            "T3" => Some(Code::NoDurations),
-            "T4" => Some(Code::ColumnTwice),
-            "T5" => Some(Code::BadDuration),
-            "T6" => Some(Code::BadId),
-            "T7" => Some(Code::IdTwice),
-            "T8" => Some(Code::NoPredecessor),
-            "T9" => Some(Code::BadNeed),
-            "T10" => Some(Code::NoCapacity),
-            "T11" => Some(Code::TableCycle),
-            "T12" => Some(Code::TableLimit),
-            "T13" => Some(Code::BadCells),
-            "T14" => Some(Code::NoListResource),
-            "T15" => Some(Code::ManySteps),
-            "T16" => Some(Code::SuccessorColumn),
-            "T17" => Some(Code::NoToday),
-            "T18" => Some(Code::Workbook),
-            "T19" => Some(Code::HighNeed),
-            "T20" => Some(Code::BadInstant),
-            "T21" => Some(Code::BadDates),
-            "S1" => Some(Code::NeedsTooMuch),
-            "S3" => Some(Code::UnknownRule),
-            "S4" => Some(Code::MachineClosed),
-            "S5" => Some(Code::TooLarge),
-            "S6" => Some(Code::BadBudget),
-            "S7" => Some(Code::BadNodes),
-            "S8" => Some(Code::NoResource),
-            "S9" => Some(Code::LateEnd),
-            "S10" => Some(Code::Infeasible),
-            "S11" => Some(Code::Overload),
-            "S12" => Some(Code::NoPlan),
-            "S13" => Some(Code::NoneFound),
-            "G1" => Some(Code::BadDate),
-            "G2" => Some(Code::BadDays),
-            "G3" => Some(Code::BeyondCalendar),
-            "G4" => Some(Code::NoCalendar),
-            "G5" => Some(Code::BadHoliday),
-            "G6" => Some(Code::ManyHolidays),
-            "G7" => Some(Code::BadHours),
-            "V1" => Some(Code::DoesNotFollow),
-            "V2" => Some(Code::BadLogLine),
-            "C1" => Some(Code::UnknownCode),
-            "H1" => Some(Code::BadMessage),
-            "H2" => Some(Code::LargeBody),
-            "H3" => Some(Code::Coding),
-            "H4" => Some(Code::NoRoute),
-            "H5" => Some(Code::OtherMethod),
-            "E01" => Some(Code::WrongKey),
-            "E02" => Some(Code::NotFound),
-            "E03" => Some(Code::BadBody),
-            "E04" => Some(Code::DeskExists),
-            "E05" => Some(Code::NotPublished),
-            "E06" => Some(Code::KindDiffers),
-            "E07" => Some(Code::OtherPlan),
-            "E08" => Some(Code::ManyPlans),
-            "E09" => Some(Code::NumbersSpent),
-            "E10" => Some(Code::BadFile),
-            "E11" => Some(Code::NoSchedule),
-            "E12" => Some(Code::BadCalendar),
-            "K1" => Some(Code::NotOurs),
-            "K2" => Some(Code::Version),
-            "K3" => Some(Code::NoKey),
-            "E90" => Some(Code::NoMemory),
-            "E91" => Some(Code::StoreRefused),
-            "I1" => Some(Code::Input),
-            "I2" => Some(Code::Socket),
-            "I3" => Some(Code::Output),
-            _ => None,
-        }
+        named(&ALL, name)
     }
 
     /// Returns its name, such as `F9`.

@@ -9,9 +9,8 @@ use crate::verification::do_verify;
 use crate::week_days::do_days_file;
 use crate::weeks::do_solve_file;
 use plan_cli::{
-    CliFault, Log, NamedText, NoteWatcher, Options, ProofWatcher, Rows, SolveWatcher, Subject,
-    SystemInputs, Task, Unlogged, check_text, explain_run, explain_run_in, prepare, read_named,
-    run_on_file, run_on_files, template_run,
+    CliFault, NamedText, Options, Rows, Subject, SystemInputs, Task, Unlogged, check_text,
+    explain_run, explain_run_in, prepare, read_named, run_on_file, run_on_files, template_run,
 };
 use plan_errors::{About, write_text};
 use plan_io::{Sink, StdSink};
@@ -21,17 +20,27 @@ use std::alloc::Global;
 use std::io;
 
 // Runs a task on a file, and writes to standard output.
-fn do_task<V: ProofWatcher + SolveWatcher + NoteWatcher, L: Log>(
+fn do_task(
     rt: &HostRuntime,
     options: Option<Options<'_>>,
     task: Task<'_>,
     rows: Rows,
-    watcher: &mut V,
-    log: &mut L,
     path: &str,
 ) -> Result<(), CliFault> {
+    let mut line = ProgressLine::new(rt);
     let mut writer = StdSink::new(io::writer(rt));
-    run_on_file(rt, options, task, rows, watcher, log, path, &mut writer)
+    run_on_file(
+        rt,
+        options,
+        task,
+        rows,
+        &mut line,
+        &mut Unlogged,
+        path,
+        &mut writer,
+    )?;
+    line.print_notes();
+    Ok(())
 }
 
 // Writes a verdict to standard output, and returns the status that it decides.
@@ -123,9 +132,7 @@ fn do_file_order(
     let mut writer = StdSink::new(io::writer(rt));
     match order {
         FileOrder::Task(task, path) | FileOrder::Watched(task, path) => {
-            let mut line = ProgressLine::new(rt);
-            do_task(rt, options, task, rows, &mut line, &mut Unlogged, path)?;
-            line.print_notes();
+            do_task(rt, options, task, rows, path)?
         }
         FileOrder::Solve {
             task,
