@@ -218,12 +218,12 @@ beyond (x ∷ xs) (suc k) past = beyond xs k (omega (arith, past))
 end_early : (entries : List IdEntry) (starts : List ℕ) (k most : ℕ) → length starts ≡ length entries → greatest_end entries starts ≤ most → end_at entries starts k ≤ most
 end_early entries starts k most whole least = elim (cases_lt k (length entries)) [
   | inl below ↦
-    let high = greatest_above (length entries) (end_at entries starts) k below in
-    omega (arith, high, least)
+      let high = greatest_above (length entries) (end_at entries starts) k below in
+      omega (arith, high, least)
   | inr past ↦
-    let none = beyond starts k (omega (arith, past, whole)) in
-    let nothing = beyond (durations_of entries) k (omega (arith, past, length-map entries (λ (entry : IdEntry). entry.entry.duration))) in
-    omega (arith, none, nothing)
+      let none = beyond starts k (omega (arith, past, whole)) in
+      let nothing = beyond (durations_of entries) k (omega (arith, past, length-map entries (λ (entry : IdEntry). entry.entry.duration))) in
+      omega (arith, none, nothing)
 ]
 
 waits_early : (entries : List IdEntry) (starts waits : List ℕ) → length starts ≡ length entries → greatest_end entries starts ≤ latest_start

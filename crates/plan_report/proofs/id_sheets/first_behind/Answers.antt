@@ -14,11 +14,11 @@ loop-j-preserved c =
     let below : j < count_of net = subst (λ (n : ℕ). j < n) c.len-j-end.ensures.count c.loop-j-test.true in
     elim c.if-is_named.branch [
       | then-is_named w ↦ record {
-          counted = omega (arith, passed_more (is_named ids) j (count_of net) below (sym c.is_named.ensures ∙ w.if-is_named.true), w.behind-is, c.loop-j.invariant.counted);
-          bound = omega (arith, w.behind-is, c.loop-j.invariant.bound);
-        }
+        counted = omega (arith, passed_more (is_named ids) j (count_of net) below (sym c.is_named.ensures ∙ w.if-is_named.true), w.behind-is, c.loop-j.invariant.counted);
+        bound = omega (arith, w.behind-is, c.loop-j.invariant.bound);
+      }
       | else-is_named w ↦ record {
-          counted = omega (arith, passed_same (is_named ids) j (count_of net) below (sym c.is_named.ensures ∙ w.if-is_named.false), w.behind-is, c.loop-j.invariant.counted);
-          bound = omega (arith, w.behind-is, c.loop-j.invariant.bound);
-        }
+        counted = omega (arith, passed_same (is_named ids) j (count_of net) below (sym c.is_named.ensures ∙ w.if-is_named.false), w.behind-is, c.loop-j.invariant.counted);
+        bound = omega (arith, w.behind-is, c.loop-j.invariant.bound);
+      }
     ]
