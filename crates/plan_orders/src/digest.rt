@@ -2,4 +2,4 @@
 
 /// The digest of all sources of the program but this file, in hexadecimal digits, as
 /// `./release --digest` prints it.
-pub(crate) const SOURCES: &str = "f77efc375d27e89811394dc15ac622db223550af0a7656e851317571ade440c4";
+pub(crate) const SOURCES: &str = "da5ba74a6f5c97c8d3eec3b510835b6f13fbd1ccf81468f1625abf6be5a6a9b4";
