@@ -12,9 +12,10 @@ use Rattle.plan_sheet.specs.Bars.{greatest_end}
 use Rattle.plan_sheet.specs.Days.{AreDays, HasDayBeyond, HasLastDay, IsDayAfter, compact_day}
 use Rattle.plan_sheet.specs.Moments.{begin_stamp, day_count, end_stamp}
 use Rattle.plan_sheet.specs.Names.{is_shown}
-use Rattle.plan_sheet.specs.Parts.{EventNames, Part, event_name, event_names_of, is_wanted, name_or_number, parts_of}
+use Rattle.plan_sheet.specs.Parts.{EventNames, event_name, event_names_of, is_wanted, name_or_number, parts_of}
 use Rattle.plan_sheet.specs.Ics.{Event, event_text, calendar_head, calendar_end, text_value}
 use Rattle.plan_sheet.specs.declared.bars.Bar.{Bar}
+use Rattle.plan_sheet.specs.declared.parts.Part.{Part}
 use Rattle.plan_sheet.specs.declared.feed.Events as declared_events
 use Rattle.plan_sheet.specs.declared.feed.Work as declared_work
 
