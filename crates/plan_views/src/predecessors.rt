@@ -1,19 +1,18 @@
 //! The words for the predecessors of activities: ids, and `A+2` for a wait of 2 behind A.
 
-ghost use Rattle.std.specs.Prelude.{◌≡◌, ◌++◌, IfOk, map};
+ghost use Rattle.std.specs.Prelude.{◌≡◌, IfOk, map};
 ghost use Rattle.plan_net.specs.Network.{IsActivity};
 ghost use Rattle.plan_table.specs.Names.{name_of, first_name as named};
-ghost use Rattle.plan_report.specs.IdSheets.{first_behind as first_wait};
-ghost use Rattle.plan_views.specs.WaitWords as spec;
+ghost use Rattle.plan_views.specs.Predecessors as spec;
 
 use plan_net::Network;
 use plan_report::{first_behind, is_wait, only_predecessor};
 use plan_table::{NameLine, first_name};
 use std::alloc::{AllocError, Global};
 
-/// The word for a wait, by the number of its activity.
+/// The word for a predecessor, by the number of its activity.
 #[derive(Drop)]
-pub struct WaitWord {
+pub struct PredecessorWord {
     pub number: u64,
     pub word: Vec<u8>,
 }
@@ -56,7 +55,7 @@ fn word_behind(
     network: &Network,
     behind: usize,
     j: u32,
-) -> Result<WaitWord, AllocError>
+) -> Result<PredecessorWord, AllocError>
     requires { IsActivity network.now j }
     ensures { IfOk result (λ word.
         spec.word_of word ≡ spec.word_behind (map name_of ids.now) network.now behind j) }
@@ -65,39 +64,51 @@ fn word_behind(
     if is_wait(behind, network, j) {
         word = wait_word(alloc, ids, network, j)?;
     }
-    Ok(WaitWord {
+    Ok(PredecessorWord {
         number: u64::from(j),
         word,
     })
 }
 
-/// Returns the words for the waits of a project whose activities have these ids.
-pub(crate) fn wait_words(
+// Returns the ids of activities.
+fn id_words(alloc: Global, ids: &[NameLine<'_>]) -> Result<Vec<PredecessorWord>, AllocError>
+    ensures { IfOk result (λ words. map spec.word_of words.items ≡ map name_of ids.now) }
+{
+    let mut words = Vec::new(alloc);
+    for id in ids {
+        words.push(PredecessorWord {
+            number: id.number,
+            word: Vec::from_slice(alloc, id.name)?,
+        })?;
+    }
+    Ok(words)
+}
+
+/// Returns the words for the activities of a project: their ids, and behind them those for waits.
+pub(crate) fn predecessor_words(
     alloc: Global,
     ids: &[NameLine<'_>],
     network: &Network,
-) -> Result<Vec<WaitWord>, AllocError>
-    ensures { IfOk result (λ words. map spec.word_of words.items ≡ spec.words_from
-        (map name_of ids.now) network.now (first_wait (map name_of ids.now) network.now)) }
+) -> Result<Vec<PredecessorWord>, AllocError>
+    ensures { IfOk result (λ words. map spec.word_of words.items
+        ≡ spec.predecessor_words (map name_of ids.now) network.now) }
 {
     let behind = first_behind(ids, network);
-    let mut words = Vec::new(alloc);
+    let mut words = id_words(alloc, ids)?;
     for j in behind..network.len() {
         words.push(word_behind(alloc, ids, network, behind, j as u32)?)?;
     }
     Ok(words)
 }
 
-/// Returns ids, and behind them the words for waits.
-pub(crate) fn ids_and_words<'a>(
+/// Returns words by the numbers of their activities.
+pub(crate) fn word_lines<'a>(
     alloc: Global,
-    ids: &[NameLine<'a>],
-    words: &'a [WaitWord],
+    words: &'a [PredecessorWord],
 ) -> Result<Vec<NameLine<'a>>, AllocError>
-    ensures { IfOk result (λ lines. map name_of lines.items
-        ≡ map name_of ids.now ++ map spec.word_of words.now) }
+    ensures { IfOk result (λ lines. map name_of lines.items ≡ map spec.word_of words.now) }
 {
-    let mut lines = Vec::from_slice(alloc, ids)?;
+    let mut lines = Vec::new(alloc);
     for word in words {
         lines.push(NameLine {
             number: word.number,
