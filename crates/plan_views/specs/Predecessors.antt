@@ -24,9 +24,12 @@ abbrev pub wait_word : List Name → Net → ℕ → List ℕ
 wait_word ids net j = lag_word ids (only_predecessor net j) (duration_of net j)
 
 -- the word for an activity behind the rows, empty if it is no wait
+abbrev pub text_behind : List Name → Net → ℕ → ℕ → List ℕ
+text_behind ids net behind j = if is_wait behind net j then wait_word ids net j else []
+
+-- the same, with the number of the activity
 abbrev pub word_behind : List Name → Net → ℕ → ℕ → Name
-word_behind ids net behind j =
-    record { number = j; name = if is_wait behind net j then wait_word ids net j else [] }
+word_behind ids net behind j = record { number = j; name = text_behind ids net behind j }
 
 abbrev pub words_from : List Name → Net → ℕ → List Name
 words_from ids net behind =

@@ -22,12 +22,12 @@ fn with_lag(alloc: Global, ids: &[NameLine<'_>], i: u32, lag: u64) -> Result<Vec
     ensures { IfOk result (λ word. word.items
         ≡ spec.with_lag (named i (map name_of ids.now)) lag) }
 {
-    let mut word = Vec::new(alloc);
-    if let Some(id) = first_name(ids, u64::from(i)) {
-        let behind = format!(in alloc; "+{lag}")?;
-        word.extend_from_slice(id)?;
-        word.extend_from_slice(behind.as_bytes())?;
-    }
+    let Some(id) = first_name(ids, u64::from(i)) else {
+        return Ok(Vec::new(alloc));
+    };
+    let behind = format!(in alloc; "+{lag}")?;
+    let mut word = Vec::from_slice(alloc, id)?;
+    word.extend_from_slice(behind.as_bytes())?;
     Ok(word)
 }
 
@@ -48,7 +48,26 @@ fn wait_word(
     }
 }
 
-// Returns the word for an activity behind the rows, empty if it is no wait.
+// Returns the word for an activity behind the rows as a text, empty if it is no wait.
+fn text_behind(
+    alloc: Global,
+    ids: &[NameLine<'_>],
+    network: &Network,
+    behind: usize,
+    j: u32,
+) -> Result<Vec<u8>, AllocError>
+    requires { IsActivity network.now j }
+    ensures { IfOk result (λ text.
+        text.items ≡ spec.text_behind (map name_of ids.now) network.now behind j) }
+{
+    if is_wait(behind, network, j) {
+        wait_word(alloc, ids, network, j)
+    } else {
+        Ok(Vec::new(alloc))
+    }
+}
+
+// Returns the word for an activity behind the rows.
 fn word_behind(
     alloc: Global,
     ids: &[NameLine<'_>],
@@ -60,13 +79,9 @@ fn word_behind(
     ensures { IfOk result (λ word.
         spec.word_of word ≡ spec.word_behind (map name_of ids.now) network.now behind j) }
 {
-    let mut word = Vec::new(alloc);
-    if is_wait(behind, network, j) {
-        word = wait_word(alloc, ids, network, j)?;
-    }
     Ok(PredecessorWord {
         number: u64::from(j),
-        word,
+        word: text_behind(alloc, ids, network, behind, j)?,
     })
 }
 
