@@ -20,5 +20,5 @@ pub mod IdComparisons
 pub mod Bars
 pub mod Charts
 pub mod ChartData
-pub mod WaitWords
+pub mod Predecessors
 pub mod LinkColumns

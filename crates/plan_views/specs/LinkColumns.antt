@@ -10,7 +10,7 @@ use Rattle.plan_formats.specs.Columns.{Column}
 use Rattle.plan_formats.specs.NamedTables.{with_column}
 use Rattle.plan_formats.specs.Tables.{Table}
 use Rattle.plan_formats.specs.declared.column.Layout.TheVariants as layout
-use Rattle.plan_views.specs.WaitWords.{ids_and_waits}
+use Rattle.plan_views.specs.Predecessors.{predecessor_words}
 use Rattle.plan_views.specs.declared.links.ActivityLinks as declared
 
 -- a comma behind a text that isn't empty
@@ -95,7 +95,7 @@ links_by i names words =
 
 -- the same by the ids of the activities
 abbrev pub project_links : Planned → List Name → List Name → List Links
-project_links i names ids = links_by i names (ids_and_waits ids i.project.network)
+project_links i names ids = links_by i names (predecessor_words ids i.project.network)
 
 -- the texts by the numbers of the activities
 abbrev pub resource_line : Links → Name

@@ -17,12 +17,12 @@ mod line_lists;
 mod links;
 mod moments;
 mod plans;
+mod predecessors;
 mod rows;
 mod schedules;
 mod slacks;
 mod solutions;
 mod steps;
-mod wait_words;
 
 pub use bar_tables::chart_bars;
 pub use bars::{Bar, ChartRow, StepNumber};

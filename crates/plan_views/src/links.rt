@@ -7,7 +7,7 @@ ghost use Rattle.plan_formats.specs.Columns.{column_of};
 ghost use Rattle.plan_formats.specs.Tables.{table_of};
 ghost use Rattle.plan_views.specs.LinkColumns as spec;
 
-use crate::wait_words::{ids_and_words, wait_words};
+use crate::predecessors::{predecessor_words, word_lines};
 use plan_formats::{Column, Layout, Table, with_column};
 use plan_sgs::Instance;
 use plan_table::{NameLine, first_name};
@@ -179,9 +179,9 @@ pub fn project_links(
     ensures { IfOk result (λ links. map spec.links_of links.items ≡ spec.project_links instance.now
         (map name_of resources.now) (map name_of ids.now)) }
 {
-    let waits = wait_words(alloc, ids, instance.network())?;
-    let words = ids_and_words(alloc, ids, &waits)?;
-    links_by(alloc, instance, resources, &words)
+    let words = predecessor_words(alloc, ids, instance.network())?;
+    let lines = word_lines(alloc, &words)?;
+    links_by(alloc, instance, resources, &lines)
 }
 
 // Returns the resources by the numbers of the activities.

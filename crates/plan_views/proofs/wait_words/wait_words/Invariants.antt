@@ -1,9 +1,0 @@
-use Rattle.std.proofs.Common.{◌≡◌, ◌-◌, map}
-use Rattle.std.specs.List.{range_with_len}
-use Rattle.plan_table.specs.Names.{name_of}
-use Rattle.plan_views.specs.WaitWords.{word_behind, word_of}
-use Rattle.plan_views.proofs.wait_words.wait_words.Given as goal
-
--- the words so far
-abbrev pub invariant-loop-j : goal.invariant-loop-j
-invariant-loop-j l = map word_of l.words.items ≡ map (word_behind (map name_of l.ids) l.network l.behind) (range_with_len l.behind (l.j - l.behind))
