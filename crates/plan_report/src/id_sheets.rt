@@ -115,6 +115,7 @@ fn row_entries<'a>(
     behind: usize,
 ) -> Result<Vec<IdEntry<'a>>, AllocError>
     requires behind { behind ≡ spec.first_behind (map name_of ids.now) network.now }
+    requires low { 2 ≤ behind }
     requires within { behind - 2 ≤ count_of network.now - 2 }
     ensures entries { IfOk result (λ entries. map sheets.id_entry_of entries.items
         ≡ spec.row_entries (map name_of ids.now) network.now) }
