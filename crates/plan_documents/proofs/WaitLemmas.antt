@@ -8,15 +8,19 @@ use Rattle.plan_psplib.proofs.SaysLemmas.{said_document}
 use Rattle.plan_psplib.proofs.GoesLemmas.{both_true}
 use Rattle.plan_table.specs.Names.{Name, activity_key, id_key, names_behind}
 use Rattle.plan_report.specs.IdSheets.{first_behind}
-use Rattle.plan_documents.specs.Waits.{has_place, is_inner, is_lag, is_row_id, is_wait, row_ids, shown_ids, wait_number, without_waits}
+use Rattle.plan_documents.specs.Waits.{has_place, inner_number, is_lag, is_row_id, is_wait, is_wait_id, row_ids, shown_ids, wait_number, without_waits}
 
 -- an id without a number isn't that of a wait
 row_is_shown : (p : Project) (names : List Name) (behind : ℕ) (id : Name) → is_row_id id ≡ true → is_wait p names behind id ≡ false
-row_is_shown p names behind id is = by_number (wait_number id.name) is
+row_is_shown p names behind id is = at (inner_number p id.number)
   where
-    by_number : (k : Option ℕ) → not (is_some k) ≡ true → (has_place behind id.number k && is_inner p id.number && is_lag p names behind id.number) ≡ false
-    by_number None is = refl
-    by_number (Some k) is = absurd (cc)
+    by_number : (k : Option ℕ) (j : ℕ) → not (is_some k) ≡ true → (has_place behind j k && is_lag p names behind j) ≡ false
+    by_number None j is = refl
+    by_number (Some k) j is = absurd (cc)
+
+    at : (n : Option ℕ) → is_wait_id p names behind id n ≡ false
+    at None = refl
+    at (Some j) = by_number (wait_number id.name) j is
 
 -- ids of rows stay
 rows_stay : (p : Project) (names : List Name) (behind : ℕ) (ids : List Name) → list_all is_row_id ids ≡ true → without_waits p names behind ids ≡ ids

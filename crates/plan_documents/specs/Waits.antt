@@ -30,9 +30,9 @@ abbrev pub has_place : ℕ → ℕ → Option ℕ → Bool
 has_place behind j None = false
 has_place behind j (Some k) = nat_le k j && (j - k == behind)
 
--- an activity is between the first and the last
-abbrev pub is_inner : Project → ℕ → Bool
-is_inner p j = nat_le 2 j && nat_lt j (count_of p.network)
+-- the number of an activity, if it is between the first and the last
+abbrev pub inner_number : Project → ℕ → Option ℕ
+inner_number p j = if nat_le 2 j && nat_lt j (count_of p.network) then Some j else None
 
 -- an activity has no name
 abbrev pub is_unnamed : List Name → ℕ → Bool
@@ -51,11 +51,15 @@ abbrev pub is_lag : Project → List Name → ℕ → ℕ → Bool
 is_lag p names behind j =
     is_unnamed names j && needs_nothing p j && waits.is_wait behind p.network j
 
+-- the id of an activity with this number is that of a wait
+abbrev pub is_wait_id : Project → List Name → ℕ → Name → Option ℕ → Bool
+is_wait_id p names behind id None = false
+is_wait_id p names behind id (Some j) =
+    has_place behind j (wait_number id.name) && is_lag p names behind j
+
 -- an id is that of a wait, if `behind` is the number of the first activity behind the rows
 abbrev pub is_wait : Project → List Name → ℕ → Name → Bool
-is_wait p names behind id =
-    has_place behind id.number (wait_number id.name) && is_inner p id.number
-    && is_lag p names behind id.number
+is_wait p names behind id = is_wait_id p names behind id (inner_number p id.number)
 
 -- the ids without those of waits
 abbrev pub without_waits : Project → List Name → ℕ → List Name → List Name

@@ -1,7 +1,7 @@
 //! The ids in a project file whose activities are shown: all but those of the waits that
 //! `plan import` writes for the lags of a list.
 
-ghost use Rattle.std.specs.Prelude.{◌≡◌, ◌==◌, IfOk, map};
+ghost use Rattle.std.specs.Prelude.{◌≡◌, ◌==◌, IfOk, IfSome, map};
 ghost use Rattle.std.specs.List.{list_all};
 ghost use Rattle.plan_net.specs.Network.{IsActivity};
 ghost use Rattle.plan_table.specs.Names.{id_key, activity_key, name_of, names_behind};
@@ -55,11 +55,16 @@ fn has_place(behind: usize, j: u64, wait: Option<u64>) -> bool
     }
 }
 
-// Tests whether an activity is between the first and the last.
-fn is_inner(project: &ProjectDoc, j: u64) -> bool
-    ensures { result ≡ spec.is_inner project.now j }
+// Returns the number of an activity, if it is between the first and the last.
+fn inner_number(project: &ProjectDoc, j: u64) -> Option<u32>
+    ensures number { result ≡ spec.inner_number project.now j }
+    ensures activity { IfSome result (IsActivity project.now.network) }
 {
-    j >= 2 && j < project.network().len() as u64
+    if j >= 2 && j < project.network().len() as u64 {
+        Some(j as u32)
+    } else {
+        None
+    }
 }
 
 // Tests whether an activity has no name.
@@ -100,9 +105,13 @@ fn is_wait(
 ) -> bool
     ensures { result ≡ spec.is_wait project.now (map name_of names.now) behind (name_of id.now) }
 {
-    has_place(behind, id.number, wait_number(id.name))
-        && is_inner(project, id.number)
-        && is_lag(project, names, behind, id.number as u32)
+    match inner_number(project, id.number) {
+        Some(j) => {
+            has_place(behind, u64::from(j), wait_number(id.name))
+                && is_lag(project, names, behind, j)
+        }
+        None => false,
+    }
 }
 
 // Returns the ids without those of waits.
@@ -155,7 +164,7 @@ fn ids_of_project<'a>(
 
 /// Returns the ids in a project file whose activities are shown. The file must have been read
 /// before, so that only memory can run out.
-#[tactic(auto, using(crate::proofs::WaitLemmas::rows_shown, crate::proofs::WaitLemmas::project_shown))]
+#[tactic(auto, using(crate::proofs::WaitLemmas::rows_shown))]
 pub(crate) fn shown_ids<'a>(
     alloc: Global,
     file: &'a [u8],
@@ -168,6 +177,8 @@ pub(crate) fn shown_ids<'a>(
         return Ok(ids);
     }
     let names = activity_names(alloc, file)?;
-    let project = read_sm(alloc, file).map_err(|_| AllocError)?;
-    ids_of_project(alloc, &project, &names, &ids)
+    match read_sm(alloc, file) {
+        Ok(project) => ids_of_project(alloc, &project, &names, &ids),
+        Err(_) => Err(AllocError),
+    }
 }

@@ -26,6 +26,7 @@ passed_within p (x ∷ xs) = passed_next (p x) (passed_within p xs)
 
 -- the first activity behind the rows is at most the last one, or the second one
 behind_within : (ids : List Name) (net : Net) → first_behind ids net ≤ count_of net - 2 + 2
+unfolding first_behind
 behind_within ids net =
     omega (arith, passed_within (is_named ids) (inner_activities net), length-range_with_len 2 (count_of net - 2))
 
@@ -41,6 +42,7 @@ fewer_entries false entries = omega arith
 
 -- the entries with ids and the waits are those of all activities but two
 pub id_sheet_whole : (ids : List Name) (net : Net) → IsWhole (id_sheet ids net)
+unfolding id_sheet
 id_sheet_whole ids net = λ some.
     let behind = first_behind ids net in
     let rows = length-map-range_with_len (id_entry ids net) 2 (behind - 2) in

@@ -19,7 +19,7 @@ inner_activities net = range_with_len 2 (count_of net - 2)
 
 -- The number of the first activity behind the rows of a table. The rows are the activities from 2
 -- on, as many as have an id.
-abbrev pub first_behind : List Name → Net → ℕ
+unfoldable pub first_behind : List Name → Net → ℕ
 first_behind ids net = length (filter (is_named ids) (inner_activities net)) + 2
 
 -- an activity before another one has an id, and one that isn't before it is a wait
@@ -71,7 +71,7 @@ wait_places ids net =
     if are_complete ids net then places_from net (first_behind ids net) else []
 
 -- the sheet of a project's starts, as `schedule` prints it with ids or with numbers
-abbrev pub id_sheet : List Name → Net → Sheet
+unfoldable pub id_sheet : List Name → Net → Sheet
 id_sheet ids net = record {
   columns = codes "act" ∷ codes "d" ∷ codes "start" ∷ codes "end" ∷ [];
   entries = activity_entries net;

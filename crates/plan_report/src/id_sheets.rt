@@ -22,8 +22,10 @@ fn is_named(ids: &[NameLine<'_>], j: u64) -> bool
 
 /// Returns the number of the first activity behind the rows of a table. The rows are the activities
 /// from 2 on, as many as have an id.
+#[tactic(auto, unfolding(crate::specs::IdSheets::first_behind))]
 pub fn first_behind(ids: &[NameLine<'_>], network: &Network) -> usize
     ensures number { result ≡ spec.first_behind (map name_of ids.now) network.now }
+    ensures low { 2 ≤ result }
     ensures within { result - 2 ≤ count_of network.now - 2 }
 {
     let mut behind = 2;
@@ -113,6 +115,7 @@ fn row_entries<'a>(
     behind: usize,
 ) -> Result<Vec<IdEntry<'a>>, AllocError>
     requires behind { behind ≡ spec.first_behind (map name_of ids.now) network.now }
+    requires low { 2 ≤ behind }
     requires within { behind - 2 ≤ count_of network.now - 2 }
     ensures entries { IfOk result (λ entries. map sheets.id_entry_of entries.items
         ≡ spec.row_entries (map name_of ids.now) network.now) }
@@ -141,6 +144,7 @@ fn places_from(alloc: Global, network: &Network, behind: usize) -> Result<Vec<us
 }
 
 /// Returns the sheet of a project's starts, with the ids of its activities.
+#[tactic(auto, unfolding(crate::specs::IdSheets::id_sheet))]
 pub(crate) fn id_sheet<'a>(
     alloc: Global,
     network: &Network,

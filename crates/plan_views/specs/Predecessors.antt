@@ -36,7 +36,7 @@ words_from ids net behind =
     map (word_behind ids net behind) (range_with_len behind (count_of net - behind))
 
 -- the words for activities: their ids, and behind them those for the waits
-abbrev pub predecessor_words : List Name → Net → List Name
+unfoldable pub predecessor_words : List Name → Net → List Name
 predecessor_words ids net = ids ++ words_from ids net (first_behind ids net)
 
 -- a word by the number of its activity, as the program keeps it

@@ -100,6 +100,7 @@ fn id_words(alloc: Global, ids: &[NameLine<'_>]) -> Result<Vec<PredecessorWord>,
 }
 
 /// Returns the words for the activities of a project: their ids, and behind them those for waits.
+#[tactic(auto, unfolding(crate::specs::Predecessors::predecessor_words))]
 pub(crate) fn predecessor_words(
     alloc: Global,
     ids: &[NameLine<'_>],

@@ -15,10 +15,12 @@ loop-j-preserved c =
     elim c.if-is_named.branch [
       | then-is_named w ↦ record {
         counted = omega (arith, passed_more (is_named ids) j (count_of net) below (sym c.is_named.ensures ∙ w.if-is_named.true), w.behind-is, c.loop-j.invariant.counted);
+        low = omega (arith, w.behind-is, c.loop-j.invariant.low);
         bound = omega (arith, w.behind-is, c.loop-j.invariant.bound);
       }
       | else-is_named w ↦ record {
         counted = omega (arith, passed_same (is_named ids) j (count_of net) below (sym c.is_named.ensures ∙ w.if-is_named.false), w.behind-is, c.loop-j.invariant.counted);
+        low = omega (arith, w.behind-is, c.loop-j.invariant.low);
         bound = omega (arith, w.behind-is, c.loop-j.invariant.bound);
       }
     ]

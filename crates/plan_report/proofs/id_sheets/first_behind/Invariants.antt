@@ -10,5 +10,6 @@ abbrev pub invariant-loop-j : goal.invariant-loop-j
 invariant-loop-j l = record {
   counted : l.behind + length (filter (is_named (map name_of l.ids)) (range_with_len l.j (count_of l.network - l.j)))
       ≡ first_behind (map name_of l.ids) l.network;
+  low : 2 ≤ l.behind;
   bound : l.behind ≤ l.j;
 }
