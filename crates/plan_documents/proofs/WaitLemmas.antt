@@ -38,7 +38,7 @@ rows_shown (Ok d) names ids are = rows_stay (project_of d) names (first_behind (
 -- a file with a project
 pub project_shown : (file : List ℕ) (p : Project) → SaysProject file p
     → shown_ids (document file) (names_behind activity_key file) (names_behind id_key file)
-        ≡ without_waits p (names_behind activity_key file) (first_behind (row_ids (names_behind id_key file)) p.network) (names_behind id_key file)
+    ≡ without_waits p (names_behind activity_key file) (first_behind (row_ids (names_behind id_key file)) p.network) (names_behind id_key file)
 project_shown file p (d, said, is, sound) =
     let names = names_behind activity_key file in
     let ids = names_behind id_key file in

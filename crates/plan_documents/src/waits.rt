@@ -97,12 +97,7 @@ fn is_lag(project: &ProjectDoc, names: &[NameLine<'_>], behind: usize, j: u32) -
 }
 
 // Tests whether an id is that of a wait; the first activity behind the rows is `behind`.
-fn is_wait(
-    project: &ProjectDoc,
-    names: &[NameLine<'_>],
-    behind: usize,
-    id: &NameLine<'_>,
-) -> bool
+fn is_wait(project: &ProjectDoc, names: &[NameLine<'_>], behind: usize, id: &NameLine<'_>) -> bool
     ensures { result ≡ spec.is_wait project.now (map name_of names.now) behind (name_of id.now) }
 {
     match inner_number(project, id.number) {
@@ -165,10 +160,7 @@ fn ids_of_project<'a>(
 /// Returns the ids in a project file whose activities are shown. The file must have been read
 /// before, so that only memory can run out.
 #[tactic(auto, using(crate::proofs::WaitLemmas::rows_shown))]
-pub(crate) fn shown_ids<'a>(
-    alloc: Global,
-    file: &'a [u8],
-) -> Result<Vec<NameLine<'a>>, AllocError>
+pub(crate) fn shown_ids<'a>(alloc: Global, file: &'a [u8]) -> Result<Vec<NameLine<'a>>, AllocError>
     ensures { IfOk result (λ shown. map name_of shown.items ≡ spec.shown_ids (document file.now)
         (names_behind activity_key file.now) (names_behind id_key file.now)) }
 {

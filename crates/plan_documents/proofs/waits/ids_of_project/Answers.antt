@@ -12,7 +12,7 @@ returns c =
     let ids = map name_of c.args.ids.now in
     let rows : map name_of c.deref.result.now ≡ row_ids ids = ap (λ (lines : List NameLine). map name_of lines) c.deref.ensures.value ∙ c.in_ok-rows.ensures in
     let behind : c.first_behind-behind.result ≡ first_behind (row_ids ids) project.network =
-        c.first_behind-behind.ensures.number ∙ ap (λ (names : List Name). first_behind names c.network.result.now) rows
-        ∙ ap (λ (net : Net). first_behind (row_ids ids) net) c.network.ensures.network in
+    c.first_behind-behind.ensures.number ∙ ap (λ (names : List Name). first_behind names c.network.result.now) rows
+    ∙ ap (λ (net : Net). first_behind (row_ids ids) net) c.network.ensures.network in
     subst (λ (n : ℕ). IfOk c.without_waits.result (λ shown. map name_of shown.items ≡ without_waits project (map name_of c.args.names.now) n ids)) behind
     c.without_waits.ensures

@@ -11,11 +11,11 @@ pub returns-in-Ok : goal.returns-in-Ok
 returns-in-Ok c =
     let file = c.args.file.now in
     let project = c.in-Ok.project in
-    let names : map name_of c.deref-in-Ok.result.now ≡ names_behind activity_key file =
-        ap (λ (lines : List NameLine). map name_of lines) c.deref-in-Ok.ensures.value ∙ c.in_ok-names.ensures in
-    let ids : map name_of c.deref-in-Ok-2.result.now ≡ names_behind id_key file =
-        ap (λ (lines : List NameLine). map name_of lines) c.deref-in-Ok-2.ensures.value ∙ c.in_ok-ids.ensures in
-    let own = map name_of c.deref-in-Ok-2.result.now in
+    let names : map name_of c.deref-2.result.now ≡ names_behind activity_key file =
+    ap (λ (lines : List NameLine). map name_of lines) c.deref-2.ensures.value ∙ c.in_ok-names.ensures in
+    let ids : map name_of c.deref-3.result.now ≡ names_behind id_key file =
+    ap (λ (lines : List NameLine). map name_of lines) c.deref-3.ensures.value ∙ c.in_ok-ids.ensures in
+    let own = map name_of c.deref-3.result.now in
     IfOk-weaker c.ids_of_project.result _ _
     (λ shown made. made ∙ ap (λ (ns : List Name). without_waits project ns (first_behind (row_ids own) project.network) own) names
     ∙ ap (λ (is : List Name). without_waits project (names_behind activity_key file) (first_behind (row_ids is) project.network) is) ids
