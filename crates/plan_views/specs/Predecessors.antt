@@ -1,7 +1,7 @@
 -- The words for the predecessors of activities: ids, and `A+2` for a wait of 2 behind A
 -- (docs/definitions.md, "Tables and charts").
 use Rattle.std.specs.Prelude.{ℕ, ◌-◌, if◌then◌else◌, List, [], ◌++◌, Option, Some, None}
-use Rattle.std.specs.Prelude.{codes, decimal, map}
+use Rattle.std.specs.Prelude.{codes, decimal, map, option_map}
 use Rattle.std.specs.List.{range_with_len}
 use Rattle.plan_net.specs.Network.{Net, count_of, duration_of}
 use Rattle.plan_table.specs.Names.{Name, first_name}
@@ -10,14 +10,14 @@ use Rattle.plan_report.specs.Waits.{is_wait, only_predecessor}
 use Rattle.plan_views.specs.declared.predecessors.PredecessorWord as declared
 
 -- an id with a lag behind it, such as `A+2`; empty if there is no id
-abbrev pub with_lag : Option Name → ℕ → List ℕ
+abbrev pub with_lag : Option (List ℕ) → ℕ → List ℕ
 with_lag None lag = []
-with_lag (Some id) lag = id.name ++ codes "+" ++ decimal lag
+with_lag (Some id) lag = id ++ codes "+" ++ decimal lag
 
 -- the id of a predecessor, with a lag behind it; empty if there is no predecessor
 abbrev pub lag_word : List Name → Option ℕ → ℕ → List ℕ
 lag_word ids None lag = []
-lag_word ids (Some i) lag = with_lag (first_name i ids) lag
+lag_word ids (Some i) lag = with_lag (option_map (λ id. id.name) (first_name i ids)) lag
 
 -- the word for a wait: the id of its predecessor, and its duration as lag
 abbrev pub wait_word : List Name → Net → ℕ → List ℕ

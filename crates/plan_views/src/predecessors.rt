@@ -1,8 +1,8 @@
 //! The words for the predecessors of activities: ids, and `A+2` for a wait of 2 behind A.
 
-ghost use Rattle.std.specs.Prelude.{◌≡◌, IfOk, map};
+ghost use Rattle.std.specs.Prelude.{◌≡◌, IfOk, map, option_map};
 ghost use Rattle.plan_net.specs.Network.{IsActivity};
-ghost use Rattle.plan_table.specs.Names.{name_of, first_name as named};
+ghost use Rattle.plan_table.specs.Names.{name_of};
 ghost use Rattle.plan_views.specs.Predecessors as spec;
 
 use plan_net::Network;
@@ -17,12 +17,12 @@ pub struct PredecessorWord {
     pub word: Vec<u8>,
 }
 
-// Returns the id of an activity with a lag behind it, empty if it has none.
-fn with_lag(alloc: Global, ids: &[NameLine<'_>], i: u32, lag: u64) -> Result<Vec<u8>, AllocError>
+// Returns an id with a lag behind it, empty if there is no id.
+fn with_lag(alloc: Global, id: Option<&[u8]>, lag: u64) -> Result<Vec<u8>, AllocError>
     ensures { IfOk result (λ word. word.items
-        ≡ spec.with_lag (named i (map name_of ids.now)) lag) }
+        ≡ spec.with_lag (option_map (λ bytes. bytes.now) id.entry) lag) }
 {
-    let Some(id) = first_name(ids, u64::from(i)) else {
+    let Some(id) = id else {
         return Ok(Vec::new(alloc));
     };
     let behind = format!(in alloc; "+{lag}")?;
@@ -43,7 +43,7 @@ fn wait_word(
         word.items ≡ spec.wait_word (map name_of ids.now) network.now j) }
 {
     match only_predecessor(network, j) {
-        Some(i) => with_lag(alloc, ids, i, network.duration(j)),
+        Some(i) => with_lag(alloc, first_name(ids, u64::from(i)), network.duration(j)),
         None => Ok(Vec::new(alloc)),
     }
 }
