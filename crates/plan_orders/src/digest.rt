@@ -2,4 +2,4 @@
 
 /// The digest of all sources of the program but this file, in hexadecimal digits, as
 /// `./release --digest` prints it.
-pub(crate) const SOURCES: &str = "697f99e012ed474bb4957f6b3a70063541aefe2ce5b282d524e2c86746a5bf39";
+pub(crate) const SOURCES: &str = "12145b1ecdc1a6c598c8e194884b6c4e6abfa697d6800e0c03b43f41ea33e2e5";
