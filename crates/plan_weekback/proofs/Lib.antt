@@ -2,3 +2,4 @@ pub mod BackLemmas
 pub mod EntryLemmas
 pub mod OutputLemmas
 pub mod ReadingLemmas
+pub mod SamenessLemmas

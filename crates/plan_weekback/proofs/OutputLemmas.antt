@@ -11,7 +11,7 @@ use Rattle.plan_gantt.specs.declared.days.DaysFault.{DaysFault}
 use Rattle.plan_gantt.specs.declared.days.DaysFault.TheVariants as days
 use Rattle.plan_weekback.specs.Columns.{IsBack}
 use Rattle.plan_weekback.specs.Entries.{Entry, HasEntryBeyond}
-use Rattle.plan_weekback.specs.Outputs.{AreTextsOf, RefusesWeekBack, ShowsPlan, ShowsWeekBack, TellsNoBack, TellsNoDates, TellsNoList, TellsNoTexts}
+use Rattle.plan_weekback.specs.Outputs.{AreTextsOf, RefusesWeekBack, ShowsPlan, ShowsWeekBack, TellsAnother, TellsNoBack, TellsNoDates, TellsNoList, TellsNoTexts}
 use Rattle.plan_weekback.specs.Readings.{IsRead, IsWeekText, TellsNoText, text_of}
 use Rattle.plan_weekback.specs.Sameness.{MeansList}
 use Rattle.plan_weekback.specs.declared.readings.WeekReading.{WeekReading}
@@ -70,7 +70,7 @@ pub week_refused : (order : WeekOrder) (reading : WeekReading) (calendar : Optio
     → Refuses (RefusesWeekBack order reading calendar file) e
 week_refused order reading calendar file text t e is same told =
     refuses_as (TellsNoWeek order.capacities.now order.today text) (RefusesWeekBack order reading calendar file) e
-    (λ line tells. inr (inl (text, is_read reading file text t is same, inl (inl tells)))) told
+    (λ line tells. inr (text, is_read reading file text t is same, inl (inl tells))) told
 
 -- the error of its plan
 pub plan_refused : (order : WeekOrder) (reading : WeekReading) (calendar : Option Workdays) (file text : List ℕ) (t : WeekText) (listed : ListedWeek) (e : CliFault)
@@ -78,7 +78,7 @@ pub plan_refused : (order : WeekOrder) (reading : WeekReading) (calendar : Optio
     → Refuses (RefusesWeekBack order reading calendar file) e
 plan_refused order reading calendar file text t listed e is same week told =
     refuses_as (TellsUnplanned listed) (RefusesWeekBack order reading calendar file) e
-    (λ line tells. inr (inl (text, is_read reading file text t is same, inl (inr (listed, week, tells))))) told
+    (λ line tells. inr (text, is_read reading file text t is same, inl (inr (listed, week, tells)))) told
 
 -- the first check that the dates of a text fail is an error of its week
 dates_of_week : (given : List Capacity) (today : Option ℕ) (text line : List ℕ) → TellsNoDates today text line → TellsNoWeek given today text line
@@ -88,36 +88,50 @@ dates_of_week (first ∷ more) today text line (fault, fails, tells) = inl (faul
 -- an error of the list is one of the week, a day that is too late, or one of the columns
 no_list : (order : WeekOrder) (reading : WeekReading) (calendar : Option Workdays) (file text line : List ℕ) (listed : ListedWeek) (plan : WeekPlan)
     → IsRead reading file text → IsWeekWith order.capacities.now order.today text listed
-    → IsPlanned (goal_or_makespan order.goal) listed.week plan → TellsNoList calendar order.today text listed plan line
+    → IsPlanned (goal_or_makespan order.goal) listed.week plan → TellsNoList order reading calendar text listed plan file line
     → RefusesWeekBack order reading calendar file line
 no_list order reading calendar file text line listed plan read week planned (inl (inl tells)) =
-    inr (inl (text, read, inl (inl (dates_of_week order.capacities.now order.today text line tells))))
+    inr (text, read, inl (inl (dates_of_week order.capacities.now order.today text line tells)))
 no_list order reading calendar file text line listed plan read week planned (inl (inr late)) =
-    inr (inl (text, read, inr (listed, plan, record { week = week; planned = planned }, late)))
-no_list order reading calendar file text line listed plan read week planned (inr tells) = inr (inr tells)
+    inr (text, read, inr (listed, plan, record { week = week; planned = planned }, inl late))
+no_list order reading calendar file text line listed plan read week planned (inr tells) =
+    inr (text, read, inr (listed, plan, record { week = week; planned = planned }, inr tells))
 
 -- the error of its list
 pub list_refused : (order : WeekOrder) (reading : WeekReading) (calendar : Option Workdays) (file text : List ℕ) (t : WeekText) (listed : ListedWeek)
     (plan : WeekPlan) (e : CliFault) → IsWeekText reading file t → text ≡ text_of t file → IsWeekWith order.capacities.now order.today text listed
-    → IsPlanned (goal_or_makespan order.goal) listed.week plan → Refuses (TellsNoList calendar order.today text listed plan) e
+    → IsPlanned (goal_or_makespan order.goal) listed.week plan → Refuses (TellsNoList order reading calendar text listed plan file) e
     → Refuses (RefusesWeekBack order reading calendar file) e
 list_refused order reading calendar file text t listed plan e is same week planned told =
-    refuses_as (TellsNoList calendar order.today text listed plan) (RefusesWeekBack order reading calendar file) e
+    refuses_as (TellsNoList order reading calendar text listed plan file) (RefusesWeekBack order reading calendar file) e
     (λ line tells. no_list order reading calendar file text line listed plan (is_read reading file text t is same) week planned tells) told
 
 -- ---- the list
 
 -- the error of its texts
-pub texts_untold : (calendar : Option Workdays) (today : Option ℕ) (text : List ℕ) (listed : ListedWeek) (plan : WeekPlan) (e : CliFault)
-    → Refuses (TellsNoTexts calendar today text listed plan) e → Refuses (TellsNoList calendar today text listed plan) e
-texts_untold calendar today text listed plan e told =
-    refuses_as (TellsNoTexts calendar today text listed plan) (TellsNoList calendar today text listed plan) e (λ line tells. inl tells) told
+pub texts_untold : (order : WeekOrder) (reading : WeekReading) (calendar : Option Workdays) (text file : List ℕ) (listed : ListedWeek) (plan : WeekPlan)
+    (e : CliFault) → Refuses (TellsNoTexts calendar order.today text listed plan) e
+    → Refuses (TellsNoList order reading calendar text listed plan file) e
+texts_untold order reading calendar text file listed plan e told =
+    refuses_as (TellsNoTexts calendar order.today text listed plan) (TellsNoList order reading calendar text listed plan file) e
+    (λ line tells. inl tells) told
 
 -- the error of its columns
-pub columns_untold : (calendar : Option Workdays) (today : Option ℕ) (text : List ℕ) (listed : ListedWeek) (plan : WeekPlan) (e : CliFault)
-    → Refuses TellsNoBack e → Refuses (TellsNoList calendar today text listed plan) e
-columns_untold calendar today text listed plan e told =
-    refuses_as TellsNoBack (TellsNoList calendar today text listed plan) e (λ line tells. inr tells) told
+pub columns_untold : (order : WeekOrder) (reading : WeekReading) (calendar : Option Workdays) (text file : List ℕ) (listed : ListedWeek) (plan : WeekPlan)
+    (entries : List Entry) (late : Bool) (e : CliFault) → AreTextsOf calendar order.today text listed plan entries → late ≡ is_some plan.lateness
+    → Refuses (TellsNoBack late entries file) e → Refuses (TellsNoList order reading calendar text listed plan file) e
+columns_untold order reading calendar text file listed plan entries late e are asked told =
+    refuses_as (TellsNoBack late entries file) (TellsNoList order reading calendar text listed plan file) e
+    (λ line tells. inr (entries, are, inl (subst (λ (b : Bool). TellsNoBack b entries file line) asked tells))) told
+
+-- the error of its meaning
+pub meaning_untold : (order : WeekOrder) (reading : WeekReading) (calendar : Option Workdays) (text file made : List ℕ) (listed : ListedWeek)
+    (plan : WeekPlan) (entries : List Entry) (late : Bool) (e : CliFault) → AreTextsOf calendar order.today text listed plan entries
+    → late ≡ is_some plan.lateness → IsBack late entries file made → Refuses (TellsAnother order reading listed made) e
+    → Refuses (TellsNoList order reading calendar text listed plan file) e
+meaning_untold order reading calendar text file made listed plan entries late e are asked back told =
+    refuses_as (TellsAnother order reading listed made) (TellsNoList order reading calendar text listed plan file) e
+    (λ line tells. inr (entries, are, inr (made, subst (λ (b : Bool). IsBack b entries file made) asked back, tells))) told
 
 -- the list with the texts of a plan
 pub plan_shown : (calendar : Option Workdays) (today : Option ℕ) (text file made : List ℕ) (listed : ListedWeek) (plan : WeekPlan) (entries : List Entry)
@@ -139,6 +153,6 @@ list_shown order reading calendar file text made t listed plan is same week plan
     read = is_read reading file text t is same;
     planned = record { week = week; planned = planned };
     shown = shown;
-    same = (listed, (text, is_read reading file text t is same, week), means);
+    same = means;
   },
 )

@@ -22,9 +22,11 @@ use Rattle.plan_weeklist.specs.Rows.{DatedRow}
 use Rattle.plan_weeks.specs.WeekTables.{planned}
 use Rattle.plan_weekview.specs.WeekDays.{IsFirstBeyond, IsLastBeyond, begins_at, takes_time}
 
--- the texts of an activity, whose row begins in a line
+-- the texts of an activity, whose row begins in a line and has the id in a cell; the id is empty if
+-- the list has no ids
 pub record Entry : Type 0 where
   pub line : ℕ
+  pub id : List ℕ
   pub start : List ℕ
   pub finish : List ℕ
   pub late : List ℕ
@@ -33,6 +35,7 @@ pub record Entry : Type 0 where
 abbrev pub entry_of : declared.Entry → Entry
 entry_of e = record {
   line = e.line;
+  id = string_bytes e.id;
   start = string_bytes e.start;
   finish = string_bytes e.finish;
   late = string_bytes e.late;
@@ -75,6 +78,11 @@ known_begin own rows week starts k a =
 
 -- ---- texts
 
+-- the id of an activity, if its list has ids
+abbrev pub id_if : Bool → List ℕ → List ℕ
+id_if false id = []
+id_if true id = id
+
 -- the digits of an instant, if it is known
 abbrev pub instant_text : Option ℕ → List ℕ
 instant_text None = []
@@ -110,6 +118,7 @@ IsFinishText (Some calendar) begin ends text =
 pub record IsEntry (days : Option Workdays) (own : Bool) (rows : List DatedRow) (week : Week)
     (starts : List ℕ) (k : ℕ) (a : Activity) (e : Entry) : Type 0 where
   pub line : e.line ≡ a.line
+  pub id : e.id ≡ id_if own a.id
   pub start : IsStartText days (known_begin own rows week starts k a) (end_of week starts k) e.start
   pub finish : IsFinishText days (begins_at week starts k) (end_of week starts k) e.finish
   pub late : e.late ≡ decimal (tardiness_of week starts k)

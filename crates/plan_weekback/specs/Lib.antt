@@ -2,4 +2,5 @@ pub mod Entries
 pub mod Columns
 pub mod Readings
 pub mod Sameness
+pub mod Comparisons
 pub mod Outputs

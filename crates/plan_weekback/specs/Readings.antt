@@ -9,7 +9,7 @@ use Rattle.plan_weekback.specs.declared.readings.WeekText.{WeekText}
 use Rattle.plan_weekdates.specs.DatedLists as dates
 use Rattle.plan_weekdates.specs.declared.list.DatedList.{DatedList}
 use Rattle.plan_weekfile.specs.Files.{IsWeekFile, TellsNoWeekFile, text_in}
-use Rattle.plan_weekfile.specs.Weeks.{IsWeekWith}
+use Rattle.plan_weekfile.specs.Weeks.{IsWeekWith, TellsNoWeek}
 use Rattle.plan_weeklist.specs.declared.listed.ListedWeek.{ListedWeek}
 use Rattle.plan_weekview.specs.DatedLines.{TellsNoInstants}
 
@@ -59,3 +59,8 @@ TellsUndatedOf reading file line = (list : Option OptionedList)
 abbrev pub TellsNoText : WeekReading → List ℕ → List ℕ → Type 0
 TellsNoText reading file line =
     TellsNoWeekFile reading.options file line ⊎ TellsUndatedOf reading file line
+
+-- a line gives the reason why a file isn't read as a week, with given capacities
+abbrev pub TellsNoWeekIn : List Capacity → Option ℕ → WeekReading → List ℕ → List ℕ → Type 0
+TellsNoWeekIn given today reading file line = TellsNoText reading file line
+    ⊎ ((text : List ℕ) × IsRead reading file text × TellsNoWeek given today text line)

@@ -1,4 +1,4 @@
--- Files that mean the same week.
+-- Files that are read as the same table and week, or as others.
 use Rattle.std.specs.Prelude.{◌≡◌, ℕ, List, Option, map}
 use Rattle.plan_documents.specs.declared.capacities.Capacity.{Capacity}
 use Rattle.plan_week.specs.declared.week.Week.{Week}
@@ -27,8 +27,7 @@ abbrev pub MeansList : List Capacity → Option ℕ → WeekReading → List ℕ
 MeansList given today reading made listed =
     (other : ListedWeek) × IsWeekIn given today reading made other × IsSameList listed other
 
--- two files are read as the same table and week
-abbrev pub SameWeek : List Capacity → Option ℕ → WeekReading → List ℕ → List ℕ → Type 0
-SameWeek given today reading file made =
-    (listed : ListedWeek) × IsWeekIn given today reading file listed
-    × MeansList given today reading made listed
+-- a file is read as another table or week than those of a list
+abbrev pub IsAnotherWeek : List Capacity → Option ℕ → WeekReading → List ℕ → ListedWeek → Type 0
+IsAnotherWeek given today reading made listed = (other : ListedWeek)
+    × IsWeekIn given today reading made other × (IsSameList listed other → ⊥)

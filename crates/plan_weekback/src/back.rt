@@ -2,14 +2,14 @@
 
 ghost use Rattle.std.specs.Prelude.{◌≡◌, map, IfErr, IfOk, OnOk};
 ghost use Rattle.plan_errors.specs.Output.{Refuses};
-ghost use Rattle.plan_weekback.specs.Columns.{IsBack};
+ghost use Rattle.plan_weekback.specs.Columns.{IsBack, IsNoBack};
 ghost use Rattle.plan_weekback.specs.Entries.{entry_of};
 ghost use Rattle.plan_weekback.specs.Outputs as spec;
 ghost use Rattle.plan_weekback.specs.Sameness.{MeansList};
 
 use crate::columns::with_plan;
 use crate::entries::Entry;
-use crate::faults::{back_refusal, changed_refusal, unread_refusal};
+use crate::faults::{back_refusal, change_refusal, changed_refusal};
 use crate::readings::{WeekReading, week_in};
 use crate::sameness::same_list;
 use plan_encoding::utf8_text;
@@ -22,14 +22,16 @@ use plan_weeklist::ListedWeek;
 use std::alloc::Global;
 
 // Returns the list of a file with the columns of a plan.
-#[tactic(auto, using(crate::proofs::BackLemmas::back))]
+#[tactic(auto, using(crate::proofs::BackLemmas::back, crate::proofs::BackLemmas::no_rows, crate::proofs::BackLemmas::no_back))]
 fn with_texts(
     alloc: Global,
     late: bool,
     entries: &[Entry],
     file: &[u8],
 ) -> Result<Vec<u8>, ListBackFault>
-    ensures { IfOk result (λ made. IsBack late (map entry_of entries.now) file.now made.items) }
+    ensures back { IfOk result (λ made.
+        IsBack late (map entry_of entries.now) file.now made.items) }
+    ensures refused { IfErr result (IsNoBack late (map entry_of entries.now) file.now) }
 {
     let decoded = utf8_text(alloc, file)?;
     let text = decoded.utf8(file);
@@ -44,7 +46,8 @@ fn with_texts(
 }
 
 /// Returns the list of a file with the columns of a plan, each row in its line. Errors: `T1` (too
-/// long), `T4` (a cell can't be written), `T3`.
+/// long), `T4` (its text isn't read as its rows), `T3`.
+#[tactic(auto, using(crate::proofs::BackLemmas::back_told))]
 pub fn list_with(
     alloc: Global,
     late: bool,
@@ -53,7 +56,8 @@ pub fn list_with(
 ) -> Result<Vec<u8>, CliFault>
     ensures back { IfOk result (λ made.
         IsBack late (map entry_of entries.now) file.now made.items) }
-    ensures refused { IfErr result (Refuses spec.TellsNoBack) }
+    ensures refused { IfErr result
+        (Refuses (spec.TellsNoBack late (map entry_of entries.now) file.now)) }
 {
     match with_texts(alloc, late, entries, file) {
         Ok(made) => Ok(made),
@@ -61,9 +65,9 @@ pub fn list_with(
     }
 }
 
-/// Checks that a file is read as the table and the week of another list. Errors: `T4` (it isn't),
-/// `T1`.
-#[tactic(auto, using(crate::proofs::BackLemmas::means))]
+/// Checks that a file is read as the table and the week of another list. Errors: `T1` (its reading
+/// says that a text is too long), `T4` (it isn't read so).
+#[tactic(auto, using(crate::proofs::BackLemmas::means, crate::proofs::BackLemmas::another_told, crate::proofs::BackLemmas::unread_told))]
 pub fn check_same(
     alloc: Global,
     order: &WeekOrder<'_>,
@@ -73,7 +77,8 @@ pub fn check_same(
 ) -> Result<(), CliFault>
     ensures same { OnOk result (MeansList order.now.capacities.now order.now.today reading.now
         made.now listed.now) }
-    ensures refused { IfErr result (Refuses spec.TellsNoBack) }
+    ensures refused { IfErr result
+        (Refuses (spec.TellsAnother order.now reading.now listed.now made.now)) }
 {
     match week_in(alloc, order, reading, made) {
         Ok(other) => {
@@ -83,6 +88,10 @@ pub fn check_same(
                 Err(changed_refusal(alloc))
             }
         }
-        Err(fault) => Err(unread_refusal(alloc, &fault)),
+        Err(CliFault::Refused(refusal)) => {
+            let why = refusal.line(alloc)?;
+            Err(change_refusal(alloc, why.as_bytes()))
+        }
+        Err(CliFault::Memory | CliFault::Input(_) | CliFault::Output) => Err(CliFault::Memory),
     }
 }

@@ -5,13 +5,16 @@ ghost use Rattle.plan_table.specs.Csv.{row_of};
 ghost use Rattle.plan_weekback.specs.Columns as spec;
 ghost use Rattle.plan_weekback.specs.Entries.{entry_of};
 
+use plan_list_back::has_id;
 use plan_table::Row;
 
 /// The start, the finish and the tardiness of an activity in a plan, as texts. Its row begins in a
-/// line. Lines are numbered from 1.
+/// line and has a cell with its id. Lines are numbered from 1. Without a column of ids the id is
+/// empty.
 #[derive(Drop)]
 pub struct Entry {
     pub line: u64,
+    pub id: String,
     pub start: String,
     pub finish: String,
     pub late: String,
@@ -51,10 +54,10 @@ fn text_in(field: Field, texts: &Entry) -> &[u8]
 fn is_of(row: &Row, texts: &Entry) -> bool
     ensures { result ≡ spec.is_of (row_of row.now) (entry_of texts.now) }
 {
-    texts.line == row.line
+    texts.line == row.line && has_id(texts.id.as_bytes(), &row.cells)
 }
 
-/// Returns the text of a column for a row: that of the first activity in its line, or an empty one.
+/// Returns the text of a column for a row: that of its first activity, or an empty one.
 pub fn text_for<'a>(field: Field, entries: &'a [Entry], row: &Row) -> &'a [u8]
     ensures { result.now ≡ spec.text_for field (map entry_of entries.now) (row_of row.now) }
 {

@@ -1,6 +1,7 @@
 //! The errors of a list that can't have the columns of a plan.
 
 ghost use Rattle.plan_errors.specs.Output.{Refuses};
+ghost use Rattle.plan_list_back.specs.declared.fault.ListBackFault.TheVariants as faults;
 ghost use Rattle.plan_weekback.specs.Outputs as spec;
 
 use plan_errors::{About, CliFault, Code, refuse_words};
@@ -9,21 +10,21 @@ use std::alloc::Global;
 
 // Returns the error of a file that is no list of activities.
 fn no_list_refusal(alloc: Global) -> CliFault
-    ensures { Refuses spec.TellsNoBack result }
+    ensures { Refuses (spec.TellsBack faults.NoList) result }
 {
     refuse_words(alloc, Code::NoDurations, About::List, "no column duration")
 }
 
 // Returns the error of a list that is too long with the columns.
 fn long_refusal(alloc: Global) -> CliFault
-    ensures { Refuses spec.TellsNoBack result }
+    ensures { Refuses (spec.TellsBack faults.TooLong) result }
 {
     refuse_words(alloc, Code::LongTable, About::List, "too long")
 }
 
 /// Returns the error of a list that means something else with the columns.
 pub fn changed_refusal(alloc: Global) -> CliFault
-    ensures { Refuses spec.TellsNoBack result }
+    ensures { Refuses (spec.TellsBack faults.Changed) result }
 {
     let words = "column start, finish or late twice";
     refuse_words(alloc, Code::ColumnTwice, About::List, words)
@@ -31,7 +32,7 @@ pub fn changed_refusal(alloc: Global) -> CliFault
 
 /// Returns the error of a list that isn't given back.
 pub fn back_refusal(alloc: Global, fault: ListBackFault) -> CliFault
-    ensures { Refuses spec.TellsNoBack result }
+    ensures { Refuses (spec.TellsBack fault) result }
 {
     match fault {
         ListBackFault::Memory => CliFault::Memory,
@@ -41,13 +42,15 @@ pub fn back_refusal(alloc: Global, fault: ListBackFault) -> CliFault
     }
 }
 
-/// Returns the error of a list that can't be read with the columns, for this reason.
-pub fn unread_refusal(alloc: Global, fault: &CliFault) -> CliFault
-    ensures { Refuses spec.TellsNoBack result }
+/// Returns the error of a list that can't be read with the columns. `why` is the line of the error of
+/// its reading.
+#[tactic(auto, using(crate::proofs::BackLemmas::long_change, crate::proofs::BackLemmas::meaning_change))]
+pub fn change_refusal(alloc: Global, why: &[u8]) -> CliFault
+    ensures { Refuses (spec.TellsChange why.now) result }
 {
-    match fault.code() {
-        Code::NoMemory => CliFault::Memory,
-        Code::LongTable => long_refusal(alloc),
-        _ => changed_refusal(alloc),
+    if why == b"T1 too long".as_slice() {
+        long_refusal(alloc)
+    } else {
+        changed_refusal(alloc)
     }
 }

@@ -61,7 +61,7 @@ fn texts_of(
 
 // Returns the list of a file with the columns of a plan of its week. `text` is read in place of the
 // file.
-#[tactic(auto, using(crate::proofs::OutputLemmas::texts_untold, crate::proofs::OutputLemmas::columns_untold, crate::proofs::OutputLemmas::plan_shown))]
+#[tactic(auto, using(crate::proofs::OutputLemmas::texts_untold, crate::proofs::OutputLemmas::columns_untold, crate::proofs::OutputLemmas::meaning_untold, crate::proofs::OutputLemmas::plan_shown))]
 fn list_for(
     alloc: Global,
     order: &WeekOrder<'_>,
@@ -76,8 +76,8 @@ fn list_for(
         order.now.today text.now listed.now plan.now file.now made.items) }
     ensures same { IfOk result (λ made. MeansList order.now.capacities.now order.now.today
         reading.now made.items listed.now) }
-    ensures refused { IfErr result (Refuses (spec.TellsNoList (days_in calendar.entry)
-        order.now.today text.now listed.now plan.now)) }
+    ensures refused { IfErr result (Refuses (spec.TellsNoList order.now reading.now
+        (days_in calendar.entry) text.now listed.now plan.now file.now)) }
 {
     let entries = texts_of(alloc, order.today, calendar, listed, plan, text)?;
     let made = list_with(alloc, plan.lateness.is_some(), &entries, file)?;
@@ -91,7 +91,7 @@ fn list_for(
 /// The file is read with `reading`. The list that is returned means the same: read again, it gives
 /// the same table and the same week. The watcher is called during the searches, and can end them.
 /// Errors: those of [`week_text`] and [`plan_weekfile::week_output`], `G3` (a day after
-/// 9999-12-31), `T1` and `T4` (a list that can't have the columns).
+/// 9999-12-31), `T1` and `T4` (a list that can't have the columns), `T3` (no rows).
 #[tactic(auto, using(crate::proofs::OutputLemmas::text_refused, crate::proofs::OutputLemmas::week_refused, crate::proofs::OutputLemmas::plan_refused, crate::proofs::OutputLemmas::list_refused, crate::proofs::OutputLemmas::list_shown))]
 pub fn week_back_output<W: Watcher>(
     alloc: Global,

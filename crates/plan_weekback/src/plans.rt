@@ -1,6 +1,7 @@
 //! The texts of a plan for all activities of a week.
 
-ghost use Rattle.std.specs.Prelude.{◌≡◌, ◌++◌, ◌∷◌, [], map, slice_index, IfOk, IsErrOf, OnOk};
+ghost use Rattle.std.specs.Prelude.{◌≡◌, ◌++◌, ◌∷◌, [], map, slice_index, string_bytes};
+ghost use Rattle.std.specs.Prelude.{IfOk, IsErrOf, OnOk};
 ghost use Rattle.std.specs.List.{find, slice_get};
 ghost use Rattle.plan_table.specs.Table.{activity_of};
 ghost use Rattle.plan_weekback.specs.Entries as spec;
@@ -98,6 +99,17 @@ fn known_or(begin: Option<u32>, in_row: Option<u32>) -> Option<u32>
     }
 }
 
+// Returns the id of an activity, no text in a list without ids.
+fn id_of(alloc: Global, own: bool, activity: &Activity) -> Result<String, AllocError>
+    ensures { IfOk result (λ id. string_bytes id ≡ spec.id_if own (activity_of activity.now).id) }
+{
+    if own {
+        activity.id.as_str().to_string(alloc)
+    } else {
+        Ok(String::new(alloc))
+    }
+}
+
 // Returns the texts of activity `k`.
 fn entry_for(
     alloc: Global,
@@ -119,11 +131,13 @@ fn entry_for(
     let begin = begin_of(state_of(week, k), at(starts, k));
     let known = known_or(begin, began_of(own, rows, k, activity.id.as_bytes()));
     let ends = end_of(week, starts, k);
+    let id = id_of(alloc, own, activity)?;
     let start = start_text(alloc, calendar, known, ends)?;
     let finish = finish_text(alloc, calendar, begin, ends)?;
     let late = tardiness_of(week, starts, k).to_string(alloc)?;
     Ok(Entry {
         line: activity.line,
+        id,
         start,
         finish,
         late,

@@ -77,15 +77,17 @@ pub fn week_text(
 }
 
 /// Returns the table and the week that a file is read as.
-#[tactic(auto, using(crate::proofs::ReadingLemmas::week_read))]
+#[tactic(auto, using(crate::proofs::ReadingLemmas::week_read, crate::proofs::ReadingLemmas::text_unread, crate::proofs::ReadingLemmas::week_unread))]
 pub(crate) fn week_in(
     alloc: Global,
     order: &WeekOrder<'_>,
     reading: &WeekReading<'_>,
     file: &[u8],
 ) -> Result<ListedWeek, CliFault>
-    ensures { IfOk result (spec.IsWeekIn order.now.capacities.now order.now.today reading.now
-        file.now) }
+    ensures week { IfOk result (spec.IsWeekIn order.now.capacities.now order.now.today
+        reading.now file.now) }
+    ensures refused { IfErr result (Refuses (spec.TellsNoWeekIn order.now.capacities.now
+        order.now.today reading.now file.now)) }
 {
     let read = week_text(alloc, reading, file)?;
     let listed = listed_week(alloc, order.capacities, order.today, read.text(file))?;

@@ -44,11 +44,12 @@ has_dates columns k =
     || is_place columns.remaining k || is_place columns.done k || is_place columns.due k
     || is_place columns.late k
 
--- no column has dates; a column of the tardiness alone makes no list with dates
+-- no column has dates or such a tardiness
 abbrev pub is_undated : Columns → Bool
 is_undated columns =
     is_none columns.earliest && is_none columns.fixed && is_none columns.begun
     && is_none columns.remaining && is_none columns.done && is_none columns.due
+    && is_none columns.late
 
 -- a row with the id `absence`, in any case
 abbrev pub is_absence : Option ℕ → Row → Bool

@@ -98,7 +98,7 @@ pub fn has_dates(columns: &Columns, k: usize) -> bool
         || is_place(columns.late, k)
 }
 
-/// Whether no column has dates. A column of the tardiness alone makes no list with dates.
+/// Whether no column has dates or such a tardiness.
 pub fn is_undated(columns: &Columns) -> bool
     ensures { result ≡ spec.is_undated columns.now }
 {
@@ -108,6 +108,7 @@ pub fn is_undated(columns: &Columns) -> bool
         && columns.remaining.is_none()
         && columns.done.is_none()
         && columns.due.is_none()
+        && columns.late.is_none()
 }
 
 /// Whether a row is an absence.
