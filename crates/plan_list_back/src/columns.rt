@@ -116,7 +116,7 @@ pub fn header_with(alloc: Global, word: &[u8], row: &Row) -> Result<Row, AllocEr
     })
 }
 
-// Where the column of a field is under a header.
+// Returns the place of the column of a field under a header.
 fn place_of(field: Field, first: &Row) -> usize
     ensures { result ≡ spec.place_of field (row_of first.now) }
 {
