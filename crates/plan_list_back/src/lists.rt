@@ -44,7 +44,6 @@ fn changed(fault: ListBackFault) -> ListBackFault {
 
 /// Returns the text of rows, each in its line. It has the separator of `text`, which is the text of
 /// the file in UTF-8, and begins with a byte-order mark if `bytes` do, which are those of the file.
-#[tactic(auto, using(crate::proofs::ListBackLemmas::unwritten))]
 pub fn spelled_rows(
     alloc: Global,
     bytes: &[u8],

@@ -92,6 +92,6 @@ pub fn check_same(
             let why = refusal.line(alloc)?;
             Err(change_refusal(alloc, why.as_bytes()))
         }
-        Err(CliFault::Memory | CliFault::Input(_) | CliFault::Output) => Err(CliFault::Memory),
+        Err(_) => Err(CliFault::Memory),
     }
 }
