@@ -90,7 +90,7 @@ pub fn check_same(
         }
         Err(CliFault::Refused(refusal)) => {
             let why = refusal.line(alloc)?;
-            Err(change_refusal(alloc, why.as_bytes()))
+            Err(change_refusal(alloc, why.as_str()))
         }
         Err(_) => Err(CliFault::Memory),
     }

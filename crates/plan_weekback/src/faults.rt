@@ -1,5 +1,6 @@
 //! The errors of a list that can't have the columns of a plan.
 
+ghost use Rattle.std.specs.Prelude.{◌≡◌, bytes_eq, codes};
 ghost use Rattle.plan_errors.specs.Output.{Refuses};
 ghost use Rattle.plan_list_back.specs.declared.fault.ListBackFault.TheVariants as faults;
 ghost use Rattle.plan_weekback.specs.Outputs as spec;
@@ -42,13 +43,20 @@ pub fn back_refusal(alloc: Global, fault: ListBackFault) -> CliFault
     }
 }
 
+// Whether the line of an error says that a text is too long.
+fn is_long(why: &str) -> bool
+    ensures { result ≡ bytes_eq why.now (codes "T1 too long") }
+{
+    why == "T1 too long"
+}
+
 /// Returns the error of a list that can't be read with the columns. `why` is the line of the error of
 /// its reading.
 #[tactic(auto, using(crate::proofs::BackLemmas::long_change, crate::proofs::BackLemmas::meaning_change))]
-pub fn change_refusal(alloc: Global, why: &[u8]) -> CliFault
+pub fn change_refusal(alloc: Global, why: &str) -> CliFault
     ensures { Refuses (spec.TellsChange why.now) result }
 {
-    if why == b"T1 too long".as_slice() {
+    if is_long(why) {
         long_refusal(alloc)
     } else {
         changed_refusal(alloc)
