@@ -193,12 +193,7 @@ fn push_feeds(text: &mut Vec<u8>, count: u64) -> Result<(), AllocError>
 }
 
 // Appends a row, in its line.
-fn push_row(
-    text: &mut Vec<u8>,
-    separator: u8,
-    before: &Row,
-    row: &Row,
-) -> Result<(), AllocError>
+fn push_row(text: &mut Vec<u8>, separator: u8, before: &Row, row: &Row) -> Result<(), AllocError>
     ensures { OnOk result (text.new.items ≡ spec.with_row separator text.old.items
         (row_of before.now) (row_of row.now)) }
 {
