@@ -1,6 +1,6 @@
 //! The errors of the commands on offices, and their hints.
 
-use plan_copies::CopyFault;
+use plan_backups::CopyFault;
 use plan_errors::{About, Code, code_hint, masked};
 use plan_orders::OfficeOrder;
 use plan_program::{Status, has_hints, print_hint};

@@ -1,7 +1,7 @@
 //! The commands on offices in files.
 
 use crate::office_errors::{print_office_error, print_version_hint};
-use plan_copies::{
+use plan_backups::{
     CopyFault, backup_on_files, check_on_file, check_orphans, has_log, memory_line,
     remove_stray_log, restore_on_files, scratch_fault, scratch_folder, settle_on_file,
 };

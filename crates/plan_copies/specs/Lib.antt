@@ -2,5 +2,4 @@ pub mod Bytes
 pub mod Stable
 pub mod Checks
 pub mod Settling
-pub mod Memory
 pub mod Choice

@@ -1,4 +1,4 @@
-//! `plan settle`: copies the log of an office into its database.
+//! The copy of the log of an office into its database.
 
 ghost use Rattle.std.specs.Prelude.{◌≡◌, ◌⊎◌, ◌+◌, ◌≤◌, Some, Result, OnOk, IfErr};
 ghost use Rattle.plan_io.specs.Devices.{most_calls};
@@ -8,11 +8,10 @@ ghost use Rattle.plan_serve.specs.Reports.{IsReportFault};
 ghost use Rattle.plan_serve.specs.Results.{ChecksAtName};
 ghost use Rattle.plan_copies.specs.Settling.{IsSettled, AreClosed};
 
-use crate::lines::{CopyFault, office_fault, store_fault};
-use plan_io::{MemSink, Sink, write_whole};
+use plan_io::Sink;
 use plan_serve::{ClosedFiles, ResultAndFiles, ServeFault, check_office_from};
-use sqlite::{Error, ErrorCode, Start, Unknown};
-use std::fs::{self, Metadata};
+use sqlite::{Error, ErrorCode, Start};
+use std::fs::Metadata;
 use std::io;
 
 // Returns the result of settling from that of the check and the closed files.
@@ -52,27 +51,4 @@ pub fn settle_from<F: Start, W: Sink>(
 {
     let (done, files) = check_office_from(rt, path, looked, start, writer);
     (settled(done, &files), files)
-}
-
-/// `plan settle`: copies the log of the office in the file of this name into its database, and
-/// writes the number of rows in each table and a digest of the rows.
-pub fn settle_on_file<W: Sink>(
-    rt: &HostRuntime,
-    path: &str,
-    writer: &mut W,
-) -> Result<(), CopyFault> {
-    let mut text = MemSink::new(Vec::new(rt.alloc()));
-    let looked = fs::metadata(rt, path);
-    let (done, files) = settle_from(rt, path, looked, Unknown, &mut text);
-    match (done, files) {
-        (Ok(()), _) => {}
-        (Err(ServeFault::Store), Some(Err(_))) => {
-            let rest = " can't be copied into it; make room on its disk";
-            return Err(store_fault(rt.alloc(), "the log of ", path, rest));
-        }
-        // The text is in memory.
-        (Err(ServeFault::Output), _) => return Err(CopyFault::Office(ServeFault::Memory)),
-        (Err(fault), _) => return Err(office_fault(rt.alloc(), fault, path)),
-    }
-    write_whole(writer, &text.into_bytes()).map_err(|_| CopyFault::Office(ServeFault::Output))
 }

@@ -1,0 +1,2 @@
+pub mod Memory
+pub use Rattle.plan_copies.specs.Checks

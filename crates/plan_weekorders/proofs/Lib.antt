@@ -1,0 +1,3 @@
+pub mod RowLemmas
+pub mod ListLemmas
+pub mod PredecessorLemmas

@@ -1,0 +1,8 @@
+use Rattle.std.proofs.Common.{◌≡◌, ◌++◌, map, take}
+use Rattle.plan_weekorders.proofs.activities.push_names.Given as goal
+
+-- the names of the machines so far
+abbrev pub invariant-loop-name : goal.invariant-loop-name
+invariant-loop-name l =
+    map (λ cell. cell.items) l.cells.items
+    ≡ map (λ cell. cell.items) l.fn.cells.items ++ map (λ name. name.items) (take l.name-index l.machines)

@@ -1,0 +1,7 @@
+use Rattle.plan_weekplain.proofs.ScheduleLemmas.{verdict_told}
+use Rattle.plan_weekplain.proofs.schedules.infeasible.Goals as goal
+
+pub returns : goal.returns
+returns c =
+    verdict_told c.args.project.now c.args.starts.now c.args.verdict c.infeasible_refusal.result c.requires
+    c.infeasible_refusal.ensures.told
