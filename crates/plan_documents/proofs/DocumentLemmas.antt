@@ -48,7 +48,7 @@ no_document_line (subject.Project given) file IsLine line (inl first) = inl firs
 no_document_line (subject.Project given) file IsLine line (inr (p, says, unknown)) = inr (p, says, inl unknown)
 no_document_line (subject.Shop instance) file IsLine line first = inl first
 
--- what refuses a document refuses all texts for its file
+-- an error of a document refuses all texts for its file
 pub no_document : (s : Subject) (file : List ℕ) (IsLine : Plan → List ℕ → Type 0) (e : CliFault)
     → Refuses (TellsNoDocument s file) e → Refuses (RefusesSubject s IsLine file) e
 no_document s file IsLine e t =
@@ -74,7 +74,7 @@ refused_line (subject.Project given) file (document.Shop doc) IsLine line is fit
 refused_line (subject.Shop instance) file (document.Project p capacities) IsLine line is fit tells = absurd is
 refused_line (subject.Shop instance) file (document.Shop doc) IsLine line is fit tells = inr (doc, is, tells)
 
--- what refuses the plan of a document refuses the text for its file
+-- an error of the plan of a document refuses the text for its file
 pub no_text : (s : Subject) (file : List ℕ) (d : Document) (p : Plan) (IsLine : Plan → List ℕ → Type 0) (e : CliFault)
     → IsDocumentOf s file d → p ≡ plan_in d (ids_in file) → HasFit p → Refuses (IsLine p) e → Refuses (RefusesSubject s IsLine file) e
 no_text s file d p IsLine e is same fit t =

@@ -46,7 +46,7 @@ pub kind_refused : (of : Subject) (file list : List ℕ) (kind : Option ListKind
 kind_refused of file list kind e is is_kind told =
     refuses_as (RefusesKind kind of list) (RefusesReading of file) e (λ line tells. inr (list, is, (kind, is_kind, tells))) told
 
--- what is read of the plain list of a file is what a command reads in the file
+-- a command on a file reads the plain list of the file
 pub read_is : (of : Subject) (file list : List ℕ) (kind : Option ListKind) (s : Subject) (made : Option (String Global))
     → IsListOf [] file list → IsKind list kind → IsMadeBy kind of list s made → IsReadAs of file kind s (text_of made file)
 read_is of file list None s None is is_kind same = record { list = list; list_is = is; kind_is = is_kind; read = (same, refl) }

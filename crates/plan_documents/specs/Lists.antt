@@ -107,7 +107,7 @@ abbrev pub text_of : Option (String Global) → List ℕ → List ℕ
 text_of None file = file
 text_of (Some made) file = string_bytes made
 
--- what a command reads of a list of a kind: the subject, and the file that was made of the list
+-- the input of a command on a list of a kind: its subject, and the file made of the list
 abbrev pub IsMadeBy : Option ListKind → Subject → List ℕ → Subject → Option (String Global) → Type 0
 IsMadeBy None of list s None = s ≡ of
 IsMadeBy (Some kind) of list s (Some made) =

@@ -135,8 +135,8 @@ fn subject_on<'a>(
     }
 }
 
-// Returns the subject of a command on a list of a kind, and the file that `plan import` makes of the
-// list.
+// Returns the subject of a command on a list of a kind, and the file that `plan import` makes of
+// the list.
 #[tactic(auto, using(crate::proofs::ListLemmas::list_refused, crate::proofs::ListLemmas::subject_refused))]
 fn made_list<'a>(
     alloc: Global,

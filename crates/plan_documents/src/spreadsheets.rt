@@ -73,8 +73,8 @@ fn book_refusal(alloc: Global, book: Workbook) -> CliFault
     }
 }
 
-/// Returns the plain list of a file that is longer than the longest text: the file itself, unless it
-/// begins like a workbook.
+/// Returns the plain list of a file that is longer than the longest text: the file itself, unless
+/// it begins like a workbook.
 #[tactic(auto, using(crate::proofs::SpreadsheetLemmas::book_told))]
 pub fn long_list(alloc: Global, file: &[u8]) -> Result<PlainList, CliFault>
     requires { longest_text < length file.now }

@@ -100,7 +100,7 @@ header_with word row = record { line = row.line; cells = header_cells word (plac
 abbrev pub row_with : Field → List Times → ℕ → Row → Row
 row_with field times k row = record { line = row.line; cells = put k (text_for field times row) row.cells }
 
--- where the column of a field is in the rows under a header, once the header has it
+-- the place of the column of a field in the rows under a header, once the header has it
 abbrev pub place_of : Field → Row → ℕ
 place_of field first = place_or (length first.cells) (place_in (word_of field) first.cells)
 

@@ -9,7 +9,7 @@ use plan_psplib::trim;
 use plan_table::{Row, same_name};
 use std::alloc::{AllocError, Global};
 
-/// Returns where the first column with a header is.
+/// Returns the place of the first column with a header.
 #[tactic(auto, unfolding(crate::specs::ListBack::place_from))]
 pub fn place_in(word: &[u8], cells: &[Vec<u8>]) -> Option<usize>
     ensures { result ≡ spec.place_in word.now (map (λ cell. cell.items) cells.now) }
@@ -116,7 +116,7 @@ pub fn header_with(alloc: Global, word: &[u8], row: &Row) -> Result<Row, AllocEr
     })
 }
 
-// Where the column of a field is under a header.
+// Returns the place of the column of a field under a header.
 fn place_of(field: Field, first: &Row) -> usize
     ensures { result ≡ spec.place_of field (row_of first.now) }
 {

@@ -77,7 +77,8 @@ fn with_texts(alloc: Global, bytes: &[u8], times: &[Times<'_>]) -> Result<Vec<u8
 ///
 /// The texts of a row are those of the first times for its line; without times they are empty. A
 /// column that the list has already gets new texts, and the others follow the last header. The
-/// text is in UTF-8 with the separator of the list. The file is read with `options` and `overrides`.
+/// text is in UTF-8 with the separator of the list. The file is read with `options` and
+/// `overrides`.
 #[tactic(auto, using(crate::proofs::ListBackLemmas::same))]
 pub fn list_back(
     alloc: Global,

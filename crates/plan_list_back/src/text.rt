@@ -3,7 +3,7 @@
 use plan_table::Row;
 use std::alloc::{AllocError, Global};
 
-// What a line contains.
+// The marks that a line contains.
 #[derive(Clone, Copy)]
 struct Marks {
     tab: bool,
@@ -20,7 +20,7 @@ fn no_marks() -> Marks {
     }
 }
 
-// What a line contains with one more byte.
+// Returns the marks of a line with one more byte.
 fn with_byte(marks: Marks, byte: u8) -> Marks {
     Marks {
         tab: marks.tab || byte == b'\t',
@@ -39,7 +39,7 @@ fn without_mark(text: &[u8]) -> &[u8] {
     }
 }
 
-// What the first line with content contains.
+// Returns the marks of the first line with content.
 fn header_marks(text: &[u8]) -> Marks {
     let mut marks = no_marks();
     for &byte in without_mark(text) {

@@ -63,7 +63,7 @@ no_rows o bytes text d rows all e has is read full (inl memory) = inl memory
 no_rows o bytes text d rows all e has is read full (inr none) =
     inr (subst (λ r. IsNoneBy o r e) (sym read ∙ ap rows_read (has ∙ is)) (subst (λ xs. IsNoneOf o xs e) full none))
 
--- what becomes of a file
+-- the list that a file becomes, or its error
 pub untouched_list : (o : Options) (overrides : List Override) (bytes : List ℕ) (list : OptionedList) (is : Bool)
     → Decides is (IsUntouched o bytes) → is ≡ true → list ≡ staying → IsOptioned o overrides bytes list
 untouched_list o overrides bytes list is given h stays = inl (decided_yes is (IsUntouched o bytes) given h, stays)

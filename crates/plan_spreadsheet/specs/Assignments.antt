@@ -29,11 +29,11 @@ parts_from before part (byte ∷ bytes) =
 abbrev pub parts : List ℕ → List (List ℕ)
 parts cell = parts_from [] [] cell
 
--- where the first bracket of a part is
+-- the place of the first bracket of a part
 abbrev pub bracket : List ℕ → Option ℕ
 bracket part = position (λ byte. byte == 91) part
 
--- what stands behind a bracket, without the last byte
+-- the bytes behind a bracket, without the last one
 abbrev pub inside : ℕ → List ℕ → List ℕ
 inside k part = drop (k + 1) (take (length part - 1) part)
 
@@ -58,7 +58,7 @@ amount_at (Some k) part = if has_amount k part then inside k part else codes "1"
 abbrev pub name_of : List ℕ → List ℕ
 name_of part = name_at (bracket part) part
 
--- how much of it: 1 without brackets
+-- the amount of the resource in a part: 1 without brackets
 abbrev pub amount_of : List ℕ → List ℕ
 amount_of part = amount_at (bracket part) part
 

@@ -31,7 +31,7 @@ is_outline body k head =
 abbrev pub with_outline : Body → List ℕ → ℕ → Head → List ℕ
 with_outline body before k head = if is_outline body k head then before ++ k ∷ [] else before
 
--- which of the columns from column k on tell how deep the rows are, behind others
+-- the columns from column k on that give the depth of the rows, appended to the earlier ones
 unfoldable pub outlines_from : Body → List ℕ → ℕ → List Head → List ℕ
 outlines_from body before k [] = before
 outlines_from body before k (head ∷ heads) =
@@ -53,18 +53,18 @@ outline_from body k (head ∷ heads) =
     if is_outline body k head then Some (record { place = k; levels = is_level_word head.key })
     else outline_from body (k + 1) heads
 
--- how many parts an outline number has
+-- the number of dots in an outline number
 abbrev pub parts_of : List ℕ → Option ℕ
 parts_of cell = if length cell == 0 then None else Some (count_by (λ byte. byte == 46) cell)
 
--- how deep a row is by its cell
+-- the depth of a row by its cell
 abbrev pub depth_in : Bool → List ℕ → Option ℕ
 depth_in levels cell = if levels then number cell else parts_of cell
 
 abbrev pub depth : Outline → Row → Option ℕ
 depth o row = depth_in o.levels (cell_of o.place row)
 
--- how deep the next row is
+-- the depth of the next row
 abbrev pub next_depth : Outline → List Row → Option ℕ
 next_depth o [] = None
 next_depth o (row ∷ rows) = depth o row

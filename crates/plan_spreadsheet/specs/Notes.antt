@@ -43,7 +43,7 @@ is_note body k head =
 abbrev pub with_note : Body → List ℕ → ℕ → Head → List ℕ
 with_note body before k head = if is_note body k head then before ++ k ∷ [] else before
 
--- which of the columns from column k on are notes, behind others
+-- the columns from column k on that are notes, appended to the earlier ones
 unfoldable pub notes_from : Body → List ℕ → ℕ → List Head → List ℕ
 notes_from body before k [] = before
 notes_from body before k (head ∷ heads) =

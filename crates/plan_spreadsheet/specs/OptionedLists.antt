@@ -1,4 +1,4 @@
--- What a file becomes with options, before it becomes a plain list.
+-- The list that a file becomes with options, before it becomes a plain list.
 use Rattle.std.specs.Prelude.{◌≡◌, ◌⊎◌, ℕ, List, Option, Some, None, Result, Ok, Err, Vec}
 use Rattle.std.specs.declared.alloc.Global.{Global}
 use Rattle.std.specs.Option.{option_map_or}
@@ -36,7 +36,7 @@ abbrev pub IsOptionedBy : Options → List Override → List ℕ → Result (Lis
 IsOptionedBy o overrides bytes (Err fault) list = list ≡ staying
 IsOptionedBy o overrides bytes (Ok rows) list = IsOptionedOf o overrides (encoding bytes) (filled rows) list
 
--- what a file becomes
+-- the list that a file becomes with options
 abbrev pub IsOptioned : Options → List Override → List ℕ → OptionedList → Type 0
 IsOptioned o overrides bytes list =
     (IsUntouched o bytes × (list ≡ staying))
@@ -50,7 +50,7 @@ abbrev pub IsNoneBy : Options → Result (List Row) Fault → OptionsFault → T
 IsNoneBy o (Err read) fault = ⊥
 IsNoneBy o (Ok rows) fault = IsNoneOf o (filled rows) fault
 
--- what a file is refused for; out of memory may come at any time
+-- the errors for which a file is refused; running out of memory is always possible
 abbrev pub IsNotOptioned : Options → List ℕ → OptionsFault → Type 0
 IsNotOptioned o bytes fault =
     (fault ≡ refusal.Plain faults.Memory)

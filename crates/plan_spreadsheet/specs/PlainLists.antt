@@ -52,7 +52,7 @@ IsRewritten overrides text (Ok rows) r =
     Spells (text_in r text) (plain_rows overrides rows)
     × (map string_bytes r.ignored.items ≡ ignored_headers overrides rows)
 
--- what becomes of a list in UTF-8: only refused activities are rewritten
+-- the result for a list in UTF-8: only refused activities are rewritten
 abbrev pub IsPlainText : List Override → List ℕ → rewriting.Rewriting → Type 0
 IsPlainText overrides text r =
     ((IsRefused overrides text → ⊥) × IsNone r.text × (r.ignored.items ≡ []))
@@ -75,7 +75,7 @@ abbrev pub IsTextOf : ListKind → List Override → List ℕ → rewriting.Rewr
 IsTextOf kinds.Orders overrides text r = IsNone r.text × (r.ignored.items ≡ [])
 IsTextOf kinds.Activities overrides text r = IsPlainText overrides text r
 
--- what a file becomes whose text in UTF-8 is a list of a kind, or no list
+-- the plain list of a file whose text in UTF-8 is a list of a kind, or no list
 abbrev pub BecomesBy : Option ListKind → List Override → List ℕ → declared.PlainList → Type 0
 BecomesBy None overrides bytes p = Stays p
 BecomesBy (Some kind) overrides bytes p =
@@ -83,12 +83,12 @@ BecomesBy (Some kind) overrides bytes p =
     × ((r : rewriting.Rewriting) × IsTextOf kind overrides (utf8_of bytes) r
     × (text_of p bytes ≡ text_in r (utf8_of bytes)) × (p.ignored ≡ r.ignored))
 
--- what a file becomes that is decoded
+-- the plain list of a file that is decoded
 abbrev pub IsDecoded : List Override → List ℕ → declared.PlainList → Type 0
 IsDecoded overrides bytes p =
     (kind : Option ListKind) × IsKind (utf8_of bytes) kind × BecomesBy kind overrides bytes p
 
--- what a file becomes: one that can be read stays, and another one that is no workbook is decoded
+-- the plain list of a file: a readable file stays, and another one that is no workbook is decoded
 abbrev pub IsPlain : List Override → List ℕ → declared.PlainList → Type 0
 IsPlain overrides bytes p =
     (IsReadable overrides bytes × Stays p)
@@ -131,7 +131,7 @@ IsNoText overrides text fault =
     ⊎ ((fault ≡ faults.TooLong) × IsRefused overrides text
     × BecomesTooLong overrides (rows_read text))
 
--- what a file is refused for: it is a workbook, or there is no text
+-- the errors for which a file is refused: it is a workbook, or it has no plain text
 abbrev pub IsNoPlain : List Override → List ℕ → SpreadsheetFault → Type 0
 IsNoPlain overrides bytes fault =
     IsNoText overrides (utf8_of bytes) fault

@@ -49,7 +49,7 @@ IsPreparedBy o overrides bytes (Err fault) p = IsPlain overrides bytes p
 IsPreparedBy o overrides bytes (Ok rows) p =
     IsPreparedList o overrides (encoding bytes) (filled rows) p
 
--- what a file becomes
+-- the plain list that a file becomes with options and given capacities
 abbrev pub IsPlainWith : Options → List Override → List ℕ → declared.PlainList → Type 0
 IsPlainWith o overrides bytes p =
     (IsUntouched o bytes × IsPlain overrides bytes p)
@@ -86,7 +86,7 @@ abbrev pub IsNoPlainBy : Options → List Override → List ℕ → Result (List
 IsNoPlainBy o overrides bytes (Err read) fault = IsNoPlainText overrides bytes fault
 IsNoPlainBy o overrides bytes (Ok rows) fault = IsNoList o overrides (filled rows) fault
 
--- what a file is refused for; out of memory may come at any time
+-- the errors for which a file is refused; running out of memory is always possible
 abbrev pub IsNoPlainWith : Options → List Override → List ℕ → OptionsFault → Type 0
 IsNoPlainWith o overrides bytes fault =
     (fault ≡ refusal.Plain faults.Memory)

@@ -50,7 +50,7 @@ decimal_at most (Some end) text =
 abbrev pub decimal : ℕ → List ℕ → Option ℕ
 decimal most text = decimal_at most (digits_end text) text
 
--- where the number at the front of a cell ends, if something follows it
+-- the place behind the number at the front of a cell, if something follows it
 abbrev pub number_end : List ℕ → Option ℕ
 number_end cell =
     position (λ byte. not (is_digit byte) && not (byte == 44) && not (byte == 46)) cell

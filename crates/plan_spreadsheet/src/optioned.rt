@@ -101,8 +101,8 @@ fn with_options(
 /// Returns the list that a file becomes with options and given capacities: headers are renamed,
 /// columns are left out, and durations and lags are counted in the unit. It isn't a plain list yet.
 ///
-/// Without options the bytes of the file stay, and so do those of a project file, a job shop file and
-/// a workbook, and those of a text that can't be read as rows.
+/// Without options the bytes of the file stay. So do the bytes of a project file, a job shop file,
+/// a workbook, and a text that can't be read as rows.
 #[tactic(auto, using(crate::proofs::OptionedLemmas::untouched_list, crate::proofs::OptionedLemmas::touched_list, crate::proofs::OptionedLemmas::touched_refused))]
 pub fn optioned_list(
     alloc: Global,

@@ -1,5 +1,6 @@
--- A week that has a plan has one that ends by its limit: while a plan is longer, there is an instant
--- behind all dates at which nothing goes on, and all that starts later can start one earlier.
+-- A week that has a plan has one that ends by its limit: while a plan is longer, there is an
+-- instant behind all dates at which no activity is in progress. All later ones can start one
+-- instant earlier.
 use Rattle.std.proofs.Common.{◌≡◌, ◌≢◌, ◌∙◌, ℕ, zero, suc, ◌+◌, ◌-◌, ◌≤◌, ◌<◌, ◌&&◌, ◌⊎◌, max, min, inl, inr, true, List, [], ◌∷◌, Some, None, cond, nat_le, nat_lt, map, length, get_or, refl, sym, ap, subst, arith}
 use Rattle.std.specs.List.{All, sum_by}
 use Rattle.std.proofs.lemmas.Bool.{cases_lt, cases_eq, cond-true, cond-false, and_from, and_left, and_right, le-leb, lt-leb, lt-ltb, le-ltb}
@@ -100,7 +101,7 @@ busy week starts t =
 settled : Week → ℕ
 settled week = max week.today (max (latest_awaited week) (latest_return week))
 
--- what all activities and lags take
+-- the total of the remaining durations and the lags
 work : Week → ℕ
 work week = total (count (project_of week)) (rest_of week) + sum_by (λ (a : Arc). a.lag) week.arcs.items
 
@@ -209,7 +210,7 @@ moved_arc from lasts lag to t (inr over) lags kept = elim (cases_lt t to) [
   ]
 ]
 
--- what an activity needs before the instant, and behind it
+-- the need of an activity before and behind the instant
 needs_at : ℕ → ℕ → ℕ → ℕ → ℕ
 needs_at start lasts amount u = cond (nat_le start u && nat_lt u (start + lasts)) amount 0
 

@@ -5,7 +5,7 @@ use Rattle.std.proofs.lemmas.Bool.{cases_Bool, cases_eq, both_ways, cond-true, c
 use Rattle.std.proofs.lemmas.List.{get_or_append_left, get_or-append-add, get_or_push, get_or-map, length-map}
 use Rattle.std.proofs.lemmas.List.Elements.{All-nil, All-cons, All-head, All-tail, All-same}
 
--- what holds of all that a filter keeps holds of each element that passes
+-- a property of all elements that a filter keeps holds for each element that passes
 pub passing : {X : Type 0} (P : X → Type 0) (p : X → Bool) (xs : List X) → All P (filter p xs) → All (λ x. p x ≡ true → P x) xs
 passing P p [] held = All-nil (λ x. p x ≡ true → P x)
 passing P p (x ∷ xs) held = elim (cases_Bool (p x)) [
@@ -17,7 +17,7 @@ passing P p (x ∷ xs) held = elim (cases_Bool (p x)) [
       All-cons (λ y. p y ≡ true → P y) x xs (λ passes. absurd (both_ways (p x) fails passes)) (passing P p xs kept)
 ]
 
--- what holds at each place of a list and of one element more
+-- a property at each place of a list and of one more element
 pub each_more : {X : Type 0} (P : ℕ → X → Type 0) (xs ys : List X) (x d : X) (n : ℕ) → length xs ≡ n → ys ≡ xs ++ x ∷ []
     → ((i : ℕ) → i < n → P i (get_or xs i d)) → P n x → (i : ℕ) → i < n + 1 → P i (get_or ys i d)
 each_more {X} P xs ys x d n whole added before here i below = elim (cases_eq i n) [
@@ -33,11 +33,11 @@ each_more {X} P xs ys x d n whole added before here i below = elim (cases_eq i n
 pub length_more : {X : Type 0} (xs ys : List X) (x : X) (n : ℕ) → length xs ≡ n → ys ≡ xs ++ x ∷ [] → length ys ≡ n + 1
 length_more {X} xs ys x n whole added = omega (arith, whole, ap (λ (l : List X). length l) added, length-append xs (x ∷ []))
 
--- what holds of all images holds of the image of each element
+-- a property of all images holds for the image of each element
 pub unmapped : {X Y : Type 0} (P : Y → Type 0) (f : X → Y) (xs : List X) → All P (map f xs) → All (λ x. P (f x)) xs
 unmapped P f xs held k d inside = subst P (get_or-map f xs k d (f d) inside) (held k (f d) (omega (arith, inside, length-map xs f)))
 
--- what holds of two lists together holds of each
+-- a property of two lists together holds for each of them
 pub all_left : {X : Type 0} (P : X → Type 0) (xs ys : List X) → All P (xs ++ ys) → All P xs
 all_left P xs ys held k d inside = subst P (get_or_append_left xs ys d k inside) (held k d (omega (arith, inside, length-append xs ys)))
 

@@ -17,7 +17,7 @@ use Rattle.plan_week.specs.declared.week.Week.{Week}
 use Rattle.plan_week.specs.Weeks.{project_of, state_of, rest_of, end_of, needed_by, needed, missing, no_absence, KeepsState, IsWeekPlan}
 use Rattle.plan_week.specs.Overloads.{settled_start, held_from, held_by, held, IsOverload, IsSettled, IsLeaving, BeginsAt, IsFirstOf, IsFoundOf, IsEarlier, IsFirstOverload, HasNoOverload, OverloadsLeaveNoPlan}
 
--- what is held from a start on
+-- the amount that an activity holds from a start on
 pub held_none : (week : Week) (t k i start : ℕ) → (t < start) ⊎ (start + rest_of week i ≤ t) → held_from week t k i (Some start) ≡ 0
 held_none week t k i start (inl early) =
     cond-false (nat_le start t && nat_lt t (start + rest_of week i)) (need (project_of week) i k) 0
@@ -91,7 +91,7 @@ overload_begins week k (suc t) over = elim (cases_lt t week.today) [
   ]
 ]
 
--- what can't be moved is part of every plan
+-- the amount that can't be moved is part of every plan
 held_most : (week : Week) (starts : List ℕ) (t k i : ℕ) (s : State) → KeepsState week.today (get_or starts i 0) s
     → held_from week t k i (settled_start week.today s) ≤ needed_by week starts t k i
 held_most week starts t k i (Open earliest None) kept = omega arith
@@ -169,7 +169,7 @@ below_or_at n P t (i, below, holds) = elim (cases_eq i n) [
   | inr other ↦ inl (i, omega (arith, below, other), holds)
 ]
 
--- what a search for the first overload tells
+-- the result of a search for the first overload
 pub found_some : (week : Week) (found : Option Overload) → IsFoundOf week (BeginsAt week) found → IfSome found (IsFirstOverload week)
 found_some week None found = tt
 found_some week (Some overload) found = first_of_all week overload found
@@ -178,7 +178,7 @@ pub found_none : (week : Week) (found : Option Overload) → IsFoundOf week (Beg
 found_none week None found = none_of_all week found
 found_none week (Some overload) found = tt
 
--- what one activity more needs isn't there
+-- the need of one more activity is above the rest of the capacity
 pub above_with : (week : Week) (t k i used more : ℕ) → i < count (project_of week) → used ≡ missing week t k + total i (held_by week t k) → more ≡ held_by week t k i
     → used ≤ capacity (project_of week) k → capacity (project_of week) k - used < more → capacity (project_of week) k < held week t k + missing week t k
 above_with week t k i used more inside sum is most over =
@@ -192,7 +192,7 @@ above_with week t k i used more inside sum is most over =
       total_longer (i + 1) (count (project_of week)) (held_by week t k) (omega (arith, inside)),
     )
 
--- what all of them need is there
+-- the need of all of them is within the capacity
 pub within_all : (week : Week) (t k n used : ℕ) → n ≡ count (project_of week) → used ≡ missing week t k + total n (held_by week t k) → used ≤ capacity (project_of week) k
     → held week t k + missing week t k ≤ capacity (project_of week) k
 within_all week t k n used all sum most = omega (arith, sum, most, ap (λ (m : ℕ). total m (held_by week t k)) all)

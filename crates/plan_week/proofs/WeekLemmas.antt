@@ -66,7 +66,7 @@ same_duration week input i numbers = elim (cases_lt i (count_of week)) [
   | inr past ↦ past_duration week input i numbers past ∙ sym (past_rest week i past)
 ]
 
--- what an activity needs at an instant
+-- the need of an activity at an instant
 same_amount : (week : Week) (input : Input) (starts : List ℕ) (t k i : ℕ) → IsInputOf week input
     → amount_at (problem_of input) starts t k i ≡ needed_by week starts t k i
 same_amount week input starts t k i numbers =
@@ -74,7 +74,7 @@ same_amount week input starts t k i numbers =
     ap (λ (d : ℕ). cond (nat_le s t && nat_lt t (s + d)) (need (problem_of input) i k) 0) (same_duration week input i numbers)
     ∙ ap (λ (n : ℕ). cond (nat_le s t && nat_lt t (s + rest_of week i)) n 0) (same_need week input i k numbers)
 
--- what all need at an instant
+-- the need of all activities at an instant
 same_usage : (week : Week) (input : Input) (starts : List ℕ) (t k : ℕ) → IsInputOf week input → length starts ≡ count (problem_of input)
     → usage (problem_of input) (all_placed starts) t k ≡ needed week starts t k
 same_usage week input starts t k numbers each =
@@ -248,7 +248,7 @@ has_plans_of week input numbers none = record {
   costs = λ starts. makespan_cost week input starts numbers none;
 }
 
--- what a week's numbers are in its project
+-- the numbers of a week are those of its project
 pub resources_are : (week : Week) → length (project_of week).capacities ≡ length week.capacities.items
 unfolding project_of
 resources_are week = refl

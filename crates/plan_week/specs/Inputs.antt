@@ -17,7 +17,7 @@ AreSmall starts = All (λ t. t < 2 ^ 32) starts
 abbrev pub leads_on : Week → Arc → Bool
 leads_on week arc = is_open (state_of week arc.to)
 
--- what is left of an absence from today on
+-- the part of an absence from today on
 abbrev pub from_today : ℕ → Absence → Absence
 from_today today absence = record absence { from = max absence.from today }
 

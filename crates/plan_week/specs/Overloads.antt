@@ -14,7 +14,7 @@ settled_start today (Open earliest fixed) = fixed
 settled_start today (Begun began remaining) = Some today
 settled_start today (Done ended) = None
 
--- what an activity with such a start needs of a resource at an instant
+-- the need of an activity with such a start for a resource at an instant
 abbrev pub held_from : Week → ℕ → ℕ → ℕ → Option ℕ → ℕ
 held_from week t k i None = 0
 held_from week t k i (Some start) =
@@ -23,7 +23,7 @@ held_from week t k i (Some start) =
 abbrev pub held_by : Week → ℕ → ℕ → ℕ → ℕ
 held_by week t k i = held_from week t k i (settled_start week.today (state_of week i))
 
--- what begun work and appointments need of a resource at an instant
+-- the need of begun work and appointments for a resource at an instant
 abbrev pub held : Week → ℕ → ℕ → ℕ
 held week t k = total (count (project_of week)) (held_by week t k)
 

@@ -25,7 +25,7 @@ latest_due week = greatest_below (count (project_of week)) (λ i. date_or 0 (wis
 abbrev pub due_of : Week → ℕ → ℕ
 due_of week i = date_or (latest_due week) (wish_of week i)
 
--- the tardiness of an activity: what its end is above its due date, or 0
+-- the tardiness of an activity: its end minus its due date, at least 0
 abbrev pub tardiness_of : Week → List ℕ → ℕ → ℕ
 tardiness_of week starts i = end_of week starts i - due_of week i
 
@@ -33,7 +33,7 @@ tardiness_of week starts i = end_of week starts i - due_of week i
 abbrev pub greatest_tardiness : Week → List ℕ → ℕ
 greatest_tardiness week starts = greatest_below (count (project_of week)) (tardiness_of week starts)
 
--- what an activity's due date is before the latest one
+-- the latest due date minus the due date of an activity
 abbrev pub tail_of : Week → ℕ → ℕ
 tail_of week i = latest_due week - due_of week i
 

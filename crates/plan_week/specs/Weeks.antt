@@ -22,14 +22,14 @@ project_of week = record {
 abbrev pub state_of : Week → ℕ → State
 state_of week i = get_or week.states.items i (Open 0 None)
 
--- how long an activity lasts from today on: all of its duration if it is open, what remains of it
--- if it has begun, nothing if it is done
+-- the duration of an activity from today on: all of it if the activity is open, its remaining
+-- duration if it has begun, and 0 if it is done
 abbrev pub rest : ℕ → State → ℕ
 rest lasts (Open earliest fixed) = lasts
 rest lasts (Begun began remaining) = remaining
 rest lasts (Done ended) = 0
 
--- of an activity by its place
+-- the same for an activity by its place
 abbrev pub rest_of : Week → ℕ → ℕ
 rest_of week i = rest (duration (project_of week) i) (state_of week i)
 
@@ -38,8 +38,8 @@ abbrev pub KeepsAppointment : ℕ → Option ℕ → Type 0
 KeepsAppointment start None = Unit {0}
 KeepsAppointment start (Some fixed) = start ≡ fixed
 
--- What is open starts today or later, at its earliest start or later, and at its appointment. What
--- has begun goes on from today, without a break. What is done has ended by today.
+-- An open activity starts today or later, at its earliest start or later, and at its appointment.
+-- A begun activity continues from today, without a break. A done one has ended by today.
 abbrev pub KeepsState : ℕ → ℕ → State → Type 0
 KeepsState today start (Open earliest fixed) =
     (today ≤ start) × (earliest ≤ start) × KeepsAppointment start fixed
@@ -61,12 +61,12 @@ abbrev pub KeepsArc : Week → List ℕ → Arc → Type 0
 KeepsArc week starts arc =
     IsTrue (is_open (state_of week arc.to)) → end_of week starts arc.from + arc.lag ≤ get_or starts arc.to 0
 
--- what an activity needs of a resource at an instant
+-- the need of an activity for a resource at an instant
 abbrev pub needed_by : Week → List ℕ → ℕ → ℕ → ℕ → ℕ
 needed_by week starts t k i =
     cond (nat_le (get_or starts i 0) t && nat_lt t (end_of week starts i)) (need (project_of week) i k) 0
 
--- what all activities need of a resource at an instant
+-- the need of all activities for a resource at an instant
 abbrev pub needed : Week → List ℕ → ℕ → ℕ → ℕ
 needed week starts t k = total (count (project_of week)) (needed_by week starts t k)
 
@@ -74,13 +74,13 @@ needed week starts t k = total (count (project_of week)) (needed_by week starts 
 abbrev pub no_absence : Absence
 no_absence = record { resource = 0; from = 0; until = 0; amount = 0 }
 
--- what is absent of a resource at an instant
+-- the absent amount of a resource at an instant
 abbrev pub missing : Week → ℕ → ℕ → ℕ
 missing week t k = sum_by (taken_by t k) week.absences.items
 
--- A plan of a week. It has an instant for each activity: the start of what is open, today for what
--- has begun, and the end of what is done. From today on the needs and the absences together are at
--- most the capacity of each resource. Nothing before today is compared.
+-- A plan of a week. It has an instant for each activity: the start if it is open, today if it has
+-- begun, and the end if it is done. From today on the needs and the absences together are at most
+-- the capacity of each resource. Nothing before today is compared.
 pub record IsWeekPlan (week : Week) (starts : List ℕ) : Type 0 where
   pub each_started : length starts ≡ count (project_of week)
   pub states : (i : ℕ) → i < count (project_of week) → KeepsState week.today (get_or starts i 0) (state_of week i)

@@ -1,11 +1,11 @@
-//! What a search for the shortest plan of a week comes to.
+//! The result of a search for the shortest plan of a week.
 
 ghost use Rattle.plan_week.specs.WeekAnswers.{IsSameAnswer};
 
 use plan_solve::PlanAnswer;
 
-/// What a search for the shortest plan of a week comes to. A plan has a start for each activity that
-/// is open, today for what has begun, and the end of what is done.
+/// The result of a search for the shortest plan of a week. A plan has an instant for each activity:
+/// the start if it is open, today if it has begun, and the end if it is done.
 #[derive(Debug, Drop)]
 pub enum WeekAnswer {
     /// No plan is shorter than this one.

@@ -41,8 +41,8 @@ pub fn latest_due(week: &Week) -> u32
     latest
 }
 
-/// Returns the tardiness of an activity: what its end is above its due date, or 0. An activity without
-/// a due date is due at the latest due date.
+/// Returns the tardiness of an activity: its end minus its due date, at least 0. An activity
+/// without a due date is due at the latest due date.
 pub fn tardiness_of(week: &Week, starts: &[u32], activity: usize) -> u64
     ensures { result ≡ spec.tardiness_of week.now starts.now activity }
 {
@@ -51,7 +51,7 @@ pub fn tardiness_of(week: &Week, starts: &[u32], activity: usize) -> u64
     end.saturating_sub(due as u64)
 }
 
-// Returns what the due date of each activity is before the latest one.
+// Returns the latest due date minus the due date of each activity.
 fn tails_of(alloc: Global, week: &Week) -> Result<Vec<u32>, AllocError>
     ensures { IfOk result (λ tails. spec.AreTailsOf week.now tails.items) }
 {
@@ -63,8 +63,8 @@ fn tails_of(alloc: Global, week: &Week) -> Result<Vec<u32>, AllocError>
     Ok(tails)
 }
 
-/// Returns the problem whose plans are those of a week, and whose costs less the latest due date are
-/// their greatest tardiness.
+/// Returns the problem whose plans are those of a week, and whose costs minus the latest due date
+/// are their greatest tardiness.
 pub fn tardiness_input(alloc: Global, week: &Week) -> Result<Input, AllocError>
     ensures { IfOk result (spec.HasTardiness week.now) }
 {

@@ -16,8 +16,8 @@ pub fn overloaded_weeks_have_no_plan()
     ensures { OverloadsLeaveNoPlan }
 {}
 
-/// A week that has a plan has one that ends by its limit. So there is no plan at all if none ends by
-/// it.
+/// A week that has a plan has one that ends by its limit. So there is no plan at all if none ends
+/// by it.
 pub fn limits_are_enough()
     ensures { LimitsAreEnough }
 {}

@@ -12,7 +12,7 @@ use crate::week::Week;
 use plan_solve::{LATEST_COST, PlanAnswer, SolveFault, Watcher, first_starts, solve_plan_watched};
 use std::alloc::Global;
 
-/// What a search for the least tardy plan of a week comes to.
+/// The result of a search for the least tardy plan of a week.
 #[derive(Debug, Drop)]
 pub enum TardyAnswer {
     /// A plan with its greatest tardiness, and a lower bound of that of all plans.
@@ -67,7 +67,7 @@ fn tardy_answer(latest: u32, answer: PlanAnswer) -> TardyAnswer
 }
 
 /// Returns the least tardy plan of a week that a search with at most so many conflicts finds, and
-/// what it proves of all plans. No due date is after 1,000,000,000.
+/// the lower bound that it proves for all plans. No due date is after 1,000,000,000.
 ///
 /// Refused with [`SolveFault::BadConflicts`] if the number of conflicts is not from 1 to
 /// 1,000,000,000. Out of memory can replace any result.

@@ -90,8 +90,8 @@ fn untightened(
     })
 }
 
-/// Returns the shortest plan of a week in which no activity is later than so much that a search with
-/// at most so many conflicts finds, and what it proves of all of them. `starts` is such a plan.
+/// Returns the shortest plan of a week with a tardiness of at most `late` that a search with at
+/// most so many conflicts finds, and a lower bound for all such plans. `starts` is such a plan.
 ///
 /// Refused with [`SolveFault::BadConflicts`] if the number of conflicts is not from 1 to
 /// 1,000,000,000. Out of memory can replace any result.

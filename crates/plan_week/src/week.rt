@@ -4,7 +4,7 @@ ghost use Rattle.std.specs.Prelude.{◌≡◌, ◌<◌, ◌^◌, length};
 
 use plan_kernel::{Absence, Arc};
 
-/// What has happened to an activity by today.
+/// The state of an activity today.
 #[derive(Clone, Copy, Drop)]
 pub enum State {
     /// It has neither begun nor ended. It starts at `earliest` or later, and exactly at `fixed` if
@@ -16,8 +16,8 @@ pub enum State {
     Done { ended: u32 },
 }
 
-/// The activities of a week, the resources, and who is absent. Activities and resources are numbered
-/// from 0, instants from 0.
+/// The activities of a week, the resources, and the absences. Activities, resources and instants
+/// are numbered from 0.
 #[derive(Drop)]
 pub struct Week {
     /// How long each activity lasts in whole.
@@ -31,7 +31,7 @@ pub struct Week {
     pub states: Vec<State>,
     /// The wished end of each activity, if there is one.
     pub dues: Vec<Option<u32>>,
-    /// What is missing of resources. Absences of one resource add up.
+    /// The missing amounts of resources. Absences of one resource add up.
     pub absences: Vec<Absence>,
     /// The instant from which on is planned.
     pub today: u32,

@@ -53,13 +53,13 @@ IsInstant calendar column text made =
     (date : Date) × IsAllowed calendar column text date
     × (made ≡ decimal (instant_in calendar column date))
 
--- what a cell in a column of dates becomes: a date its instant; another text stays
+-- a cell in a column of dates: a date becomes its instant; another text stays
 abbrev pub IsDatedIn : Workdays → DateColumn → List ℕ → List ℕ → Type 0
 IsDatedIn calendar column cell made =
     ((begins_like_date (trim cell) ≡ false) × (made ≡ cell))
     ⊎ ((begins_like_date (trim cell) ≡ true) × IsInstant calendar column (trim cell) made)
 
--- what a cell becomes; in other columns it stays
+-- the new text of a cell; in other columns it stays
 abbrev pub IsDatedCell : Workdays → Option DateColumn → List ℕ → List ℕ → Type 0
 IsDatedCell calendar None cell made = made ≡ cell
 IsDatedCell calendar (Some column) cell made = IsDatedIn calendar column cell made

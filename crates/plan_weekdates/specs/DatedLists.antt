@@ -97,7 +97,7 @@ RefusesUnder calendar overrides rows (Err fault) f = ⊥
 RefusesUnder calendar overrides rows (Ok heads) f =
     RefusesRows calendar (columns_of overrides rows heads) rows f
 
--- that of rows with content; the first one is the header
+-- the error of rows with content; the first one is the header
 abbrev pub RefusesBehind : Workdays → List Override → List Row → cells.CellFault → Type 0
 RefusesBehind calendar overrides [] f = ⊥
 RefusesBehind calendar overrides (first ∷ rows) f =

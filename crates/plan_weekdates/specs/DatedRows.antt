@@ -7,7 +7,7 @@ use Rattle.plan_weekdates.specs.declared.fault.CellFault as declared
 use Rattle.plan_weekdates.specs.DatedCells.{IsDatedCell, RefusesCell}
 use Rattle.plan_weekdates.specs.Sequences.{Become, FirstFails}
 
--- what the cell in column k becomes
+-- the new text of the cell in column k
 abbrev pub IsCellAt : Workdays → List (Option DateColumn) → ℕ → List ℕ → List ℕ → Type 0
 IsCellAt calendar columns k cell made =
     IsDatedCell calendar (slice_index_or columns k None) cell made
@@ -18,7 +18,7 @@ abbrev pub RefusesCellAt : Workdays → List (Option DateColumn) → ℕ → dec
 RefusesCellAt calendar columns line f k cell =
     RefusesCell calendar line (slice_index_or columns k None) cell f
 
--- what cells become
+-- the new texts of cells
 abbrev pub AreDatedCells : Workdays → List (Option DateColumn) → List (List ℕ) → List (List ℕ)
     → Type 0
 AreDatedCells calendar columns cells made = Become (IsCellAt calendar columns) 0 cells made
@@ -29,7 +29,7 @@ abbrev pub RefusesCells : Workdays → List (Option DateColumn) → ℕ → List
 RefusesCells calendar columns line cells f =
     FirstFails (IsCellAt calendar columns) (RefusesCellAt calendar columns line f) 0 cells
 
--- what a row becomes: it keeps its line
+-- a row with its new texts: it keeps its line
 pub record IsDatedRow (calendar : Workdays) (columns : List (Option DateColumn))
     (row made : Row) : Type 0 where
   pub line : made.line ≡ row.line
@@ -39,7 +39,7 @@ pub record IsDatedRow (calendar : Workdays) (columns : List (Option DateColumn))
 abbrev pub RefusesRow : Workdays → List (Option DateColumn) → Row → declared.CellFault → Type 0
 RefusesRow calendar columns row f = RefusesCells calendar columns row.line row.cells f
 
--- what rows become
+-- the rows with their new texts
 abbrev pub AreDatedRows : Workdays → List (Option DateColumn) → List Row → List Row → Type 0
 AreDatedRows calendar columns rows made = Become (λ k. IsDatedRow calendar columns) 0 rows made
 

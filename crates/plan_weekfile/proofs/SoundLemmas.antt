@@ -53,20 +53,20 @@ sound_listed now bytes text found list p listed dates same is read table week =
 
 -- ---- the errors of each step
 
--- that of the dates
+-- the error of the dates
 pub sound_dates : (now : Option ℕ) (bytes : List ℕ) (error : WeekError) (fault : ListFault)
     → IsNoWeekList [] now (utf8_of bytes) error → fault ≡ fault_of_week error → IsNoSoundWeek now bytes fault
 sound_dates now bytes errors.Memory fault h is = subst (IsNoSoundWeek now bytes) (sym is) tt
 sound_dates now bytes (errors.Fault f) fault h is = subst (IsNoSoundWeek now bytes) (sym is) (inl h)
 
--- that of the plain list
+-- the error of the plain list
 pub sound_plain : (now : Option ℕ) (bytes text : List ℕ) (list : WeekList) (error : SpreadsheetFault) (fault : ListFault)
     → IsWeekList [] now (utf8_of bytes) list → text ≡ text_of list bytes → plain.IsNoPlain [] text error
     → fault ≡ faults.Spreadsheet error → IsNoSoundWeek now bytes fault
 sound_plain now bytes text list error fault dates same h is =
     subst (IsNoSoundWeek now bytes) (sym is) (list, dates, subst (λ (t : List ℕ). plain.IsNoPlain [] t error) same h)
 
--- that of the table
+-- the error of the table
 pub sound_table : (now : Option ℕ) (bytes text found : List ℕ) (list : WeekList) (p : PlainList) (error : ReadError) (fault : ListFault)
     → IsWeekList [] now (utf8_of bytes) list → text ≡ text_of list bytes → plain.IsPlain [] text p
     → found ≡ plain.text_of p text → IsUnsoundWith [] found error → fault ≡ fault_of_table error
@@ -80,7 +80,7 @@ sound_table now bytes text found list p (read.Fault f) fault dates same is found
       subst (λ (t : List ℕ). IsUnsoundWith [] t (read.Fault f)) (text_found bytes text found list p same found_is) h,
     )
 
--- that of the week
+-- the error of the week
 pub sound_week : (now : Option ℕ) (bytes text found : List ℕ) (list : WeekList) (p : PlainList) (t : Table) (error : WeekError) (fault : ListFault)
     → IsWeekList [] now (utf8_of bytes) list → text ≡ text_of list bytes → plain.IsPlain [] text p
     → found ≡ plain.text_of p text → table_read_with [] found ≡ Ok t → IsNoWeek t (week_rows_of list.rows) error

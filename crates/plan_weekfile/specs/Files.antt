@@ -23,7 +23,7 @@ IsOptionedIf true o file (Some list) = lists.IsOptioned (options_of o) [] file l
 abbrev pub IsOptionedFile : declared.Options → List ℕ → Option OptionedList → Type 0
 IsOptionedFile o file = IsOptionedIf (is_short file) o file
 
--- what a file becomes, with options if there are some
+-- the list that a file becomes, with options if there are some
 abbrev pub IsWeekFile : Option declared.Options → List ℕ → Option OptionedList → Type 0
 IsWeekFile None file list = list ≡ None
 IsWeekFile (Some o) file list = IsOptionedFile o file list

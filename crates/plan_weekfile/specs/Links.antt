@@ -19,7 +19,7 @@ numbered arc = (number_of arc.from, number_of arc.to)
 abbrev pub needs_at : Week → ℕ → List ℕ
 needs_at week k = get_or (map (λ needs. needs.items) week.needs.items) k []
 
--- what activity k needs, and what it waits for
+-- the needs and the predecessors of activity k
 abbrev pub links_at : List Name → List Name → List (ℕ × ℕ) → Week → ℕ → Links
 links_at resources ids arcs week k = record {
   number = number_of k;

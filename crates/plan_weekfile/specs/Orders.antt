@@ -1,4 +1,4 @@
--- What the command line asks of a list with dates.
+-- The options of the command line for a list with dates.
 use Rattle.std.specs.Prelude.{Bool, ◌||◌, is_some, Option, Some, None}
 use Rattle.plan_weekfile.specs.declared.order.WeekOrder.{WeekOrder}
 use Rattle.plan_weeks.specs.declared.planning.Goal.{Goal}

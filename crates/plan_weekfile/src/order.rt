@@ -1,4 +1,4 @@
-//! What the command line asks of a list with dates.
+//! The options of the command line for a list with dates.
 
 ghost use Rattle.std.specs.Prelude.{◌≡◌};
 ghost use Rattle.plan_solve.specs.Solutions.{IsConflictLimit};
@@ -9,7 +9,7 @@ use plan_formats::Format;
 use plan_solve::MOST_CONFLICTS;
 use plan_weeks::Goal;
 
-/// What the command line asks of a list with dates.
+/// The options of the command line for a list with dates.
 #[derive(Clone, Copy, Drop)]
 pub struct WeekOrder<'a> {
     /// The instant from which on is planned (`--now`), if it is given.

@@ -55,7 +55,7 @@ begun_in today line cell = do
   known ← known_today today line cell
   if same_name cell (codes "interrupted") then Ok Interrupted else date_in line cell >>= λ date. Ok (begun_from date)
 
--- when an activity was done, by a cell
+-- the instant at which an activity was done, by a cell
 unfoldable pub done_in : Option ℕ → ℕ → List ℕ → Result (Option ℕ) Fault
 done_in today line cell = do
   known ← known_today today line cell

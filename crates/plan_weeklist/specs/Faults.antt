@@ -15,7 +15,7 @@ pub record Fault : Type 0 where
 abbrev pub fault_of : declared.WeekFault → Fault
 fault_of f = record { code = f.code; line = f.line; word = f.word.items }
 
--- what is read first, and then what is read from there; or the first fault
+-- the reading of one part and then of the next one, or the first error
 infixl 10 ◌>>=◌
 abbrev pub ◌>>=◌ : {A B : Type 0} → Result A Fault → (A → Result B Fault) → Result B Fault
 (Ok x) >>= f = f x
@@ -26,7 +26,7 @@ abbrev pub Fails : {Y : Type 0} → WeekError → Result Y Fault → Type 0
 Fails errors.Memory read = Unit {0}
 Fails (errors.Fault f) read = read ≡ Err (fault_of f)
 
--- what a function answers, seen by view, is what the reading gives
+-- a function returns the result of the reading, seen by view, or its error
 abbrev pub Gives : {X Y : Type 0} → (X → Y) → Result X WeekError → Result Y Fault → Type 0
 Gives view (Ok x) read = read ≡ Ok (view x)
 Gives view (Err e) read = Fails e read

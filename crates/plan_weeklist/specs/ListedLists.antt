@@ -70,7 +70,7 @@ FailsTable overrides today bytes error =
     (list : WeekList) × (p : PlainList) × AreLists overrides today bytes list p
     × IsRefusedWith overrides (table_text list p bytes) error
 
--- why a file is no list with a week; out of memory may come at any time
+-- the errors of a file that is no list with a week; running out of memory is always possible
 abbrev pub IsNoListedWeek : List Override → Option ℕ → List ℕ → ListFault → Type 0
 IsNoListedWeek overrides today bytes faults.Memory = Unit {0}
 IsNoListedWeek overrides today bytes (faults.Dates f) =

@@ -52,7 +52,7 @@ dates_or (Some dates) = dates
 abbrev pub dates_for : Bool → List DatedRow → ℕ → Activity → Dates
 dates_for own rows k a = dates_or (dates_of own rows k a)
 
--- how many activities are before the first wait, if the first one that is left has the number k
+-- the number of activities before the first wait, if the first one of the rest has the number k
 abbrev pub planned_from : Bool → List DatedRow → ℕ → List Activity → ℕ
 planned_from own rows k [] = k
 planned_from own rows k (a ∷ others) =
@@ -60,7 +60,7 @@ planned_from own rows k (a ∷ others) =
 
 -- ---- durations and states
 
--- how long an activity lasts: what remains if it was interrupted
+-- the duration of an activity: its remaining duration if it was interrupted
 abbrev pub duration_by : ℕ → Beginning → Option ℕ → ℕ
 duration_by lasts Missing remaining = lasts
 duration_by lasts (At began) remaining = lasts
@@ -148,7 +148,7 @@ absences_in resources before (row ∷ rows) = do
 
 -- ---- the week
 
--- what each activity from activity k on gives, behind other things
+-- the elements that the activities from activity k on give, appended to the earlier ones
 unfoldable pub placed : {B : Type 0} → (ℕ → Activity → List B) → List B → ℕ → List Activity → List B
 placed gives before k [] = before
 placed gives before k (a ∷ others) = placed gives (before ++ gives k a) (k + 1) others
@@ -171,7 +171,7 @@ pub record IsPlanned (own : Bool) (rows : List DatedRow) (today count : ℕ) (al
   pub arcs : week.arcs.items ≡ placed (arcs_to count all) [] 0 (take count all)
   pub needs : map (λ needs. needs.items) week.needs.items ≡ map (λ a. a.needs) (take count all)
 
--- how many activities of a table are in a week: those before the first wait
+-- the number of activities of a table in its week: those before the first wait
 abbrev pub planned : Table → WeekRows → ℕ
 planned t r = planned_from t.own_ids r.rows 0 t.activities
 

@@ -78,17 +78,17 @@ pub record IsListOf (read : Result WeekRows Fault) (plain : Option (List Row)) (
   pub rows : read ≡ Ok (week_rows_of list.rows)
   pub text : IsPlainText plain list.plain
 
--- what a list of activities says of the week
+-- the contents of a list of activities: dates and absences
 abbrev pub IsActivities : List Override → Option ℕ → Result (List Row) tables.Fault → declared.WeekList → Type 0
 IsActivities overrides today rows list = IsListOf (rows_in overrides today rows) (plain_in overrides rows) list
 
--- what a text of a kind says of the week; only a list of activities says anything
+-- the dates and absences of a text of a kind; only a list of activities has any
 abbrev pub IsOfKind : List Override → Option ℕ → List ℕ → Option ListKind → declared.WeekList → Type 0
 IsOfKind overrides today text None list = IsListOf (Ok no_rows) None list
 IsOfKind overrides today text (Some kinds.Orders) list = IsListOf (Ok no_rows) None list
 IsOfKind overrides today text (Some kinds.Activities) list = IsActivities overrides today (rows_read text) list
 
--- what a text in UTF-8 says of the week
+-- the dates and absences of a text in UTF-8
 abbrev pub IsWeekList : List Override → Option ℕ → List ℕ → declared.WeekList → Type 0
 IsWeekList overrides today text list =
     (kind : Option ListKind) × IsKind text kind × IsOfKind overrides today text kind list

@@ -15,7 +15,7 @@ use Rattle.plan_weeklist.specs.Columns.{has_dates, is_absence}
 use Rattle.plan_weeklist.specs.Dates.{cell_in, date_at, date_in, dates_read, number_in, number_or}
 use Rattle.plan_weeklist.specs.Faults.{Fault, ◌>>=◌}
 
--- how much is absent of a resource
+-- the absent amount of a resource
 pub record Shortage : Type 0 where
   pub resource : List ℕ
   pub amount : ℕ
@@ -59,18 +59,18 @@ week_rows_of r = rows_of r.rows.items r.absences.items
 abbrev pub tells_absence : Columns → ℕ → Head → Bool
 tells_absence columns k head = same_kind kinds.Resource head.column && not (has_dates columns k)
 
--- what is absent of a resource, if a row has an amount for it
+-- the absence of a resource, if a row has an amount for it
 abbrev pub shortages_of : List ℕ → Option ℕ → List Shortage
 shortages_of resource None = []
 shortages_of resource (Some amount) = record { resource = resource; amount = amount } ∷ []
 
--- what is absent, with what a row has in column k
+-- the absences so far, with the one that a row has in column k
 unfoldable pub shortage_read : Columns → Row → List Shortage → ℕ → Head → Result (List Shortage) Fault
 shortage_read columns row before k head =
     if tells_absence columns k head
     then (date_in row.line (cell_of k row) >>= λ amount. Ok (before ++ shortages_of head.name amount)) else Ok before
 
--- what is absent in the columns from column k on, behind others
+-- the absences in the columns from column k on, appended to the earlier ones
 unfoldable pub shortages_from : Columns → Row → List Shortage → ℕ → List Head → Result (List Shortage) Fault
 shortages_from columns row before k [] = Ok before
 shortages_from columns row before k (head ∷ heads) = do
@@ -103,14 +103,14 @@ abbrev pub dated_read : Option ℕ → Columns → Row → Result DatedRow Fault
 dated_read today columns row =
     dates_read today columns row >>= λ dates. Ok (record { id = cell_in columns.ids row; dates = dates })
 
--- what a row adds: nothing, an absence, or an activity
+-- a row adds nothing, an absence, or an activity
 unfoldable pub row_read : Option ℕ → Columns → List Head → WeekRows → Row → Result WeekRows Fault
 row_read today columns heads read row =
     if is_passed columns row then Ok read
     else if is_absence columns.ids row then (absence_read columns heads row >>= λ absence. Ok (with_absence read absence))
     else dated_read today columns row >>= λ dated. Ok (with_row read dated)
 
--- what rows add, in order
+-- the contents of rows, added in order
 unfoldable pub rows_from : Option ℕ → Columns → List Head → WeekRows → List Row → Result WeekRows Fault
 rows_from today columns heads read [] = Ok read
 rows_from today columns heads read (row ∷ rows) = do

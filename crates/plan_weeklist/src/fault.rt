@@ -17,7 +17,8 @@ pub enum WeekCode {
     NoToday,
     /// T20: no whole number of at most 10,000,000.
     BadNumber,
-    /// T21: an appointment before its earliest start or before today, or a rest of what hasn't begun.
+    /// T21: an appointment before its earliest start or before today, or a remaining duration of an
+    /// activity that hasn't begun.
     Contradiction,
 }
 

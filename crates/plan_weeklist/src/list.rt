@@ -26,13 +26,13 @@ use std::alloc::{AllocError, Global};
 pub struct WeekList {
     /// The plain list in UTF-8; `None` if it is the list itself.
     pub plain: Option<Vec<u8>>,
-    /// What the rows say of the week.
+    /// The contents of the rows: dates and absences.
     pub rows: WeekRows,
 }
 
 impl WeekList {
-    /// Returns the text that plan_spreadsheet and plan_table read: the plain list, or `bytes`, which
-    /// are those of the file.
+    /// Returns the text that plan_spreadsheet and plan_table read: the plain list, or `bytes`, the
+    /// bytes of the file.
     pub fn text<'a>(&'a self, bytes: &'a [u8]) -> &'a [u8]
         ensures { result.now ≡ spec.text_of self.now bytes.now }
     {
@@ -197,8 +197,8 @@ fn list_of(
 /// planned, if it is known.
 ///
 /// A file that is no list of activities, and a list without dates, stays as it is: `plain` is
-/// `None`. Errors of the list itself are left to plan_spreadsheet and plan_table, which read the plain
-/// list: each row keeps its line.
+/// `None`. Errors of the list itself are left to plan_spreadsheet and plan_table, which read the
+/// plain list: each row keeps its line.
 pub fn read_week_list(
     alloc: Global,
     overrides: &[Override<'_>],

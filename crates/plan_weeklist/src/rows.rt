@@ -51,7 +51,7 @@ fn tells_absence(columns: &Columns, k: usize, head: &Head) -> bool
     same_kind(Column::Resource, head.column) && !has_dates(columns, k)
 }
 
-// What is absent, with what a row has in column `k`.
+// Adds the absence that a row has in column `k`.
 #[tactic(auto, unfolding(crate::specs::Rows::shortage_read))]
 fn read_shortage(
     alloc: Global,
@@ -75,7 +75,7 @@ fn read_shortage(
     Ok(())
 }
 
-// What is absent in all columns.
+// Returns the absences of a row in all columns.
 #[tactic(auto, unfolding(crate::specs::Rows::shortages_from))]
 fn read_shortages(
     alloc: Global,
@@ -137,7 +137,7 @@ fn dated_row(
     Ok(DatedRow { id, dates })
 }
 
-// What a row adds.
+// Adds the contents of a row.
 #[tactic(auto, unfolding(crate::specs::Rows::row_read))]
 fn read_row(
     alloc: Global,

@@ -34,7 +34,7 @@ IsPlanned goal week p = IsPlanFor week p goal p.lateness
 abbrev pub HasNoPlan : Week → Type 0
 HasNoPlan week = (starts : List ℕ) → IsWeekPlan week starts → ⊥
 
--- why there is no plan; nothing is claimed if none was found, or if memory ran out
+-- the reason for no plan; nothing is claimed if none was found, or if memory ran out
 abbrev pub IsNoPlan : ℕ → Week → PlanFault → Type 0
 IsNoPlan conflicts week faults.Memory = Unit {0}
 IsNoPlan conflicts week faults.BadConflicts = IsConflictLimit conflicts → ⊥

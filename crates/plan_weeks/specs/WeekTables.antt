@@ -29,13 +29,13 @@ places week = range_with_len 0 (length week.durations.items)
 abbrev pub lasts_of : Week → ℕ → ℕ
 lasts_of week k = get_or week.durations.items k 0
 
--- when an activity starts, or when it began; of what is done only the end is known
+-- the start of an activity, or the instant at which it began; empty if it is done
 abbrev pub start_cell : State → ℕ → Cell
 start_cell (Open earliest fixed) start = number start
 start_cell (Begun began remaining) start = number began
 start_cell (Done ended) start = empty
 
--- how late an activity is, in a plan of the least tardy
+-- the tardiness of an activity in the least tardy plan
 abbrev pub late_cells : Week → List ℕ → ℕ → Option Lateness → List Cell
 late_cells week starts k None = []
 late_cells week starts k (Some lateness) = number (tardiness_of week starts k) ∷ []
@@ -75,7 +75,7 @@ lines_above p None = bound_line p.lower p.makespan ∷ []
 lines_above p (Some lateness) =
     tardiness lateness.least lateness.late ∷ bound_line p.lower p.makespan ∷ []
 
--- how many activities are late
+-- the number of late activities
 abbrev pub late_count : Week → List ℕ → ℕ
 late_count week starts = length (filter (nat_lt 0) (map (tardiness_of week starts) (places week)))
 

@@ -23,8 +23,8 @@ pub enum Goal {
     Tardiness,
 }
 
-/// A number that no activity of a plan is later than, and a lower bound of the greatest tardiness
-/// of all plans.
+/// An upper bound of the tardiness of each activity of a plan, and a lower bound of the greatest
+/// tardiness of all plans.
 #[derive(Clone, Copy, Debug, Drop)]
 pub struct Lateness {
     pub late: u32,
@@ -169,8 +169,8 @@ fn plan_for<W: Watcher>(
 }
 
 /// Returns the plan of a week for a goal that a search with at most so many conflicts finds, and
-/// what it proves of all plans. For [`Goal::Tardiness`] there are two such searches, and no plan is
-/// found if a due date is after 1,000,000,000.
+/// the lower bound that it proves for all plans. For [`Goal::Tardiness`] there are two such
+/// searches, and no plan is found if a due date is after 1,000,000,000.
 pub fn plan_week<W: Watcher>(
     alloc: Global,
     goal: Goal,

@@ -146,8 +146,8 @@ fn below(alloc: Global, week: &Week, plan: &WeekPlan) -> Result<Vec<Line>, Alloc
 }
 
 /// Returns the table of a plan of a week: a row for each activity with its number (from 2 on), its
-/// duration, when it starts or began, and its end; for the least tardy plan also how late it is. Of
-/// what is done only the end is known.
+/// duration, its start or the instant at which it began, and its end. For the least tardy plan a
+/// row also has the tardiness. The start of a done activity is unknown.
 #[tactic(auto, unfolding(crate::specs::WeekTables::week_view))]
 pub fn week_view<'a>(alloc: Global, week: &Week, plan: &WeekPlan) -> Result<Table<'a>, AllocError>
     ensures { IfOk result (λ table. table_of table ≡ spec.week_view week.now plan.now) }

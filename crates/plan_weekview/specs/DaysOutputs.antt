@@ -73,7 +73,7 @@ TellsLateDay order calendar text line =
     (listed : ListedWeek) × (plan : WeekPlan) × IsPlanOfOrder order text listed plan
     × TellsBeyond calendar listed.week plan line
 
--- why there are no working days: an error of the list or of its week, or a day that is too late
+-- the errors: one of the list or of its week, or a day that is too late
 abbrev pub RefusesWeekDays : WeekOrder → Workdays → List ℕ → List ℕ → Type 0
 RefusesWeekDays order calendar text line =
     RefusesWeek order text line ⊎ TellsLateDay order calendar text line

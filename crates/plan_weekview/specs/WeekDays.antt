@@ -45,7 +45,7 @@ IsFirstDay calendar (Some begin) ends cell = IsDayIf calendar (nat_lt begin ends
 abbrev pub IsLastDay : Workdays → Option ℕ → ℕ → Cell → Type 0
 IsLastDay calendar begin ends cell = IsDayIf calendar (takes_time begin ends) (ends - 1) cell
 
--- how late an activity is, in a plan of the least tardy
+-- the tardiness of an activity in the least tardy plan
 abbrev pub late_in : Week → List ℕ → ℕ → Option Lateness → Option ℕ
 late_in week starts k None = None
 late_in week starts k (Some lateness) = Some (tardiness_of week starts k)

@@ -1,5 +1,5 @@
-//! `plan days --solve` for a list with dates: the working days of its plan; and a list with calendar
-//! dates as a list with instants.
+//! `plan days --solve` for a list with dates: the working days of its plan, and a list with
+//! calendar dates as a list with instants.
 #![tactic(auto)]
 
 mod cells;

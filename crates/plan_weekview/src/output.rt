@@ -46,8 +46,8 @@ fn plain_text<'a>(
     table_text(alloc, &table)
 }
 
-// Returns a table of working days with the names, the resources, the predecessors and the ids of the
-// activities.
+// Returns a table of working days with the names, the resources, the predecessors and the ids of
+// the activities.
 fn linked<'a>(
     alloc: Global,
     listed: &'a ListedWeek,
@@ -95,7 +95,8 @@ fn days_text<'a>(
     }
 }
 
-// Returns the text of the working days of a plan in a format, or the error of a day that is too late.
+// Returns the text of the working days of a plan in a format, or the error of a day that is too
+// late.
 #[tactic(auto, using(crate::proofs::OutputLemmas::beyond_told))]
 fn shown_days(
     alloc: Global,
@@ -116,8 +117,8 @@ fn shown_days(
 }
 
 /// Returns the text of the working days of a plan of a list with dates. The watcher is called
-/// during the searches, and can end them. Errors: those of [`plan_weekfile::week_output`], then `G3`
-/// (a day after 9999-12-31).
+/// during the searches, and can end them. Errors: those of [`plan_weekfile::week_output`], then
+/// `G3` (a day after 9999-12-31).
 #[tactic(auto, using(crate::proofs::OutputLemmas::list_refused, crate::proofs::OutputLemmas::plan_refused, crate::proofs::OutputLemmas::days_refused, crate::proofs::OutputLemmas::days_shown))]
 pub fn days_output<W: Watcher>(
     alloc: Global,

@@ -3,7 +3,7 @@ use Rattle.plan_table.specs.Predecessors.{label_of}
 use Rattle.plan_spreadsheet.specs.Waits.{links_of, wait_of, with_all, with_words}
 use Rattle.plan_spreadsheet.proofs.waits.push_words.Given as goal
 
--- what is left, behind the words so far, gives all words
+-- the words so far and those of the remaining links are all words
 abbrev pub invariant-loop-word : goal.invariant-loop-word
 invariant-loop-word l =
     with_words (map label_of l.labels) (links_of l.links) l.words

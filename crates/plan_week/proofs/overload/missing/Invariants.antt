@@ -3,7 +3,7 @@ use Rattle.std.specs.List.{sum_by}
 use Rattle.plan_kernel.specs.Plans.{taken_by}
 use Rattle.plan_week.proofs.overload.missing.Given as goal
 
--- what the absences so far take, which there is
+-- the total of the absences so far, which is within the capacity
 abbrev pub invariant-loop-absence : goal.invariant-loop-absence
 invariant-loop-absence l = record {
   sum : l.sum ≡ sum_by (taken_by l.instant l.resource) (take l.absence-index l.week.absences.items);
