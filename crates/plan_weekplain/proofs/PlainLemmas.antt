@@ -38,11 +38,12 @@ list_refused order text e told =
     refuses_as TellsNoList (RefusesPlainWeek order text) e (λ line tells. inr (inl tells)) told
 
 -- the error of a plain list
-pub plain_refused : (order : WeekOrder) (text list : List ℕ) (e : CliFault)
+pub plain_refused : (order : WeekOrder) (text made list : List ℕ) (listed : ListedWeek) (e : CliFault)
+    → IsWeekWith order.capacities.now order.today text listed → IsListToday order.today text listed made → made ≡ list
     → Refuses (TellsNoPlain (subject.Project order.capacities) list) e → Refuses (RefusesPlainWeek order text) e
-plain_refused order text list e told =
+plain_refused order text made list listed e week is same told =
     refuses_as (TellsNoPlain (subject.Project order.capacities) list) (RefusesPlainWeek order text) e
-    (λ line tells. inr (inr (list, tells))) told
+    (λ line tells. inr (inr (listed, list, week, subst (IsListToday order.today text listed) same is, tells))) told
 
 -- a plan as a plain list and its starts
 pub plain_made : (order : WeekOrder) (text : List ℕ) (made : PlainWeek) (listed : ListedWeek) (plan : WeekPlan) (starts list : List ℕ)
