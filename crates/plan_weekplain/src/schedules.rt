@@ -117,19 +117,21 @@ fn first_verdict(alloc: Global, project: &Plan<'_>, starts: &[u64]) -> Result<Ve
 
 // Returns the error of infeasible starts, for their verdict.
 fn infeasible(alloc: Global, project: &Plan<'_>, starts: &[u64], verdict: Verdict) -> CliFault
-    requires { IsFirstVerdict (problem_of project.now) starts.now verdict }
-    ensures { Refuses (spec.TellsNoSchedule project.now) result }
+    requires infeasible { IsFeasible (problem_of project.now) starts.now → ⊥ }
+    requires first { IsFirstVerdict (problem_of project.now) starts.now verdict }
+    ensures { Refuses (spec.TellsInfeasible (problem_of project.now) starts.now) result }
 {
     infeasible_refusal(alloc, verdict)
 }
 
 // Refuses starts that aren't feasible, with their first verdict.
-#[tactic(auto, using(crate::proofs::ScheduleLemmas::unlisted))]
+#[tactic(auto, using(crate::proofs::ScheduleLemmas::unlisted_starts))]
 fn check_feasible(alloc: Global, project: &Plan<'_>, starts: &[u64]) -> Result<(), CliFault>
     requires whole { length starts.now ≡ count_of project.now }
     requires limit { All IsInTime starts.now }
     ensures ok { IfOk result (λ _. IsFeasible (problem_of project.now) starts.now) }
-    ensures refused { IfErr result (Refuses (spec.TellsNoSchedule project.now)) }
+    ensures refused { IfErr result
+        (Refuses (spec.TellsInfeasible (problem_of project.now) starts.now)) }
 {
     let verdict = first_verdict(alloc, project, starts)?;
     match verdict {
@@ -141,7 +143,7 @@ fn check_feasible(alloc: Global, project: &Plan<'_>, starts: &[u64]) -> Result<(
 }
 
 // Refuses starts that aren't those of a plan, or aren't feasible.
-#[tactic(auto, using(crate::proofs::ScheduleLemmas::unlisted))]
+#[tactic(auto, using(crate::proofs::ScheduleLemmas::unlisted, crate::proofs::ScheduleLemmas::plan_infeasible))]
 fn check_starts(
     alloc: Global,
     week: &Week,
@@ -154,12 +156,14 @@ fn check_starts(
     ensures planned { IfOk result (λ _.
         starting.AreStartsIn week.now plan.now project.now starts.now) }
     ensures feasible { IfOk result (λ _. IsFeasible (problem_of project.now) starts.now) }
-    ensures refused { IfErr result (Refuses (spec.TellsNoSchedule project.now)) }
+    ensures refused { IfErr result
+        (Refuses (spec.TellsNoSchedule week.now plan.now project.now)) }
 {
     if !are_starts_in(week, plan, project, starts) {
         return Err(no_list(alloc));
     }
-    check_feasible(alloc, project, starts)
+    check_feasible(alloc, project, starts)?;
+    Ok(())
 }
 
 // Returns the starts of a plan in a text; no bytes for a job shop.
@@ -185,7 +189,8 @@ fn schedule_text(
 ) -> Result<Vec<u8>, CliFault>
     ensures schedule { IfOk result (λ text.
         spec.IsSchedule week.now plan.now project.now text.items) }
-    ensures refused { IfErr result (Refuses (spec.TellsNoSchedule project.now)) }
+    ensures refused { IfErr result
+        (Refuses (spec.TellsNoSchedule week.now plan.now project.now)) }
 {
     let text = text_for(alloc, week, plan, project)?;
     let starts = starts_of(alloc, project, &text)?;
@@ -203,8 +208,8 @@ fn file_schedule(
 ) -> Result<Vec<u8>, CliFault>
     ensures schedule { IfOk result (λ text. IsOfSubject subject.entry
         (spec.IsSchedule week.now plan.now) file.now text.items) }
-    ensures refused { IfErr result (Refuses
-        (RefusesSubject subject.entry spec.TellsNoSchedule file.now)) }
+    ensures refused { IfErr result (Refuses (RefusesSubject subject.entry
+        (spec.TellsNoSchedule week.now plan.now) file.now)) }
 {
     let document = read_document(alloc, subject, file)?;
     let project = plan_of(alloc, &document, file)?;
@@ -222,7 +227,8 @@ pub(crate) fn list_schedule(
 ) -> Result<Vec<u8>, CliFault>
     ensures schedule { IfOk result (λ text.
         spec.SchedulesList subject.entry week.now plan.now list.now text.items) }
-    ensures refused { IfErr result (Refuses (spec.TellsNoPlain subject.entry list.now)) }
+    ensures refused { IfErr result
+        (Refuses (spec.TellsNoPlain subject.entry week.now plan.now list.now)) }
 {
     let reading = readable(alloc, subject, list)?;
     file_schedule(alloc, week, plan, reading.subject, reading.text(list))
