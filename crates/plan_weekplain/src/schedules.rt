@@ -47,17 +47,26 @@ fn end_by(network: &Network, starts: &[u64], j: usize, arc: (u32, u32)) -> u64
     }
 }
 
+// Returns the greatest end of a predecessor of activity `j` by these arcs, 0 if there is none.
+fn latest_by(network: &Network, starts: &[u64], j: usize, arcs: &[(u32, u32)]) -> u64
+    requires whole { length starts.now ≡ networks.count_of network.now }
+    requires limit { All IsInTime starts.now }
+    ensures { result ≡ starting.latest_by network.now starts.now j arcs.now }
+{
+    let mut latest = 0;
+    for &arc in arcs {
+        latest = latest.max(end_by(network, starts, j, arc));
+    }
+    latest
+}
+
 // Returns the greatest end of a predecessor of activity `j`, 0 if there is none.
 fn latest_end(network: &Network, starts: &[u64], j: usize) -> u64
     requires whole { length starts.now ≡ networks.count_of network.now }
     requires limit { All IsInTime starts.now }
     ensures { result ≡ starting.latest_end network.now starts.now j }
 {
-    let mut latest = 0;
-    for &arc in network.arcs() {
-        latest = latest.max(end_by(network, starts, j, arc));
-    }
-    latest
+    latest_by(network, starts, j, network.arcs())
 }
 
 // Returns the start at a place: that of the plan, or the end of what a wait or a dummy waits for.
