@@ -2,4 +2,4 @@
 
 /// The digest of all sources of the program but this file, in hexadecimal digits, as
 /// `./release --digest` prints it.
-pub(crate) const SOURCES: &str = "f3310c4b7b83a20da1525229a1dcdc9a3a72acd28d42bf7ad4c4e5c2ed612973";
+pub(crate) const SOURCES: &str = "f77efc375d27e89811394dc15ac622db223550af0a7656e851317571ade440c4";
