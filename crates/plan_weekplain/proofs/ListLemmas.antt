@@ -5,6 +5,7 @@ use Rattle.plan_spreadsheet.specs.PlainLists as plain
 use Rattle.plan_spreadsheet.specs.Rows.{Spells}
 use Rattle.plan_table.specs.Csv.{Row}
 use Rattle.plan_table.specs.Table.{Activity}
+use Rattle.plan_week.specs.declared.week.Week.{Week}
 use Rattle.plan_weeklist.specs.Lists.{text_of}
 use Rattle.plan_weeklist.specs.declared.list.WeekList.{WeekList}
 use Rattle.plan_weeklist.specs.declared.listed.ListedWeek.{ListedWeek}
@@ -24,13 +25,14 @@ has_rows today text own read list p rows undated is plain_is same filled = recor
 
 -- a text is the plain list of a list from today on
 pub is_today : (today : Option ℕ) (text made : List ℕ) (listed : ListedWeek) (before given rows written : List Row) (activities : List Activity)
-    → HasRows today text before → AreRowsToday listed.week activities given rows → Spells made written
-    → given ≡ before → activities ≡ listed.table.activities → written ≡ rows → IsListToday today text listed made
-is_today today text made listed before given rows written activities has are spells same all kept = record {
+    (week : Week) → HasRows today text before → AreRowsToday week activities given rows → Spells made written
+    → given ≡ before → activities ≡ listed.table.activities → written ≡ rows → week ≡ listed.week → IsListToday today text listed made
+is_today today text made listed before given rows written activities week has are spells same all kept weeks = record {
   before = before;
   rows = rows;
   has = has;
   today_is = subst (λ (xs : List Row). AreRowsToday listed.week listed.table.activities xs rows) same
-      (subst (λ (xs : List Activity). AreRowsToday listed.week xs given rows) all are);
+      (subst (λ (xs : List Activity). AreRowsToday listed.week xs given rows) all
+      (subst (λ (w : Week). AreRowsToday w activities given rows) weeks are));
   spelled = subst (λ (xs : List Row). Spells made xs) kept spells;
 }

@@ -38,11 +38,16 @@ list_refused order text e told =
     refuses_as TellsNoList (RefusesPlainWeek order text) e (λ line tells. inr (inl tells)) told
 
 -- the error of a plain list
-pub plain_refused : (order : WeekOrder) (text list : List ℕ) (e : CliFault)
-    → Refuses (TellsNoPlain (subject.Project order.capacities) list) e → Refuses (RefusesPlainWeek order text) e
-plain_refused order text list e told =
-    refuses_as (TellsNoPlain (subject.Project order.capacities) list) (RefusesPlainWeek order text) e
-    (λ line tells. inr (inr (list, tells))) told
+pub plain_refused : (order : WeekOrder) (text made list starts : List ℕ) (listed : ListedWeek) (plan : WeekPlan) (e : CliFault)
+    → IsWeekWith order.capacities.now order.today text listed → IsPlanned (goal_or_makespan order.goal) listed.week plan
+    → IsListToday order.today text listed made
+    → Refuses (TellsNoPlain (subject.Project order.capacities) listed.week starts list) e
+    → starts ≡ plan.starts.items → list ≡ made → Refuses (RefusesPlainWeek order text) e
+plain_refused order text made list starts listed plan e week planned is told same all =
+    refuses_as (TellsNoPlain (subject.Project order.capacities) listed.week starts list) (RefusesPlainWeek order text) e
+    (λ line tells. inr (inr (listed, plan, made, week, planned, is,
+    subst (λ (xs : List ℕ). TellsNoPlain (subject.Project order.capacities) listed.week xs made line) same
+    (subst (λ (xs : List ℕ). TellsNoPlain (subject.Project order.capacities) listed.week starts xs line) all tells)))) told
 
 -- a plan as a plain list and its starts
 pub plain_made : (order : WeekOrder) (text : List ℕ) (made : PlainWeek) (listed : ListedWeek) (plan : WeekPlan) (starts list : List ℕ)

@@ -23,10 +23,17 @@ pub record IsPlainWeek (order : WeekOrder) (text : List ℕ) (made : PlainWeek) 
   pub starts : SchedulesList (subject.Project order.capacities) listed.week plan.starts.items
       made.list.items made.starts.items
 
+-- a line refuses the plain list of a list with dates: a command can't read it, or its starts
+abbrev pub RefusesPlainList : WeekOrder → List ℕ → List ℕ → Type 0
+RefusesPlainList order text line =
+    (listed : ListedWeek) × (plan : WeekPlan) × (list : List ℕ)
+    × IsWeekWith order.capacities.now order.today text listed
+    × IsPlanned (goal_or_makespan order.goal) listed.week plan
+    × IsListToday order.today text listed list
+    × TellsNoPlain (subject.Project order.capacities) listed.week plan.starts.items list line
+
 -- why there is no such list: an error of the list with dates or of its week, or the plain list
 -- can't be written, or it is refused
 abbrev pub RefusesPlainWeek : WeekOrder → List ℕ → List ℕ → Type 0
 RefusesPlainWeek order text line =
-    RefusesWeek order text line
-    ⊎ (TellsNoList line
-    ⊎ ((list : List ℕ) × TellsNoPlain (subject.Project order.capacities) list line))
+    RefusesWeek order text line ⊎ (TellsNoList line ⊎ RefusesPlainList order text line)

@@ -1,4 +1,4 @@
--- What a plan has left of the activities of a list.
+-- The rests of the activities of a list from today on.
 use Rattle.std.specs.Prelude.{ℕ, ◌+◌, ◌==◌, ◌&&◌, ◌||◌, Bool, true, false, if◌then◌else◌}
 use Rattle.std.specs.Prelude.{List, [], ◌∷◌, get_or, nat_lt}
 use Rattle.std.specs.List.{list_any}
@@ -20,7 +20,7 @@ abbrev pub lasts_of : Week → ℕ → ℕ
 lasts_of week k = get_or week.durations.items k 0
 
 -- how long activity k of a list lasts from today on. A wait, which isn't in the week, lasts as long
--- as its list says.
+-- as in its list.
 abbrev pub left_of : Week → ℕ → ℕ → ℕ
 left_of week k lasts =
     if nat_lt k (count_of week) then rest (lasts_of week k) (state_of week k) else lasts

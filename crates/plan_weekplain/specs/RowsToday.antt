@@ -1,4 +1,4 @@
--- The rows of a list from today on: what is left of its activities.
+-- The rows of a list from today on: the rests of its activities.
 use Rattle.std.specs.Prelude.{◌≡◌, ℕ, ◌+◌, ◌==◌, Bool, true, false, if◌then◌else◌, List, [], ◌∷◌}
 use Rattle.std.specs.Prelude.{◌++◌, Option, Result, Ok, Err, decimal, get_or, map, slice_index_or}
 use Rattle.plan_table.specs.Csv.{Row}
@@ -19,11 +19,11 @@ use Rattle.plan_weekplain.specs.Remaining.{is_done, is_left, left_of}
 abbrev pub duration_cell : ℕ → ℕ → List ℕ → List ℕ
 duration_cell left lasts cell = if left == lasts then cell else decimal left
 
--- only what is open has predecessors
+-- only an open activity has predecessors
 abbrev pub predecessors_cell : State → List ℕ → List ℕ
 predecessors_cell state cell = if is_open state then cell else []
 
--- what is done needs nothing
+-- a done activity needs nothing
 abbrev pub need_cell : State → List ℕ → List ℕ
 need_cell state cell = if is_done state then [] else cell
 

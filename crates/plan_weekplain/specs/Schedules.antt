@@ -30,19 +30,31 @@ SchedulesList of week plan list text =
 
 -- ---- errors
 
--- a line gives the first verdict on some starts
-abbrev pub TellsVerdict : Problem → List ℕ → Type 0
-TellsVerdict problem line =
-    (starts : List ℕ) × (verdict : Verdict) × IsFirstVerdict problem starts verdict
-    × (line ≡ infeasible_line (sentence_of verdict))
+-- a line gives the first verdict on starts that aren't feasible
+pub record TellsVerdict (problem : Problem) (starts line : List ℕ) : Type 0 where
+  pub infeasible : IsFeasible problem starts → ⊥
+  pub verdict : Verdict
+  pub first : IsFirstVerdict problem starts verdict
+  pub told : line ≡ infeasible_line (sentence_of verdict)
+
+-- a line refuses starts that aren't feasible, or there is no plain list
+abbrev pub TellsInfeasible : Problem → List ℕ → List ℕ → Type 0
+TellsInfeasible problem starts line = TellsNoList line ⊎ TellsVerdict problem starts line
+
+-- a line gives the first verdict on the starts of a plan, which aren't feasible
+abbrev pub TellsPlanVerdict : Week → List ℕ → Plan → List ℕ → Type 0
+TellsPlanVerdict week plan project line =
+    (starts : List ℕ) × AreStartsIn week plan project starts
+    × TellsVerdict (problem_of project) starts line
 
 -- a line refuses the starts of a plan as those of a project
-abbrev pub TellsNoSchedule : Plan → List ℕ → Type 0
-TellsNoSchedule project line =
+abbrev pub TellsNoSchedule : Week → List ℕ → Plan → List ℕ → Type 0
+TellsNoSchedule week plan project line =
     TellsNoList line
     ⊎ (((text : List ℕ) × TellsNoStarts (sheet_of project) text line)
-    ⊎ TellsVerdict (problem_of project) line)
+    ⊎ TellsPlanVerdict week plan project line)
 
--- a line refuses a plain list: a command can't read it, or it can't read the starts
-abbrev pub TellsNoPlain : Subject → List ℕ → List ℕ → Type 0
-TellsNoPlain of list line = RefusesAs of list (λ s. RefusesSubject s TellsNoSchedule) line
+-- a line refuses a plain list: a command can't read it, or it can't read the starts of a plan
+abbrev pub TellsNoPlain : Subject → Week → List ℕ → List ℕ → List ℕ → Type 0
+TellsNoPlain of week plan list line =
+    RefusesAs of list (λ s. RefusesSubject s (TellsNoSchedule week plan)) line

@@ -18,10 +18,13 @@ abbrev pub end_by : Net → List ℕ → ℕ → ℕ × ℕ → ℕ
 end_by net starts j arc =
     if is_into j starts arc then get_or starts (arc.0 - 1) 0 + duration_of net arc.0 else 0
 
--- the greatest end of a predecessor of activity j, 0 if there is none
+-- the greatest end of a predecessor of activity j by some arcs, 0 if there is none
+abbrev pub latest_by : Net → List ℕ → ℕ → List (ℕ × ℕ) → ℕ
+latest_by net starts j arcs =
+    greatest_below (length arcs) (λ k. end_by net starts j (get_or arcs k (0, 0)))
+
 abbrev pub latest_end : Net → List ℕ → ℕ → ℕ
-latest_end net starts j =
-    greatest_below (length net.arcs) (λ k. end_by net starts j (get_or net.arcs k (0, 0)))
+latest_end net starts j = latest_by net starts j net.arcs
 
 -- the activity at place x of a project is one of the week: the project begins with a dummy, and the
 -- waits and another dummy are behind the week

@@ -9,7 +9,7 @@ use plan_table::Column;
 use plan_week::State;
 use std::alloc::{AllocError, Global};
 
-/// What is left of an activity: its state, how long it lasts from today on, and how long in whole.
+/// The rest of an activity: its state, how long it lasts from today on, and how long in whole.
 #[derive(Clone, Copy)]
 pub(crate) struct Left {
     pub(crate) state: State,
@@ -24,7 +24,7 @@ fn digits_of(alloc: Global, number: u32) -> Result<Vec<u8>, AllocError>
     Ok(number.to_string(alloc)?.into_bytes())
 }
 
-// Returns the cell of a duration: what is left, unless the cell has it already.
+// Returns the cell of a duration: the rest, unless the cell has it already.
 fn duration_cell(alloc: Global, of: Left, cell: &[u8]) -> Result<Vec<u8>, AllocError>
     ensures { IfOk result (λ made. made.items ≡ spec.duration_cell of.left of.lasts cell.now) }
 {

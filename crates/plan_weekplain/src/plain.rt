@@ -16,11 +16,11 @@ use std::alloc::Global;
 /// The plan of a list with dates as other commands read it.
 #[derive(Drop)]
 pub struct PlainWeek {
-    /// The text of a plain list: begun work lasts for what remains of it, what is done takes no time
-    /// and needs nothing, and both have no predecessors.
+    /// The text of a plain list: begun work lasts for what remains of it, a done activity takes no
+    /// time and needs nothing, and both have no predecessors.
     pub list: Vec<u8>,
     /// The starts of all activities of that list, as `--starts` reads them: begun work starts today,
-    /// what is done at its end.
+    /// a done activity at its end.
     pub starts: Vec<u8>,
 }
 

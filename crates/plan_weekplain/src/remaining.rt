@@ -1,4 +1,4 @@
-//! What a plan has left of the activities of a list.
+//! The rests of the activities of a list from today on.
 
 ghost use Rattle.std.specs.Prelude.{◌≡◌, ◌<◌, ◌^◌, ◌==◌, length, map};
 ghost use Rattle.std.specs.List.{list_any};
@@ -31,7 +31,7 @@ pub(crate) fn is_done(state: State) -> bool
     }
 }
 
-// How long an activity lasts from today on.
+// Returns how long an activity lasts from today on.
 fn rest(duration: u32, state: State) -> u32
     ensures { result ≡ weeks.rest duration state }
 {
@@ -42,8 +42,8 @@ fn rest(duration: u32, state: State) -> u32
     }
 }
 
-/// Returns how long activity `k` of a list lasts from today on. A wait lasts as long as its list
-/// says.
+/// Returns how long activity `k` of a list lasts from today on. A wait lasts as long as in its
+/// list.
 pub(crate) fn left_of(week: &Week, k: usize, lasts: u32) -> u32
     ensures { result ≡ spec.left_of week.now k lasts }
 {

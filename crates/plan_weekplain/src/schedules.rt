@@ -47,17 +47,26 @@ fn end_by(network: &Network, starts: &[u64], j: usize, arc: (u32, u32)) -> u64
     }
 }
 
+// Returns the greatest end of a predecessor of activity `j` by these arcs, 0 if there is none.
+fn latest_by(network: &Network, starts: &[u64], j: usize, arcs: &[(u32, u32)]) -> u64
+    requires whole { length starts.now ≡ networks.count_of network.now }
+    requires limit { All IsInTime starts.now }
+    ensures { result ≡ starting.latest_by network.now starts.now j arcs.now }
+{
+    let mut latest = 0;
+    for &arc in arcs {
+        latest = latest.max(end_by(network, starts, j, arc));
+    }
+    latest
+}
+
 // Returns the greatest end of a predecessor of activity `j`, 0 if there is none.
 fn latest_end(network: &Network, starts: &[u64], j: usize) -> u64
     requires whole { length starts.now ≡ networks.count_of network.now }
     requires limit { All IsInTime starts.now }
     ensures { result ≡ starting.latest_end network.now starts.now j }
 {
-    let mut latest = 0;
-    for &arc in network.arcs() {
-        latest = latest.max(end_by(network, starts, j, arc));
-    }
-    latest
+    latest_by(network, starts, j, network.arcs())
 }
 
 // Returns the start at a place: that of the plan, or the end of what a wait or a dummy waits for.
@@ -117,19 +126,21 @@ fn first_verdict(alloc: Global, project: &Plan<'_>, starts: &[u64]) -> Result<Ve
 
 // Returns the error of infeasible starts, for their verdict.
 fn infeasible(alloc: Global, project: &Plan<'_>, starts: &[u64], verdict: Verdict) -> CliFault
-    requires { IsFirstVerdict (problem_of project.now) starts.now verdict }
-    ensures { Refuses (spec.TellsNoSchedule project.now) result }
+    requires infeasible { IsFeasible (problem_of project.now) starts.now → ⊥ }
+    requires first { IsFirstVerdict (problem_of project.now) starts.now verdict }
+    ensures { Refuses (spec.TellsInfeasible (problem_of project.now) starts.now) result }
 {
     infeasible_refusal(alloc, verdict)
 }
 
 // Refuses starts that aren't feasible, with their first verdict.
-#[tactic(auto, using(crate::proofs::ScheduleLemmas::unlisted))]
+#[tactic(auto, using(crate::proofs::ScheduleLemmas::unlisted_starts))]
 fn check_feasible(alloc: Global, project: &Plan<'_>, starts: &[u64]) -> Result<(), CliFault>
     requires whole { length starts.now ≡ count_of project.now }
     requires limit { All IsInTime starts.now }
     ensures ok { IfOk result (λ _. IsFeasible (problem_of project.now) starts.now) }
-    ensures refused { IfErr result (Refuses (spec.TellsNoSchedule project.now)) }
+    ensures refused { IfErr result
+        (Refuses (spec.TellsInfeasible (problem_of project.now) starts.now)) }
 {
     let verdict = first_verdict(alloc, project, starts)?;
     match verdict {
@@ -141,7 +152,7 @@ fn check_feasible(alloc: Global, project: &Plan<'_>, starts: &[u64]) -> Result<(
 }
 
 // Refuses starts that aren't those of a plan, or aren't feasible.
-#[tactic(auto, using(crate::proofs::ScheduleLemmas::unlisted))]
+#[tactic(auto, using(crate::proofs::ScheduleLemmas::unlisted, crate::proofs::ScheduleLemmas::plan_infeasible))]
 fn check_starts(
     alloc: Global,
     week: &Week,
@@ -154,12 +165,14 @@ fn check_starts(
     ensures planned { IfOk result (λ _.
         starting.AreStartsIn week.now plan.now project.now starts.now) }
     ensures feasible { IfOk result (λ _. IsFeasible (problem_of project.now) starts.now) }
-    ensures refused { IfErr result (Refuses (spec.TellsNoSchedule project.now)) }
+    ensures refused { IfErr result
+        (Refuses (spec.TellsNoSchedule week.now plan.now project.now)) }
 {
     if !are_starts_in(week, plan, project, starts) {
         return Err(no_list(alloc));
     }
-    check_feasible(alloc, project, starts)
+    check_feasible(alloc, project, starts)?;
+    Ok(())
 }
 
 // Returns the starts of a plan in a text; no bytes for a job shop.
@@ -185,7 +198,8 @@ fn schedule_text(
 ) -> Result<Vec<u8>, CliFault>
     ensures schedule { IfOk result (λ text.
         spec.IsSchedule week.now plan.now project.now text.items) }
-    ensures refused { IfErr result (Refuses (spec.TellsNoSchedule project.now)) }
+    ensures refused { IfErr result
+        (Refuses (spec.TellsNoSchedule week.now plan.now project.now)) }
 {
     let text = text_for(alloc, week, plan, project)?;
     let starts = starts_of(alloc, project, &text)?;
@@ -203,8 +217,8 @@ fn file_schedule(
 ) -> Result<Vec<u8>, CliFault>
     ensures schedule { IfOk result (λ text. IsOfSubject subject.entry
         (spec.IsSchedule week.now plan.now) file.now text.items) }
-    ensures refused { IfErr result (Refuses
-        (RefusesSubject subject.entry spec.TellsNoSchedule file.now)) }
+    ensures refused { IfErr result (Refuses (RefusesSubject subject.entry
+        (spec.TellsNoSchedule week.now plan.now) file.now)) }
 {
     let document = read_document(alloc, subject, file)?;
     let project = plan_of(alloc, &document, file)?;
@@ -222,7 +236,8 @@ pub(crate) fn list_schedule(
 ) -> Result<Vec<u8>, CliFault>
     ensures schedule { IfOk result (λ text.
         spec.SchedulesList subject.entry week.now plan.now list.now text.items) }
-    ensures refused { IfErr result (Refuses (spec.TellsNoPlain subject.entry list.now)) }
+    ensures refused { IfErr result
+        (Refuses (spec.TellsNoPlain subject.entry week.now plan.now list.now)) }
 {
     let reading = readable(alloc, subject, list)?;
     file_schedule(alloc, week, plan, reading.subject, reading.text(list))

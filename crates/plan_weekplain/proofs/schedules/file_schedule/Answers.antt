@@ -10,13 +10,13 @@ pub returns-in_err-document-clause-refused : goal.returns-in_err-document-clause
 returns-in_err-document-clause-refused c =
     let a = c.args in
     let error = err_from_is_err_and c.from_residual.result c.from_residual.ensures.1 in
-    rw (error.1, error.2) (no_document a.subject a.file.now TellsNoSchedule c.in_err-document.field-0.0 c.in_err-document.ensures.refused)
+    rw (error.1, error.2) (no_document a.subject a.file.now (TellsNoSchedule a.week.now a.plan.now) c.in_err-document.field-0.0 c.in_err-document.ensures.refused)
 
 pub returns-in_err-project-clause-refused : goal.returns-in_err-project-clause-refused
 returns-in_err-project-clause-refused c =
     let a = c.args in
     let error = err_from_is_err_and c.from_residual-in_err-project.result c.from_residual-in_err-project.ensures.1 in
-    rw (error.1, error.2) (no_plan a.subject a.file.now c.in_ok-document.document TellsNoSchedule
+    rw (error.1, error.2) (no_plan a.subject a.file.now c.in_ok-document.document (TellsNoSchedule a.week.now a.plan.now)
     c.in_err-project.field-0.0 c.in_ok-document.ensures.read c.in_err-project.ensures.refused)
 
 pub returns-clause-schedule : goal.returns-clause-schedule
@@ -30,7 +30,7 @@ returns-clause-schedule c =
 pub returns-clause-refused : goal.returns-clause-refused
 returns-clause-refused c =
     let a = c.args in
-    if_err_weaker c.schedule_text.result (Refuses (TellsNoSchedule c.in_ok-project.project))
-    (Refuses (RefusesSubject a.subject TellsNoSchedule a.file.now))
-    (λ e refused. no_text a.subject a.file.now c.in_ok-document.document c.in_ok-project.project TellsNoSchedule
+    if_err_weaker c.schedule_text.result (Refuses (TellsNoSchedule a.week.now a.plan.now c.in_ok-project.project))
+    (Refuses (RefusesSubject a.subject (TellsNoSchedule a.week.now a.plan.now) a.file.now))
+    (λ e refused. no_text a.subject a.file.now c.in_ok-document.document c.in_ok-project.project (TellsNoSchedule a.week.now a.plan.now)
     e c.in_ok-document.ensures.read c.in_ok-project.ensures.plan c.in_ok-project.ensures.fit refused) c.schedule_text.ensures.refused

@@ -21,14 +21,14 @@ pub returns-clause-refused : goal.returns-clause-refused
 returns-clause-refused c =
     let a = c.args in
     let read = c.in_ok-reading.reading in
-    if_err_weaker c.file_schedule.result (Refuses (RefusesSubject read.subject TellsNoSchedule c.text.result.now))
-    (Refuses (TellsNoPlain a.subject a.list.now))
-    (λ e told. read_refused a.subject a.list.now (λ s. RefusesSubject s TellsNoSchedule) read.kind read.subject (text_of read.made a.list.now)
+    if_err_weaker c.file_schedule.result (Refuses (RefusesSubject read.subject (TellsNoSchedule a.week.now a.plan.now) c.text.result.now))
+    (Refuses (TellsNoPlain a.subject a.week.now a.plan.now a.list.now))
+    (λ e told. read_refused a.subject a.list.now (λ s. RefusesSubject s (TellsNoSchedule a.week.now a.plan.now)) read.kind read.subject (text_of read.made a.list.now)
     c.text.result.now e c.in_ok-reading.ensures.read c.text.ensures told) c.file_schedule.ensures.refused
 
 pub returns-in_err-reading-clause-refused : goal.returns-in_err-reading-clause-refused
 returns-in_err-reading-clause-refused c =
     let a = c.args in
     let error = err_from_is_err_and c.from_residual.result c.from_residual.ensures.1 in
-    rw (error.1, error.2) (reading_refused a.subject a.list.now (λ s. RefusesSubject s TellsNoSchedule)
+    rw (error.1, error.2) (reading_refused a.subject a.list.now (λ s. RefusesSubject s (TellsNoSchedule a.week.now a.plan.now))
     c.in_err-reading.field-0.0 c.in_err-reading.ensures.refused)
