@@ -16,6 +16,7 @@ use plan_weeks::planned;
 use std::alloc::{AllocError, Global};
 
 // Returns a network of activities with these durations and without arcs, between a begin and an end.
+#[tactic(auto, using(crate::proofs::StartLemmas::above_limit))]
 fn network_of(alloc: Global, durations: &[u32]) -> Result<Network, CliFault>
     ensures network { IfOk result (λ net. net ≡ spec.network_of durations.now) }
     ensures refused { IfErr result (Refuses (spec.TellsAboveLimit durations.now)) }
@@ -54,6 +55,7 @@ fn open_text(alloc: Global, listed: &ListedWeek, text: &[u8]) -> Result<Vec<u8>,
 }
 
 // Reads the starts of the activities that are open, which have these durations.
+#[tactic(auto, using(crate::proofs::StartLemmas::said_open, crate::proofs::StartLemmas::told_open, crate::proofs::StartLemmas::tells_limit))]
 fn read_open(
     alloc: Global,
     listed: &ListedWeek,
@@ -76,6 +78,7 @@ fn read_open(
 
 /// Reads the starts of the activities that are open, one after another. If none is open, the text
 /// isn't read. Errors: `T12` (a limit), and those of a text of starts.
+#[tactic(auto, using(crate::proofs::StartLemmas::says_some, crate::proofs::StartLemmas::says_none, crate::proofs::StartLemmas::tells_some))]
 pub(crate) fn read_open_starts(
     alloc: Global,
     listed: &ListedWeek,
