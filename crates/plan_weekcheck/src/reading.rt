@@ -34,13 +34,10 @@ fn inner(alloc: Global, all: &[u64]) -> Result<Vec<u32>, AllocError>
     ensures { IfOk result (λ starts. starts.items ≡ spec.inner all.now) }
 {
     let mut starts = Vec::new(alloc);
-    let [_, rest @ ..] = all else {
+    if all.len() < 2 {
         return Ok(starts);
-    };
-    let [given @ .., _] = rest else {
-        return Ok(starts);
-    };
-    for &start in given {
+    }
+    for &start in &all[1..all.len() - 1] {
         starts.push(start as u32)?;
     }
     Ok(starts)
