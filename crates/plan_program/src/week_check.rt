@@ -54,7 +54,15 @@ fn do_plain_check(
         starts: check.starts,
         subject: check.subject,
     };
-    do_plain(rt, check.options, task, check.rows, line, &mut Unlogged, file)?;
+    do_plain(
+        rt,
+        check.options,
+        task,
+        check.rows,
+        line,
+        &mut Unlogged,
+        file,
+    )?;
     Ok(Status::Done)
 }
 
