@@ -36,7 +36,8 @@ fn push_line(
     if !is_left_out(alloc, ids, line)? {
         text.extend_from_slice(line)?;
     }
-    text.push(b'\n')
+    text.push(b'\n')?;
+    Ok(())
 }
 
 // Returns the kept lines of a text.
