@@ -29,6 +29,7 @@ fn network_of(alloc: Global, durations: &[u32]) -> Result<Network, CliFault>
 }
 
 // Returns the numbers between the first and the last.
+#[tactic(auto, using(crate::proofs::StartLemmas::inner_early))]
 fn inner(alloc: Global, all: &[u64]) -> Result<Vec<u32>, AllocError>
     requires { All IsInTime all.now }
     ensures { IfOk result (λ starts. starts.items ≡ spec.inner all.now) }
