@@ -59,7 +59,7 @@ fn task_context<'a>(task: Task<'a>, file: &'a str) -> Context<'a> {
     }
 }
 
-// Returns a context with the dates and the holidays of `solve` or `chart`, if they are given.
+// Returns a context with the dates and the holidays of a list with dates, if they are given.
 fn week_context<'a>(context: Context<'a>, week: &WeekWords<'a>) -> Context<'a> {
     match week.dates {
         Some(dates) => with_dates(
@@ -79,6 +79,15 @@ fn with_week<'a>(context: Context<'a>, week: Option<WeekWords<'a>>) -> Context<'
         Some(week) => week_context(context, &week),
         None => context,
     }
+}
+
+// Returns the context of a check of the starts in a file.
+fn check_context<'a>(file: &'a str, starts: &'a str, week: &WeekWords<'a>) -> Context<'a> {
+    let context = Context {
+        starts: Some(starts),
+        ..file_context(file)
+    };
+    week_context(context, week)
 }
 
 // Returns a context with a text in a file of its own.
@@ -196,10 +205,12 @@ impl<'a> FileOrder<'a> {
                 week,
                 ..
             } => with_week(texts_context(task, file, texts), week),
-            FileOrder::Check { file, starts, .. } => Context {
-                starts: Some(starts),
-                ..file_context(file)
-            },
+            FileOrder::Check {
+                file,
+                starts,
+                week,
+                ..
+            } => check_context(file, starts, &week),
             FileOrder::Verify { file, log, .. } => Context {
                 log: Some(log),
                 ..file_context(file)

@@ -29,7 +29,7 @@ pub struct WeekWords<'a> {
     pub now: Option<Now<'a>>,
     /// The goal, if it is given.
     pub goal: Option<Goal>,
-    /// The dates of the calendar of `solve` or `chart`, without holidays, if they are given.
+    /// The dates of the calendar of `solve`, `chart` or `check`, without holidays, if they are given.
     pub dates: Option<Dates<'a>>,
     /// The name of the file of holidays of this calendar, if it is given.
     pub holidays: Option<&'a str>,
@@ -62,11 +62,15 @@ pub enum FileOrder<'a> {
         /// The options of a list with dates, if the task shows the best schedule.
         week: Option<WeekWords<'a>>,
     },
-    /// A check of the starts in a file. The verdict decides the status.
+    /// A check of the starts in a file.
     Check {
         subject: Subject<'a>,
         file: &'a str,
         starts: &'a str,
+        /// Whether the verdict decides the status.
+        has_status: bool,
+        /// The options of a list with dates.
+        week: WeekWords<'a>,
     },
     /// A check of the log of a search. The problem is the project in a file, or an instance of a
     /// job shop file.
@@ -126,18 +130,28 @@ fn week_input(file: &str, week: WeekWords<'_>) -> Option<(&'static str, &'static
     }
 }
 
+// Returns the names of two arguments that are standard input, if there are two of the file, the starts
+// and the holidays.
+fn named_input(
+    file: &str,
+    starts: &str,
+    holidays: Option<&str>,
+) -> Option<(&'static str, &'static str)> {
+    match (file, starts, holidays) {
+        ("-", "-", _) => Some(("FILE", "STARTS")),
+        (_, "-", Some("-")) => Some(("STARTS", "HOLIDAYS")),
+        ("-", _, Some("-")) => Some(("FILE", "HOLIDAYS")),
+        _ => None,
+    }
+}
+
 // Returns the names of two arguments of a print that are standard input, if there are two.
 fn print_input(print: &Print<'_>) -> Option<(&'static str, &'static str)> {
     let starts = match print.origin {
         NamedOrigin::Starts(name) => name,
         NamedOrigin::Rule(_) | NamedOrigin::Default | NamedOrigin::Solved { .. } => "",
     };
-    match (print.file, starts, print.holidays) {
-        ("-", "-", _) => Some(("FILE", "STARTS")),
-        (_, "-", Some("-")) => Some(("STARTS", "HOLIDAYS")),
-        ("-", _, Some("-")) => Some(("FILE", "HOLIDAYS")),
-        _ => None,
-    }
+    named_input(print.file, starts, print.holidays)
 }
 
 impl<'a> FileOrder<'a> {
@@ -163,10 +177,11 @@ impl<'a> FileOrder<'a> {
             FileOrder::Print(print, _, _) => print_input(&print),
             FileOrder::Texts { file, texts, .. } => texts_input(file, texts),
             FileOrder::Check {
-                file: "-",
-                starts: "-",
+                file,
+                starts,
+                week,
                 ..
-            } => Some(("FILE", "STARTS")),
+            } => named_input(file, starts, week.holidays),
             FileOrder::Verify {
                 file: "-",
                 log: "-",
@@ -397,8 +412,8 @@ fn goal_of(name: &str) -> Option<Goal> {
     }
 }
 
-// Returns the options of a list with dates, of which `dates` are those of the calendar of `solve`
-// or `chart`.
+// Returns the options of a list with dates, of which `dates` are those of the calendar of `solve`,
+// `chart` or `check`.
 fn week_words<'a>(arguments: &'a ArgMatches<'_>, dates: Option<Dates<'a>>) -> WeekWords<'a> {
     WeekWords {
         now: arguments.get_str("now").and_then(now_of),
@@ -411,8 +426,8 @@ fn week_words<'a>(arguments: &'a ArgMatches<'_>, dates: Option<Dates<'a>>) -> We
     }
 }
 
-// Returns the dates of `solve` or `chart`, without holidays.
-fn solve_dates<'a>(arguments: &'a ArgMatches<'_>) -> Option<Dates<'a>> {
+// Returns the dates of `solve`, `chart` or `check`, without holidays.
+fn calendar_dates<'a>(arguments: &'a ArgMatches<'_>) -> Option<Dates<'a>> {
     Some(dates_of(arguments.get_str("start")?, arguments.get_str("days")?))
 }
 
@@ -430,7 +445,7 @@ fn solve_order<'a>(arguments: &'a ArgMatches<'_>, lists: Lists<'a>) -> Option<Fi
         file: arguments.get_str("FILE")?,
         seconds: limit,
         log: arguments.get_str("log"),
-        week: week_words(arguments, solve_dates(arguments)),
+        week: week_words(arguments, calendar_dates(arguments)),
     })
 }
 
@@ -535,7 +550,7 @@ pub fn overrides_of<'a>(
 // Returns the arguments of a command with names of texts, and the roles of the texts.
 fn text_arguments(command: &str) -> &'static [(&'static str, Role)] {
     match command {
-        "check" | "slack" => &[("STARTS", Role::Starts)],
+        "slack" => &[("STARTS", Role::Starts)],
         "compare" => &[
             ("old", Role::Old),
             ("STARTS_A", Role::StartsA),
@@ -701,7 +716,7 @@ fn chart_order<'a>(arguments: &'a ArgMatches<'_>, lists: Lists<'a>) -> Option<Fi
         origin: origin_of(words.origin),
         subject: subject_of(words.instance, lists.capacities),
     };
-    let week = solved_week(arguments, solve_dates(arguments));
+    let week = solved_week(arguments, calendar_dates(arguments));
     Some(searched_order(arguments, task, words.file, lists.texts, week))
 }
 
@@ -759,18 +774,13 @@ fn days_order<'a>(arguments: &'a ArgMatches<'_>, lists: Lists<'a>) -> Option<Fil
 
 // Returns the order of `check`, which has no capacities.
 fn check_order<'a>(arguments: &'a ArgMatches<'_>, lists: Lists<'a>) -> Option<FileOrder<'a>> {
-    let subject = subject_of(arguments.get_str("INSTANCE"), lists.capacities);
-    let file = arguments.get_str("FILE")?;
-    if arguments.get_flag("status") {
-        let starts = arguments.get_str("STARTS")?;
-        return Some(FileOrder::Check {
-            subject,
-            file,
-            starts,
-        });
-    }
-    let starts: &[u8] = &[];
-    Some(texts_order(Task::Check { starts, subject }, file, lists.texts))
+    Some(FileOrder::Check {
+        subject: subject_of(arguments.get_str("INSTANCE"), lists.capacities),
+        file: arguments.get_str("FILE")?,
+        starts: arguments.get_str("STARTS")?,
+        has_status: arguments.get_flag("status"),
+        week: week_words(arguments, calendar_dates(arguments)),
+    })
 }
 
 // Returns the order of `verify`.
@@ -951,7 +961,7 @@ fn print_order<'a>(
 // Returns the options of a list with dates of a command that prints a sheet.
 fn print_week<'a>(name: &str, arguments: &'a ArgMatches<'_>) -> Option<WeekWords<'a>> {
     match name {
-        "chart" => solved_week(arguments, solve_dates(arguments)),
+        "chart" => solved_week(arguments, calendar_dates(arguments)),
         _ => solved_week(arguments, None),
     }
 }

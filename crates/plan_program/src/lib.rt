@@ -14,6 +14,7 @@ mod progress;
 mod read_input;
 mod status;
 mod verification;
+mod week_check;
 mod week_days;
 mod week_drawings;
 mod weeks;

@@ -185,7 +185,9 @@ pub(crate) fn do_chart_file(
     match chart_order(task, rows, words, today) {
         Some(order) => {
             let calendar = calendar.as_ref();
-            draw_read(rt, options, task, rows, &order, words, calendar, line, &file)
+            draw_read(
+                rt, options, task, rows, &order, words, calendar, line, &file,
+            )
         }
         None => {
             check_unasked(rt, words)?;

@@ -1,5 +1,7 @@
 -- The starts of the activities that are open, and their errors.
-use Rattle.std.proofs.Common.{◌≡◌, ◌<◌, ◌≤◌, ℕ, List, [], ◌∷◌, inl, inr, length, refl, subst, sym, arith}
+use Rattle.std.proofs.Common.{◌≡◌, ◌<◌, ◌≤◌, ℕ, List, [], ◌∷◌, inl, inr, drop, length, refl, subst, sym, take, arith}
+use Rattle.std.specs.List.{All}
+use Rattle.std.proofs.lemmas.List.Elements.{All-drop, All-take}
 use Rattle.plan_documents.proofs.ErrorLemmas.{refuses_as}
 use Rattle.plan_documents.proofs.StartLemmas.{told_no_starts}
 use Rattle.plan_documents.specs.Starts.{IsStartsError, TellsNoStarts}
@@ -8,6 +10,7 @@ use Rattle.plan_errors.specs.Output.{Refuses}
 use Rattle.plan_net.specs.Network.{Net}
 use Rattle.plan_net.specs.declared.fault.NetFault.{NetFault}
 use Rattle.plan_net.specs.Refusals.{IsFirstFault}
+use Rattle.plan_profile.specs.Usage.{IsInTime}
 use Rattle.plan_psplib.specs.Tokens.{Fails}
 use Rattle.plan_psplib.specs.declared.text.fault.ReadError.{ReadError}
 use Rattle.plan_report.specs.IdSheets.{id_sheet}
@@ -16,6 +19,10 @@ use Rattle.plan_table.specs.Names.{Name}
 use Rattle.plan_weekcheck.specs.Opened.{open_durations, open_ids}
 use Rattle.plan_weekcheck.specs.Starts.{SaysOpen, SaysFor, SaysOpenStarts, TellsLimit, TellsAboveLimit, TellsNoOpen, TellsNoOpenStarts, activities_of, inner, network_of, open_sheet, open_text}
 use Rattle.plan_weeklist.specs.declared.listed.ListedWeek.{ListedWeek}
+
+-- numbers between the first and the last are in time if all are
+pub inner_early : (all : List ℕ) (n : ℕ) → All IsInTime all → All IsInTime (take n (drop 1 all))
+inner_early all n early = All-take IsInTime n (drop 1 all) (All-drop IsInTime 1 all early)
 
 -- some activity is open
 says_for : (listed : ListedWeek) (durations text starts : List ℕ) → 0 < length durations → SaysOpen listed durations text starts → SaysFor listed durations text starts

@@ -2,9 +2,10 @@
 use Rattle.std.specs.Prelude.{ℕ, Bool, true, false, ◌&&◌, ◌||◌, if◌then◌else◌, bytes_eq, codes}
 use Rattle.std.specs.Prelude.{List, [], ◌∷◌, ◌++◌}
 use Rattle.std.specs.List.{flat_map, list_any, slice_split}
+use Rattle.plan_documents.specs.Spreadsheets.{is_short}
 use Rattle.plan_psplib.specs.Lines.{NumberedLine, lines, words}
-use Rattle.plan_report.specs.IdRows.{has_id, is_id_head}
-use Rattle.plan_report.specs.StartsText.{is_separator}
+use Rattle.plan_report.specs.IdRows.{has_id}
+use Rattle.plan_report.specs.StartsText.{is_separator, without_mark}
 use Rattle.plan_report.specs.declared.starts.Form.{Form}
 use Rattle.plan_report.specs.declared.starts.Form.TheVariants as forms
 
@@ -20,7 +21,13 @@ abbrev pub is_row_among : List (List ℕ) → List (List ℕ) → List (List ℕ
 is_row_among ids words fields =
     list_any (λ id. has_id printed id words || has_id exported id fields) ids
 
--- the line with the names of the columns begins with that of the ids
+-- the names of the columns begin with `id` and `d`; an activity can have the id `id`, too
+abbrev pub is_id_head : List (List ℕ) → Bool
+is_id_head (first ∷ second ∷ rest) =
+    bytes_eq first (codes "id") && bytes_eq second (codes "d")
+is_id_head _ = false
+
+-- the line with the names of the columns
 abbrev pub is_head : List (List ℕ) → List (List ℕ) → Bool
 is_head words fields = is_id_head words || is_id_head fields
 
@@ -41,10 +48,13 @@ is_late (first ∷ second ∷ third ∷ rest) =
 is_late _ = false
 
 -- the lines that aren't kept
+abbrev pub is_left_out_by : List (List ℕ) → List (List ℕ) → List (List ℕ) → Bool
+is_left_out_by ids words fields =
+    if is_head words fields then false
+    else (is_tardiness words || is_late words || is_row_among ids words fields)
+
 abbrev pub is_left_out : List (List ℕ) → List ℕ → Bool
-is_left_out ids line =
-    is_tardiness (words line) || is_late (words line)
-    || is_row_among ids (words line) (slice_split is_separator line)
+is_left_out ids line = is_left_out_by ids (words line) (slice_split is_separator line)
 
 -- a line, empty if it isn't kept, so that the numbers of the others stay
 abbrev pub kept_line : List (List ℕ) → List ℕ → List ℕ
@@ -57,6 +67,11 @@ kept_lines ids all = flat_map (λ line. kept_line ids line.text) all
 abbrev pub has_head : List NumberedLine → Bool
 has_head all = list_any (λ line. is_head_line line.text) all
 
--- a text that has such a line is a table with ids, and loses lines; any other one stays
+-- a table with ids, which may begin with a byte-order mark
+abbrev pub is_table : List ℕ → Bool
+is_table text = is_short text && has_head (lines (without_mark text))
+
+-- a table with ids loses lines; any other text stays, and so does one that is too long to be read
 abbrev pub kept_text : List (List ℕ) → List ℕ → List ℕ
-kept_text ids text = if has_head (lines text) then kept_lines ids (lines text) else text
+kept_text ids text =
+    if is_table text then kept_lines ids (lines (without_mark text)) else text

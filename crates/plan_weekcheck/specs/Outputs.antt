@@ -40,10 +40,6 @@ abbrev pub ShowsVerdict : WeekOrder → List ℕ → List ℕ → WeekVerdict �
 ShowsVerdict order starts text verdict output =
     (listed : ListedWeek) × ShowsOf order starts text listed verdict output
 
-abbrev pub ShowsCheck : WeekOrder → List ℕ → List ℕ → List ℕ → Type 0
-ShowsCheck order starts text output =
-    (verdict : WeekVerdict) × ShowsVerdict order starts text verdict output
-
 -- a line gives the reason why there is no verdict: an error of the list, or of the starts
 abbrev pub TellsNoVerdict : WeekOrder → List ℕ → List ℕ → List ℕ → Type 0
 TellsNoVerdict order starts text line =

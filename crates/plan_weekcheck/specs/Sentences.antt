@@ -22,10 +22,10 @@ label_at activities place = option_map called (slice_get activities place)
 
 -- how an activity misses its dates
 abbrev pub miss_text : Miss → List ℕ
-miss_text (misses.Past day) = codes " starts before today " ++ decimal day
-miss_text (misses.Early date) = codes " starts before its earliest " ++ decimal date
+miss_text (misses.Past day) = codes " starts before --now " ++ decimal day
+miss_text (misses.Early date) = codes " starts before its earliest start " ++ decimal date
 miss_text (misses.Moved instant date) =
-    codes " starts at " ++ decimal instant ++ codes ", not at its fixed " ++ decimal date
+    codes " starts at " ++ decimal instant ++ codes ", not at its appointment " ++ decimal date
 
 abbrev pub misplaced_text : List Activity → ℕ → Miss → List ℕ
 misplaced_text activities i miss =

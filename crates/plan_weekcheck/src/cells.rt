@@ -1,15 +1,26 @@
-//! The cells of a line, and whether the line is a row of an activity.
+//! The lines and the cells of a table, and whether a line is a row of an activity.
 
 ghost use Rattle.std.specs.Prelude.{◌≡◌, ◌++◌, IfOk, OnOk, map};
 ghost use Rattle.std.specs.List.{flat_map, slice_split};
 ghost use Rattle.plan_psplib.specs.Lines.{words};
 ghost use Rattle.plan_report.specs.IdRows as rows;
 ghost use Rattle.plan_report.specs.Sheet.{cells_of};
-ghost use Rattle.plan_report.specs.StartsText.{is_separator};
+ghost use Rattle.plan_report.specs.StartsText as starts;
 ghost use Rattle.plan_weekcheck.specs.Kept as spec;
 
 use plan_psplib::Words;
 use std::alloc::{AllocError, Global};
+
+/// Returns a text without a byte-order mark at its start.
+pub(crate) fn without_mark(text: &[u8]) -> &[u8]
+    ensures { result.now ≡ starts.without_mark text.now }
+{
+    if text.starts_with(b"\xef\xbb\xbf") {
+        &text[3..]
+    } else {
+        text
+    }
+}
 
 /// Returns the words of a line.
 pub(crate) fn words_of(alloc: Global, line: &[u8]) -> Result<Vec<&[u8]>, AllocError>
@@ -25,7 +36,7 @@ pub(crate) fn words_of(alloc: Global, line: &[u8]) -> Result<Vec<&[u8]>, AllocEr
 
 /// Returns the text of a line between commas or semicolons.
 pub(crate) fn fields_of(alloc: Global, line: &[u8]) -> Result<Vec<&[u8]>, AllocError>
-    ensures { IfOk result (λ cells. cells_of cells.items ≡ slice_split is_separator line.now) }
+    ensures { IfOk result (λ cells. cells_of cells.items ≡ slice_split starts.is_separator line.now) }
 {
     line.split(|&byte| byte == b',' || byte == b';')
         .collect(alloc)
@@ -104,13 +115,13 @@ pub(crate) fn is_row_among(
     Ok(false)
 }
 
-// Whether the first cell is the name of the column of ids.
+// Whether the first cells are the names of the columns of ids and of durations.
 fn is_id_head(cells: &[&[u8]]) -> bool
-    ensures { result ≡ rows.is_id_head (cells_of cells.now) }
+    ensures { result ≡ spec.is_id_head (cells_of cells.now) }
 {
     match cells {
-        [cell, ..] => *cell == b"id".as_slice(),
-        [] => false,
+        [first, second, ..] => *first == b"id".as_slice() && *second == b"d".as_slice(),
+        _ => false,
     }
 }
 

@@ -4,8 +4,10 @@ ghost use Rattle.std.specs.Prelude.{◌≡◌, ◌++◌, IfOk, OnOk, map};
 ghost use Rattle.plan_psplib.specs.Lines.{lines};
 ghost use Rattle.plan_weekcheck.specs.Kept as spec;
 
-use crate::cells::{fields_of, is_head, is_late, is_row_among, is_tardiness, words_of};
-use plan_psplib::Lines;
+use crate::cells::{
+    fields_of, is_head, is_late, is_row_among, is_tardiness, without_mark, words_of,
+};
+use plan_psplib::{LONGEST_TEXT, Lines};
 use std::alloc::{AllocError, Global};
 
 // Whether a line isn't kept.
@@ -15,6 +17,9 @@ fn is_left_out(alloc: Global, ids: &[&[u8]], line: &[u8]) -> Result<bool, AllocE
 {
     let words = words_of(alloc, line)?;
     let fields = fields_of(alloc, line)?;
+    if is_head(&words, &fields) {
+        return Ok(false);
+    }
     Ok(is_tardiness(&words) || is_late(&words) || is_row_among(alloc, ids, &words, &fields)?)
 }
 
@@ -31,7 +36,8 @@ fn push_line(
     if !is_left_out(alloc, ids, line)? {
         text.extend_from_slice(line)?;
     }
-    text.push(b'\n')
+    text.push(b'\n')?;
+    Ok(())
 }
 
 // Returns the kept lines of a text.
@@ -69,14 +75,25 @@ fn has_head(alloc: Global, text: &[u8]) -> Result<bool, AllocError>
     Ok(false)
 }
 
+// Whether a text is a table with ids.
+fn is_table(alloc: Global, text: &[u8]) -> Result<bool, AllocError>
+    ensures { IfOk result (λ is. is ≡ spec.is_table text.now) }
+{
+    if text.len() <= LONGEST_TEXT {
+        has_head(alloc, without_mark(text))
+    } else {
+        Ok(false)
+    }
+}
+
 /// Returns a table without the rows of activities with these ids, and without the lines about
 /// tardiness. The numbers of the other lines stay. A text that is no table with ids stays.
 pub(crate) fn kept_text(alloc: Global, ids: &[&[u8]], text: &[u8]) -> Result<Vec<u8>, AllocError>
     ensures { IfOk result (λ kept.
         kept.items ≡ spec.kept_text (map (λ id. id.now) ids.now) text.now) }
 {
-    if has_head(alloc, text)? {
-        kept_lines(alloc, ids, text)
+    if is_table(alloc, text)? {
+        kept_lines(alloc, ids, without_mark(text))
     } else {
         Vec::from_slice(alloc, text)
     }

@@ -9,4 +9,4 @@ mod output;
 mod reading;
 mod sentences;
 
-pub use output::{CheckedWeek, checked_week, week_check_output};
+pub use output::{CheckedWeek, checked_week};

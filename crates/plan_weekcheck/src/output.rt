@@ -80,17 +80,3 @@ pub fn checked_week(
     let text = verdict_text(alloc, order.format, &listed, verdict)?;
     Ok(CheckedWeek { text, verdict })
 }
-
-/// Returns the text of [`checked_week`].
-pub fn week_check_output(
-    alloc: Global,
-    order: &WeekOrder<'_>,
-    starts: &[u8],
-    text: &[u8],
-) -> Result<Vec<u8>, CliFault>
-    ensures shown { IfOk result (λ shown.
-        spec.ShowsCheck order.now starts.now text.now shown.items) }
-    ensures refused { IfErr result (Refuses (spec.RefusesCheck order.now starts.now text.now)) }
-{
-    Ok(checked_week(alloc, order, starts, text)?.text)
-}

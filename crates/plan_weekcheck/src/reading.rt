@@ -16,6 +16,7 @@ use plan_weeks::planned;
 use std::alloc::{AllocError, Global};
 
 // Returns a network of activities with these durations and without arcs, between a begin and an end.
+#[tactic(auto, using(crate::proofs::StartLemmas::above_limit))]
 fn network_of(alloc: Global, durations: &[u32]) -> Result<Network, CliFault>
     ensures network { IfOk result (λ net. net ≡ spec.network_of durations.now) }
     ensures refused { IfErr result (Refuses (spec.TellsAboveLimit durations.now)) }
@@ -28,18 +29,16 @@ fn network_of(alloc: Global, durations: &[u32]) -> Result<Network, CliFault>
 }
 
 // Returns the numbers between the first and the last.
+#[tactic(auto, using(crate::proofs::StartLemmas::inner_early))]
 fn inner(alloc: Global, all: &[u64]) -> Result<Vec<u32>, AllocError>
     requires { All IsInTime all.now }
     ensures { IfOk result (λ starts. starts.items ≡ spec.inner all.now) }
 {
     let mut starts = Vec::new(alloc);
-    let [_, rest @ ..] = all else {
+    if all.len() < 2 {
         return Ok(starts);
-    };
-    let [given @ .., _] = rest else {
-        return Ok(starts);
-    };
-    for &start in given {
+    }
+    for &start in &all[1..all.len() - 1] {
         starts.push(start as u32)?;
     }
     Ok(starts)
@@ -54,6 +53,7 @@ fn open_text(alloc: Global, listed: &ListedWeek, text: &[u8]) -> Result<Vec<u8>,
 }
 
 // Reads the starts of the activities that are open, which have these durations.
+#[tactic(auto, using(crate::proofs::StartLemmas::said_open, crate::proofs::StartLemmas::told_open, crate::proofs::StartLemmas::tells_limit))]
 fn read_open(
     alloc: Global,
     listed: &ListedWeek,
@@ -76,6 +76,7 @@ fn read_open(
 
 /// Reads the starts of the activities that are open, one after another. If none is open, the text
 /// isn't read. Errors: `T12` (a limit), and those of a text of starts.
+#[tactic(auto, using(crate::proofs::StartLemmas::says_some, crate::proofs::StartLemmas::says_none, crate::proofs::StartLemmas::tells_some))]
 pub(crate) fn read_open_starts(
     alloc: Global,
     listed: &ListedWeek,

@@ -86,10 +86,10 @@ fn push_miss(text: &mut String, miss: Miss) -> Result<(), AllocError>
     ensures { OnOk result (string_bytes text.new ≡ string_bytes text.old ++ spec.miss_text miss) }
 {
     match miss {
-        Miss::Past { day } => write!(text, " starts before today {day}"),
-        Miss::Early { date } => write!(text, " starts before its earliest {date}"),
+        Miss::Past { day } => write!(text, " starts before --now {day}"),
+        Miss::Early { date } => write!(text, " starts before its earliest start {date}"),
         Miss::Moved { instant, date } => {
-            write!(text, " starts at {instant}, not at its fixed {date}")
+            write!(text, " starts at {instant}, not at its appointment {date}")
         }
     }
 }
