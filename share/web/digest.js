@@ -1,2 +1,2 @@
 // The SHA-256 of plan.wasm. Written by share/web/engine/make.
-export const DIGEST = "9491dea3cb6c7c0b592106dec2861bde6031bd2c976238883173a28d880ff544";
+export const DIGEST = "6a70bd576ce232c183fe024384226fedddbc70067aa424e46cd08c92cc4f2cd6";

@@ -75,8 +75,14 @@ LISTS = [
     ("T14 no resource crew", "Give the column crew its name again, or enter the capacities again."),
     ("T15 steps order 4711", "Merge steps of order 4711, or split the order."),
     ("T16 column Successors", "Give the predecessors of each row instead."),
+    ("T17 line 4 begun", "Give today's instant with --now."),
     ("T18 an Excel workbook: save it as CSV UTF-8", "Save its sheet as CSV (UTF-8), and drop that."),
     ("T19 line 4 need crew above 2", "Raise the capacity of crew, or lower what 7 (line 4) needs."),
+    ("T20 line 3 number", "Write a whole number for each date and amount of B Walls, north (line 3)."),
+    ("T21 line 4 dates", "Correct one of the dates of 7 (line 4), or delete it."),
+    ("S11 crew 8", "Interrupt begun work, or move an appointment."),
+    ("S12 no plan", "Move an appointment, raise a capacity, or shorten an absence."),
+    ("S13 none found", "Search for longer."),
 ]
 # verdicts of `plan check` on feasible start times
 VERDICTS = [
@@ -86,5 +92,5 @@ VERDICTS = [
 ]
 SHOP_VERDICTS = [("step 2 of job 2 can start earlier", "Start step 2 of job 2 earlier, if you like.")]
 # the words with which a first sentence begins
-VERBS = ("Add Ask Bind Check Choose Close Compare Correct Declare Delete Drop Enter Give Keep Look Mark Mend Merge "
-         "Number Open Raise Reload Rename Save Search Set Split Start Tell Try Wait Write").split()
+VERBS = ("Add Ask Bind Check Choose Close Compare Correct Declare Delete Drop Enter Give Interrupt Keep Look Mark "
+         "Mend Merge Move Number Open Raise Reload Rename Save Search Set Split Start Tell Try Wait Write").split()
