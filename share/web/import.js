@@ -8,6 +8,7 @@ import {
 import { rowWords } from "./cells.js";
 import { noteList, openSaved, replacedFile, showEdit } from "./edit.js";
 import { isAlone } from "./local.js";
+import { isOfDates } from "./messages.js";
 import { showPlace } from "./place.js";
 import { openPlan, showPlan, takeStarts } from "./plan.js";
 import { showPlans } from "./plans.js";
@@ -171,7 +172,8 @@ async function showList() {
 // the resources of the project, or the one whose capacity is missing
 function capacityNodes({ given, list: { text, fault } }) {
   const { resources = [], capacities } = text ? readProject(text) : {};
-  const missing = fault?.message.match(/^T10 no capacity (.*)$/)?.[1];
+  const without = fault?.message.match(/^T10 no capacity (.*)$/)?.[1];
+  const missing = isOfDates(without ?? "") ? undefined : without;
   const known = [...resources].map(([number, name]) => [name, capacities[number - 1]]);
   const others = [...given].filter(([name]) => missing && name !== missing);
   return [...known, ...others, ...(missing ? [[missing, ""]] : [])]

@@ -5,6 +5,11 @@ import { activityLabel, machineLabel, resourceLabel } from "./labels.js";
 
 const CELL = "A number has one to nine digits, without a sign, a fraction or a unit.";
 
+// the columns of dates, which `plan solve` reads and the page doesn't
+const DATES = /^(?:earliest|fixed|begun|remaining|done|due)$/i;
+
+export const isOfDates = (header) => DATES.test(header);
+
 // by code; codes of start times end with s
 const MESSAGES = {
   F2: ({ line }) => ["Save the file as plain text in UTF-8.", `Line ${line} contains a zero byte.`],
@@ -62,8 +67,11 @@ const MESSAGES = {
     "No row has this id, and not exactly one this name."],
   T9: ({ row, word }) => [`Write a whole number as the need of ${row} for ${word}.`,
     `${CELL} If ${word} isn't a resource, delete its column or its header.`],
-  T10: ({ word }) => [`Enter the capacity of ${word}, or add a row whose id is capacity.`,
-    "If the column isn't a resource, delete it or its header."],
+  T10: ({ word }) => (isOfDates(word)
+    ? [`Delete the column ${word}, or plan the list with plan solve.`,
+      "The page reads no dates, and plans a row absence as an activity."]
+    : [`Enter the capacity of ${word}, or add a row whose id is capacity.`,
+      "If the column isn't a resource, delete it or its header."]),
   T11: ({ cycle }) => [`Delete one predecessor of the cycle ${cycle}.`,
     "Each of these rows precedes the next, and the last precedes the first."],
   T12: ({ place }) => ["Choose a coarser time unit, or split the project.",

@@ -68,6 +68,7 @@ LISTS = [
     ("T7 line 3 id A twice", "Give B Walls, north (line 3) another id."),
     ("T8 line 3 predecessor F7", "Correct the predecessor F7 of B Walls, north (line 3), or add its row."),
     ("T9 line 3 need crew", "Write a whole number as the need of B Walls, north (line 3) for crew."),
+    ("T10 no capacity due", "Delete the column due, or plan the list with plan solve."),
     ("T10 no capacity big crew", "Enter the capacity of big crew, or add a row whose id is capacity."),
     ("T11 cycle A C", "Delete one predecessor of the cycle A, C."),
     ("T12 limit line 0", "Choose a coarser time unit, or split the project."),

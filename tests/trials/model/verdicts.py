@@ -77,7 +77,7 @@ def first_verdict(project, starts):
     over = first_over(project, starts)
     if over:
         return "over", over
-    shifts = [j for j in starts if has_shift(project, starts, j)]
+    shifts = [j for j in sorted(starts) if has_shift(project, starts, j)]
     return ("early", shifts[:1]) if shifts else ("active", ())
 
 
