@@ -179,7 +179,7 @@ all =
     code.Output ∷
     []
 
--- what is none of the names of all codes isn't the name of a code
+-- a text that differs from the names of all listed codes is the name of no code
 not_named : (name : List ℕ) → All (λ code. name ≡ name_of code → ⊥) all
     → (code : Code) → name ≡ name_of code → ⊥
 not_named name none code.TooLong = none 0 code.TooLong (omega arith)
