@@ -164,6 +164,9 @@ def moment(case, calendar, unit, is_end):
 
 def wanted_event(case, digest, calendar, bar):
     number, step, begin, end, parts = bar
+    times = moment(case, calendar, begin, 0), moment(case, calendar, end - 1, 1)
+    if case.ids and number not in case.ids:
+        return None
     front = "machine " if case.is_shop else "R"
     labels = [(name_or(case.others, part, front), amount) for part, amount in parts]
     name = shown_raw(case.names.get(number, b"")) or name_or(case.ids, number)
@@ -176,7 +179,6 @@ def wanted_event(case, digest, calendar, bar):
     summary = name + tail + (f" ({listed})" if listed else "")
     if case.is_plain:
         summary = (f"{number} {name}" if case.names.get(number) else str(number)) + tail
-    times = moment(case, calendar, begin, 0), moment(case, calendar, end - 1, 1)
     return uid, case.sequence, *times, escaped_back(summary)
 
 

@@ -6,7 +6,8 @@ another list, as text, CSV and JSON, and the line of notes on standard error.
     tests/trials/list_rows.py               2,000 lists; prints nothing on success
     tests/trials/list_rows.py CASES SEED    so many, drawn from this seed
 
-A list has ids or none, notes, one of three separators and of five encodings. The schedules, slacks and
+A list has ids or none, lags, notes, one of three separators and of five encodings. Each lag is a wait, an
+activity that isn't printed. The schedules, slacks and
 verdicts are those of model/, the forms those of docs/formats.md and docs/lists.md. A schedule of
 `plan solve` isn't known beforehand: it has to be active, and all else follows from its starts. The
 program is the one that ./plan runs, or the one that PLAN_PROGRAM names.
@@ -44,7 +45,8 @@ FORMS = ("text", "csv", "json")
 
 
 class List:
-    """A drawn plan of rows 1 to n, which are the activities 2 to n + 1 between a start and an end."""
+    """A drawn plan of rows 1 to n, which are the activities 2 to n + 1. The start is before them; waits
+    and the end follow."""
 
     def __init__(self, draw):
         count = draw.choice((1, 2, 3, 5, 8))
@@ -60,6 +62,8 @@ class List:
             self.before[k] = sorted(draw.sample(order[:place], min(place, draw.randrange(3))))
         self.needs = [[draw.randrange(most + 1) for most in self.capacities] for _ in range(count)]
         self.notes = draw.sample(list(NOTES), draw.choice((0, 0, 1, 2)))
+        share = 0.5 if self.ids and draw.random() < 0.4 else 0
+        self.lags = [{i: draw.choice((0, 1, 2, 5)) for i in own if draw.random() < share} for own in self.before]
 
     def reorder(self, heads):
         """Takes up the order of the columns with these heads, for resources and notes."""
@@ -69,16 +73,26 @@ class List:
         self.capacities = [self.capacities[k] for k in places]
         self.needs = [[own[k] for k in places] for own in self.needs]
 
+    def waits(self):
+        """The waits by their numbers: the activities before and behind each, and its lag."""
+        pairs = [(i, k) for k, before in enumerate(self.before) for i in before if i in self.lags[k]]
+        first = len(self.durations) + 2
+        return {w: (i + 2, k + 2, self.lags[k][i]) for w, (i, k) in enumerate(pairs, first)}
+
     def project(self):
         """The project of the list. Without resources it has one, of which there is nothing."""
-        end = len(self.durations) + 2
+        waits = self.waits()
+        end = len(self.durations) + len(waits) + 2
         durations = {1: 0, **{k + 2: days for k, days in enumerate(self.durations)}, end: 0}
-        arcs = [(i + 2, k + 2) for k, before in enumerate(self.before) for i in before]
+        durations |= {w: lag for w, (_, _, lag) in waits.items()}
+        arcs = [(i + 2, k + 2) for k, before in enumerate(self.before) for i in before if i not in self.lags[k]]
+        arcs += [arc for w, (i, k, _) in waits.items() for arc in ((i, w), (w, k))]
         arcs += [(1, k + 2) for k, before in enumerate(self.before) if not before]
         last = set(range(2, end)) - {i for i, _ in arcs}
         arcs += [(i, end) for i in last] if end > 2 else [(1, end)]
         none = [0] * max(1, len(self.capacities))
         needs = {1: none, **{k + 2: own or none for k, own in enumerate(self.needs)}, end: none}
+        needs |= dict.fromkeys(waits, none)
         return Project(durations, arcs, needs, self.capacities or none)
 
     def numbers(self):
@@ -96,12 +110,24 @@ class List:
         """The resources and the predecessors of an activity, as CSV and JSON have them."""
         amounts = zip(self.resources, self.needs[number - 2])
         used = ", ".join(f"{name} {amount}" for name, amount in amounts if amount)
-        return {"resources": used, "predecessors": ", ".join(self.ids[i] for i in self.before[number - 2])}
+        before, lags = self.before[number - 2], self.lags[number - 2]
+        words = [self.ids[i] for i in before if i not in lags]
+        words += [f"{self.ids[i]}+{lags[i]}" for i in before if i in lags]
+        return {"resources": used, "predecessors": ", ".join(words)}
+
+    def with_waits(self, starts):
+        """The starts of the rows and of the waits: each begins when the activity before it ends."""
+        return starts | {w: starts[i] + self.durations[i - 2] for w, (i, _, _) in self.waits().items()}
 
 
 def drawn_ids(draw, count):
     form = draw.choice(("{}", "A{}", "{}0", "step-{}", "Süd{}", "an-id-of-some-more-letters-{}"))
     return [form.format(k + 1) for k in range(count)]
+
+
+def with_lag(draw, word, lag):
+    """A predecessor, perhaps with a lag."""
+    return word if lag is None else word + draw.choice((f"+{lag}", f"FS+{lag}d", f"+{lag} days"))
 
 
 def rows_of(draw, drawn):
@@ -112,7 +138,8 @@ def rows_of(draw, drawn):
     if drawn.has_names:
         columns.append((draw.choice(HEADERS["name"]), drawn.names, ""))
     words = drawn.ids or [str(k + 1) for k in range(len(drawn.durations))]
-    before = [draw.choice((" ", ",", "; ")).join(words[i] for i in own) for own in drawn.before]
+    cells = [[with_lag(draw, words[i], lags.get(i)) for i in own] for own, lags in zip(drawn.before, drawn.lags)]
+    before = [draw.choice((" ", ",", "; ")).join(own) for own in cells]
     columns.append((draw.choice(HEADERS["after"]), before, ""))
     for k, name in enumerate(drawn.resources):
         columns.append((name, [str(own[k]) for own in drawn.needs], str(drawn.capacities[k])))
@@ -367,6 +394,7 @@ def try_check(case):
     drawn = case.drawn
     ids, names, resources = (dict(enumerate(words, first)) for words, first in (
         (drawn.ids, 2), (drawn.names, 2), (drawn.resources, 1)))
+    ids |= {w: f"wait+{k}" for k, w in enumerate(drawn.waits())}
     verdict = verdicts.named_verdict(case.project, starts, ids, names, resources)
     if case.form == "csv":
         same(case.what, list(csv.reader(io.StringIO(output.decode(), newline=""))), [["verdict"], [verdict]])
@@ -456,8 +484,9 @@ def numbers(starts):
 def try_slack(case):
     project, starts = case.project, case.starts
     slacks = {j: verdicts.slack(project, starts, j) for j in starts}
-    output = case.output("slack", "list.csv", case.write("starts", starts))
-    chain = chain_in(case, output, slacks)
+    words = ["slack", "list.csv", case.write("starts", starts)]
+    chain = chain_in(case, words, slacks)
+    output = case.output(*words)
     cells = {j: [*own, slacks[j]] for j, own in times_of(project, starts).items()}
     labels = None if chain is None else [case.drawn.label(j) for j in chain if j in case.drawn.numbers()]
     members = {"chain": chain, **({"chain_ids": labels} if case.drawn.ids and chain else {})}
@@ -467,17 +496,12 @@ def try_slack(case):
     compare(case.what, case.form, output, sheet)
 
 
-def chain_in(case, output, slacks):
-    """The chain that an output shows, as numbers, once it is one. There may be several. At a makespan
-    of 0 it is the start, which has no id."""
-    if case.form == "csv":
-        return None
-    if case.form == "json":
-        chain = json.loads(output)["chain"]
-    else:
-        words = output.decode().split("\n")[-2].split(" ")
-        named = {case.drawn.label(j): j for j in case.drawn.numbers()}
-        chain = None if words == ["no", "chain"] else [named[word] for word in words[1:]] or [1]
+def chain_in(case, words, slacks):
+    """The chain that a command shows as JSON, once it is one. There may be several. At a makespan of 0 it
+    is the start, which has no id."""
+    form, case.form = case.form, "json"
+    chain = json.loads(case.output(*words))["chain"]
+    case.form = form
     model = results.Model.__new__(results.Model)
     project, count = case.project, len(slacks)
     model.durations = [project.durations[j] for j in range(1, count + 1)]
@@ -540,9 +564,11 @@ def shuffled(case, output):
 
 
 def solved_starts(case, value):
-    """The starts in the JSON of a solution. Those of the start and the end follow, if the list has ids."""
+    """The starts in the JSON of a solution. Those of the start, the waits and the end follow, if the list
+    has ids."""
     starts = {row["activity"]: row["start"] for row in value["rows"]}
     if case.drawn.ids:
+        starts = case.drawn.with_waits(starts)
         starts = {1: 0, **starts, len(starts) + 2: value["makespan"]}
     return starts
 

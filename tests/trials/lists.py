@@ -312,13 +312,14 @@ def moved(draw, starts):
 
 def rule_starts(made_folder, is_shop, made):
     """All starts of a schedule by a rule, in the order of the file that is made of a list."""
-    words = ["shop", "--format", "json", "mwkr", "list.csv", "shop"] if is_shop else ["schedule", "--format", "json", "lft", "list.csv"]
+    words = ["shop", "--format", "json", "mwkr", "list.csv", "shop"] if is_shop else ["schedule", "lft", "list.csv"]
     status, output, _ = plan(made_folder, *words)
-    rows = [] if status else json.loads(output)["rows"]
-    starts = [row["start"] for row in rows]
-    if rows and "id" in rows[0]:
-        return [0, *starts, max(row["end"] for row in rows)]
-    return starts
+    if status:
+        return []
+    if is_shop:
+        return [row["start"] for row in json.loads(output)["rows"]]
+    rows = [line.split() for line in output.decode().split("\n")[1:]]
+    return [int(words[2]) for words in rows if words and words[0].isdigit()]
 
 
 def try_checks(draw, what, folder, is_shop, made_folder, made, notes):

@@ -86,14 +86,14 @@ def with_times(found, times):
 
 
 def shown_rows(answer):
-    """The rows of activities in a table as CSV, without those that stand for lags."""
+    """The rows of activities in a table as CSV: not those of the start and the end, and no waits."""
     status, output, _ = answer
     if status != 0:
         raise Wrong(f"a table as CSV ended with {answer!r}")
     rows = list(csv.DictReader(io.StringIO(output.decode(), newline="")))
     if "act" in rows[0]:
         return rows[1:-1]
-    return [row for row in rows if not row["id"].startswith("wait+")]
+    return rows
 
 
 # ---- what is tried

@@ -30,7 +30,7 @@ use plan_documents::{
 };
 use plan_errors::CliFault;
 use plan_formats::Format;
-use plan_table::{ListKind, NameLine, Override, activity_ids, activity_names, order_names};
+use plan_table::{ListKind, NameLine, Override, activity_names, order_names};
 use plan_views::{ActivityLinks, MomentStyle};
 use std::alloc::{AllocError, Global};
 
@@ -271,7 +271,7 @@ fn ids_for<'a>(
     ensures { IfOk result (λ ids. map name_of ids.items ≡ ids_for task.entry file.now) }
 {
     match task {
-        Task::Dates | Task::Slack { .. } => activity_ids(alloc, file),
+        Task::Dates | Task::Slack { .. } => ids_of_rows(alloc, Subject::Project(&[]), file),
         Task::Schedule { subject, .. }
         | Task::Chart { subject, .. }
         | Task::Days { subject, .. }

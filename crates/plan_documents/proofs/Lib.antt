@@ -6,6 +6,7 @@ pub mod ContentsLemmas
 pub mod DetailLemmas
 pub mod SentenceLemmas
 pub mod StartLemmas
+pub mod WaitLemmas
 pub mod DocumentLemmas
 pub mod InfeasibleLemmas
 pub mod ImportLemmas

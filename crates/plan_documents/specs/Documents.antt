@@ -2,6 +2,7 @@
 -- "Runs").
 use Rattle.std.specs.Prelude.{◌≡◌, ◌⊎◌, ℕ, List, [], length}
 use Rattle.plan_net.specs.Network as networks
+use Rattle.plan_psplib.specs.Document.{document}
 use Rattle.plan_psplib.specs.Project.{Project, SaysProject}
 use Rattle.plan_orlib.specs.Says.{Says}
 use Rattle.plan_sgs.specs.Problem.{Problem, NeedsFit}
@@ -19,6 +20,7 @@ use Rattle.plan_table.specs.ShopNames.{instance_names, machine_key, order_key}
 use Rattle.plan_documents.specs.Capacities.{Replaces, TellsUnknown}
 use Rattle.plan_documents.specs.Plans.{IsOfProject, RefusesFile, IsOfShop, RefusesShop, resources_in}
 use Rattle.plan_documents.specs.ScheduleRun.{TellsNeed}
+use Rattle.plan_documents.specs.Waits.{shown_ids}
 use Rattle.plan_documents.specs.declared.documents.Subject.{Subject}
 use Rattle.plan_documents.specs.declared.documents.Subject.TheVariants as subject
 use Rattle.plan_documents.specs.declared.documents.Document.{Document}
@@ -26,9 +28,9 @@ use Rattle.plan_documents.specs.declared.documents.Document.TheVariants as docum
 use Rattle.plan_documents.specs.declared.documents.Plan.{Plan}
 use Rattle.plan_documents.specs.declared.documents.Plan.TheVariants as plan
 
--- the ids of the activities in a project file
-abbrev pub ids_in : List ℕ → List Name
-ids_in file = names_behind id_key file
+-- the ids of the activities in a project file, without those of waits
+unfoldable pub ids_in : List ℕ → List Name
+ids_in file = shown_ids (document file) (names_behind activity_key file) (names_behind id_key file)
 
 -- the scheduling problem of a plan
 abbrev pub problem_of : Plan → Problem

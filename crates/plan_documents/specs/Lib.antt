@@ -2,6 +2,7 @@ pub mod Capacities
 pub mod Lines
 pub mod Plans
 pub mod ScheduleRun
+pub mod Waits
 pub mod Documents
 pub mod Starts
 pub mod VerdictText

@@ -8,7 +8,7 @@ use Rattle.plan_sgs.specs.declared.verdict.Verdict.TheVariants as verdict
 use Rattle.plan_shop.specs.Shop.{JobShop}
 use Rattle.plan_report.specs.VerdictText.{place_number, job_number}
 use Rattle.plan_errors.specs.declared.parts.Key.TheVariants as key
-use Rattle.plan_table.specs.Names.{Name, first_name}
+use Rattle.plan_table.specs.Names.{Name, first_name, id_key, names_behind}
 use Rattle.plan_documents.specs.Details.{label, names_under}
 use Rattle.plan_documents.specs.declared.documents.Plan.{Plan}
 use Rattle.plan_documents.specs.declared.documents.Plan.TheVariants as plan
@@ -100,9 +100,10 @@ shop_sentence jobs machines s (verdict.Shift j) =
     named_step_text jobs s j ++ codes " can start earlier"
 shop_sentence jobs machines s verdict.Active = codes "active"
 
--- a verdict on the starts of the plan of a subject in a file
+-- a verdict on the starts of the plan of a subject in a file; waits have their ids
 abbrev pub verdict_sentence : Subject → List ℕ → Plan → Verdict → List ℕ
 verdict_sentence of file (plan.Project i ids) v =
-    project_sentence ids (names_under of file key.Activity) (names_under of file key.Resource) v
+    project_sentence (names_behind id_key file) (names_under of file key.Activity)
+    (names_under of file key.Resource) v
 verdict_sentence of file (plan.Shop s) v =
     shop_sentence (names_under of file key.Job) (names_under of file key.Machine) s v

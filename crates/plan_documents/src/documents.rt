@@ -8,14 +8,13 @@ ghost use Rattle.plan_documents.specs.Documents as spec;
 use crate::capacities::{Capacity, replaced};
 use crate::projects::{instance_with, read_project};
 use crate::shops::{open_shop, read_instance};
+use crate::waits::shown_ids;
 use plan_errors::CliFault;
 use plan_orlib::ShopDoc;
 use plan_psplib::ProjectDoc;
 use plan_sgs::Instance;
 use plan_shop::Shop;
-use plan_table::{
-    NameLine, activity_ids, activity_names, machine_names, order_names, resource_names,
-};
+use plan_table::{NameLine, activity_names, machine_names, order_names, resource_names};
 use std::alloc::{AllocError, Global};
 use std::marker::Model;
 
@@ -36,7 +35,7 @@ pub enum Document {
     Shop(ShopDoc),
 }
 
-/// The ids of a project's activities.
+/// The ids of a project's activities, without those of waits.
 #[derive(Drop)]
 pub struct Ids<'a> {
     lines: Vec<NameLine<'a>>,
@@ -68,11 +67,13 @@ pub enum Plan<'a> {
     Shop(Shop),
 }
 
-/// Returns the ids of the activities in a project file.
+/// Returns the ids of the activities in a project file, without those of waits. The file must have
+/// been read before, so that only memory can run out.
+#[tactic(auto, unfolding(crate::specs::Documents::ids_in))]
 pub fn ids_of<'a>(alloc: Global, file: &'a [u8]) -> Result<Ids<'a>, AllocError>
     ensures { IfOk result (λ ids. ids ≡ spec.ids_in file.now) }
 {
-    let lines = activity_ids(alloc, file)?;
+    let lines = shown_ids(alloc, file)?;
     Ok(Ids { lines })
 }
 
@@ -157,7 +158,8 @@ pub fn names_of_lines<'a>(
     }
 }
 
-/// Returns the ids of the activities of a project. A job shop has none.
+/// Returns the ids of the activities of a project, without those of waits. A job shop has none.
+#[tactic(auto, unfolding(crate::specs::Documents::ids_in))]
 pub fn ids_of_rows<'a>(
     alloc: Global,
     subject: Subject<'_>,
@@ -167,7 +169,7 @@ pub fn ids_of_rows<'a>(
         map name_of ids.items ≡ spec.ids_of_rows subject.entry file.now) }
 {
     match subject {
-        Subject::Project(_) => activity_ids(alloc, file),
+        Subject::Project(_) => shown_ids(alloc, file),
         Subject::Shop(_) => Ok(Vec::new(alloc)),
     }
 }

@@ -19,6 +19,7 @@ mod shops;
 mod spreadsheets;
 mod starts;
 mod table_faults;
+mod waits;
 
 pub use capacities::{Capacity, replaced};
 pub use documents::{

@@ -13,7 +13,7 @@ use crate::sentences::{names_under, push_called};
 use plan_errors::Key;
 use plan_sgs::Verdict;
 use plan_shop::Shop;
-use plan_table::{NameLine, first_name};
+use plan_table::{NameLine, activity_ids, first_name};
 use std::alloc::{AllocError, Global};
 use std::fmt::Write;
 
@@ -283,7 +283,7 @@ fn shop_sentence(
 }
 
 /// Returns the sentence of a verdict on the starts of the plan of a file. Activities have their ids
-/// and names, resources, jobs and machines their names. What has none has its number.
+/// and names, also waits; resources, jobs and machines have their names. All else has its number.
 pub fn verdict_sentence(
     alloc: Global,
     subject: Subject<'_>,
@@ -295,10 +295,11 @@ pub fn verdict_sentence(
         ≡ spec.verdict_sentence subject.entry file.now plan.now verdict) }
 {
     match plan {
-        Plan::Project(_, ids) => {
+        Plan::Project(_, _) => {
+            let ids = activity_ids(alloc, file)?;
             let names = names_under(alloc, subject, file, Key::Activity)?;
             let resources = names_under(alloc, subject, file, Key::Resource)?;
-            project_sentence(alloc, ids.lines(), &names, &resources, verdict)
+            project_sentence(alloc, &ids, &names, &resources, verdict)
         }
         Plan::Shop(shop) => {
             let jobs = names_under(alloc, subject, file, Key::Job)?;

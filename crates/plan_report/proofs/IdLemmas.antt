@@ -1,17 +1,18 @@
 -- Tables with ids: what their rows show, and the result of reading them.
-use Rattle.std.proofs.Common.{◌≡◌, ℕ, suc, ◌≤◌, ◌+◌, ◌==◌, Bool, true, false, if◌then◌else◌, List, [], ◌∷◌, ◌++◌, Ok, All, length, take, drop, refl, sym, ap, ◌∙◌, subst, append_assoc, append-nil, arith}
-use Rattle.std.specs.Prelude.{nat_le}
+use Rattle.std.proofs.Common.{◌≡◌, ℕ, zero, suc, ◌≤◌, ◌+◌, ◌==◌, Bool, true, false, if◌then◌else◌, List, [], ◌∷◌, ◌++◌, Ok, All, length, map, take, drop, inl, inr, refl, sym, ap, ◌∙◌, subst, append_assoc, append-nil, arith}
+use Rattle.std.specs.Prelude.{nat_le, slice_index_or}
 use Rattle.std.specs.List.{AllByRecursion}
-use Rattle.std.proofs.lemmas.Bool.{leb-true, le-leb, eqb-true, eq-eqb}
-use Rattle.std.proofs.lemmas.List.{length-append, length-take-le, take-append-drop}
+use Rattle.std.proofs.lemmas.Bool.{cases_lt, leb-true, le-leb, eqb-true, eq-eqb}
+use Rattle.std.proofs.lemmas.List.{length-append, length-map, length-take-le, take-append-drop}
 use Rattle.std.proofs.Math.Seq.{take-append_seam, drop-append_seam}
 use Rattle.std.proofs.lemmas.List.Elements.{All-from_recursion, recursion_from_All}
 use Rattle.plan_psplib.specs.declared.text.fault.FileCode.TheVariants as code
 use Rattle.plan_psplib.specs.Tokens.{check}
 use Rattle.plan_psplib.proofs.GoesLemmas.{then_ok, same_ok, ok_bind, check_ok, ok_check, both_true}
+use Rattle.plan_sgs.proofs.TotalLemmas.{greatest_above}
 use Rattle.plan_gantt.specs.Limits.{latest_start}
 use Rattle.plan_report.specs.Sheet.{IdEntry, Row, Sheet, ShowsStart, has_columns, sheet_at}
-use Rattle.plan_report.specs.IdRows.{ShowAllById, ShowsBy, ShowsById, ShowsIds, ShowsRows, all_known, all_starts, begins_with_id, behind_id, entries_with, greatest_end, has_ids, is_id_head, id_columns, id_rows_at, known_at, last_line, rows_at, rows_before, rows_with, start_by_id, start_of, starts_by_id, starts_of_body, unknown_code}
+use Rattle.plan_report.specs.IdRows.{ShowAllById, ShowsBy, ShowsById, ShowsIds, ShowsRows, all_known, all_starts, begins_with_id, behind_id, durations_of, end_at, entries_with, greatest_end, has_ids, is_id_head, id_columns, id_rows_at, known_at, last_line, rows_at, rows_before, rows_with, start_by_id, start_of, starts_by_id, starts_of_body, unknown_code}
 use Rattle.plan_report.specs.declared.starts.Form.{Form}
 use Rattle.plan_report.proofs.SheetLemmas.{sheet_early, sheet_shows, sheet_whole, shows_sheet, shows_start, start_shows}
 
@@ -76,16 +77,17 @@ shown_all form last rows before (entry ∷ entries) (s ∷ ss) p =
 -- ---- the rows of a table
 
 -- the starts in the rows of a table
-record ShowsBody (form : Form) (entries : List IdEntry) (rows : List Row) (starts : List ℕ) : Type 0 where
+record ShowsBody (form : Form) (entries : List IdEntry) (waits : List ℕ) (rows : List Row) (starts : List ℕ) : Type 0 where
   known : All (λ row. length (entries_with form entries row) ≡ 1) rows
   inner : List ℕ
   shown : ShowAllById form rows entries inner
   in_time : greatest_end entries inner ≤ latest_start
-  all : starts ≡ all_starts entries inner
+  all : starts ≡ all_starts entries waits inner
 
-body_shows : (form : Form) (last : ℕ) (entries : List IdEntry) (rows : List Row) (starts : List ℕ) → starts_of_body form last entries rows ≡ Ok starts → ShowsBody form entries rows starts
+body_shows : (form : Form) (last : ℕ) (entries : List IdEntry) (waits : List ℕ) (rows : List Row) (starts : List ℕ) → starts_of_body form last entries waits rows ≡ Ok starts
+    → ShowsBody form entries waits rows starts
 unfolding starts_of_body
-body_shows form last entries rows starts e =
+body_shows form last entries waits rows starts e =
     then_ok (all_known form entries rows) _ starts e (λ u known e.
     then_ok (starts_by_id form last rows [] entries) _ starts e (λ inner read e.
     then_ok (check (nat_le (greatest_end entries inner) latest_start) code.Limit last) _ starts e (λ v early e.
@@ -95,12 +97,13 @@ body_shows form last entries rows starts e =
       inner = inner;
       shown = subst (λ (xs : List ℕ). ShowAllById form rows entries xs) (sym all.1) all.2;
       in_time = leb-true (greatest_end entries inner) latest_start (check_ok (nat_le (greatest_end entries inner) latest_start) code.Limit last v early);
-      all = sym (same_ok (all_starts entries inner) starts e);
+      all = sym (same_ok (all_starts entries waits inner) starts e);
     })))
 
-shows_body : (form : Form) (last : ℕ) (entries : List IdEntry) (rows : List Row) (starts : List ℕ) → ShowsBody form entries rows starts → starts_of_body form last entries rows ≡ Ok starts
+shows_body : (form : Form) (last : ℕ) (entries : List IdEntry) (waits : List ℕ) (rows : List Row) (starts : List ℕ) → ShowsBody form entries waits rows starts
+    → starts_of_body form last entries waits rows ≡ Ok starts
 unfolding starts_of_body
-shows_body form last entries rows starts shows =
+shows_body form last entries waits rows starts shows =
     ok_bind (all_known form entries rows) _ tt starts (is_known form entries rows (recursion_from_All (λ row. length (entries_with form entries row) ≡ 1) rows shows.known))
     (ok_bind (starts_by_id form last rows [] entries) _ shows.inner starts (shown_all form last rows [] entries shows.inner shows.shown)
     (ok_bind (check (nat_le (greatest_end entries shows.inner) latest_start) code.Limit last) _ tt starts
@@ -133,9 +136,9 @@ ids_show form sheet [] x e = absurd (cc)
 ids_show form sheet (head ∷ rows) x e =
     then_ok (check (has_columns id_columns head.cells) code.MissingHead head.line) _ x e (λ u named e.
     then_ok (rows_before head.line (length sheet.by_id) rows) _ x e (λ split found e.
-    then_ok (starts_of_body form (last_line head.line split.0) sheet.by_id split.0) _ x e (λ starts read e.
+    then_ok (starts_of_body form (last_line head.line split.0) sheet.by_id sheet.waits split.0) _ x e (λ starts read e.
     let is = split_is head.line (length sheet.by_id) rows split found in
-    let shows = body_shows form (last_line head.line split.0) sheet.by_id split.0 starts read in
+    let shows = body_shows form (last_line head.line split.0) sheet.by_id sheet.waits split.0 starts read in
     let shown : ShowsIds form sheet (head ∷ rows) starts split.1 = record {
       head = head;
       body = split.0;
@@ -157,7 +160,7 @@ show_ids form sheet rows starts rest shows =
     let head = shows.head in
     let body = shows.body in
     let last = last_line head.line body in
-    let shown : ShowsBody form sheet.by_id body starts = record {
+    let shown : ShowsBody form sheet.by_id sheet.waits body starts = record {
       known = shows.known;
       inner = shows.inner;
       shown = shows.shown;
@@ -169,7 +172,7 @@ show_ids form sheet rows starts rest shows =
     (ok_check (has_columns id_columns head.cells) code.MissingHead head.line shows.named)
     (ok_bind (rows_before head.line (length sheet.by_id) (body ++ rest)) _ (body, rest) (starts, rest)
     (ap (λ (n : ℕ). rows_before head.line n (body ++ rest)) (sym shows.whole) ∙ is_split head.line body rest)
-    (ok_bind (starts_of_body form last sheet.by_id body) _ starts (starts, rest) (shows_body form last sheet.by_id body starts shown) refl))
+    (ok_bind (starts_of_body form last sheet.by_id sheet.waits body) _ starts (starts, rest) (shows_body form last sheet.by_id sheet.waits body starts shown) refl))
 
 -- ---- tables of both kinds
 
@@ -204,27 +207,54 @@ inner_early form rows [] (s ∷ ss) p = absurd p
 inner_early form rows (entry ∷ entries) [] p = absurd p
 inner_early form rows (entry ∷ entries) (s ∷ ss) p = (p.0.shown.in_time, inner_early form rows entries ss p.1)
 
-early_before : (xs : List ℕ) (x : ℕ) → AllByRecursion (λ t. t ≤ latest_start) xs → x ≤ latest_start → AllByRecursion (λ t. t ≤ latest_start) (xs ++ x ∷ [])
-early_before [] x are is = (is, tt)
-early_before (y ∷ ys) x are is = (are.0, early_before ys x are.1 is)
+-- nothing is behind the end of a list
+pub beyond : (xs : List ℕ) (k : ℕ) → length xs ≤ k → slice_index_or xs k 0 ≡ 0
+beyond [] zero past = refl
+beyond [] (suc k) past = refl
+beyond (x ∷ xs) zero past = absurd (omega (arith, past))
+beyond (x ∷ xs) (suc k) past = beyond xs k (omega (arith, past))
 
--- the entries with ids are all but two
+-- no place has an end above the greatest one
+end_early : (entries : List IdEntry) (starts : List ℕ) (k most : ℕ) → length starts ≡ length entries → greatest_end entries starts ≤ most → end_at entries starts k ≤ most
+end_early entries starts k most whole least = elim (cases_lt k (length entries)) [
+  | inl below ↦
+      let high = greatest_above (length entries) (end_at entries starts) k below in
+      omega (arith, high, least)
+  | inr past ↦
+      let none = beyond starts k (omega (arith, past, whole)) in
+      let nothing = beyond (durations_of entries) k (omega (arith, past, length-map entries (λ (entry : IdEntry). entry.entry.duration))) in
+      omega (arith, none, nothing)
+]
+
+waits_early : (entries : List IdEntry) (starts waits : List ℕ) → length starts ≡ length entries → greatest_end entries starts ≤ latest_start
+    → AllByRecursion (λ t. t ≤ latest_start) (map (end_at entries starts) waits)
+waits_early entries starts [] whole least = tt
+waits_early entries starts (k ∷ waits) whole least = (end_early entries starts k latest_start whole least, waits_early entries starts waits whole least)
+
+early_both : (xs ys : List ℕ) → AllByRecursion (λ t. t ≤ latest_start) xs → AllByRecursion (λ t. t ≤ latest_start) ys → AllByRecursion (λ t. t ≤ latest_start) (xs ++ ys)
+early_both [] ys are also = also
+early_both (x ∷ xs) ys are also = (are.0, early_both xs ys are.1 also)
+
+-- the entries with ids and the waits are all but two
 abbrev pub IsWhole : Sheet → Type 0
-IsWhole sheet = has_ids sheet ≡ true → length sheet.by_id + 2 ≡ length sheet.entries
+IsWhole sheet = has_ids sheet ≡ true → length sheet.by_id + length sheet.waits + 2 ≡ length sheet.entries
 
 -- rows with ids are rows of a sheet with ids
 begins_has : (sheet : Sheet) (rows : List Row) → begins_with_id sheet rows ≡ true → has_ids sheet ≡ true
 begins_has sheet [] e = absurd (cc)
 begins_has sheet (row ∷ rows) e = (both_true (has_ids sheet) (is_id_head row.cells) e).0
 
-ids_whole : (form : Form) (sheet : Sheet) (rows : List Row) (starts : List ℕ) (rest : List Row) → ShowsIds form sheet rows starts rest → length starts ≡ length sheet.by_id + 2
+ids_whole : (form : Form) (sheet : Sheet) (rows : List Row) (starts : List ℕ) (rest : List Row) → ShowsIds form sheet rows starts rest → length starts ≡ length sheet.by_id + length sheet.waits + 2
 ids_whole form sheet rows starts rest shows =
     let inner = inner_whole form shows.body sheet.by_id shows.inner shows.shown in
     let end = greatest_end sheet.by_id shows.inner in
-    ap (λ (xs : List ℕ). length xs) shows.all ∙ omega (arith, length-append shows.inner (end ∷ []), inner)
+    let waits = map (end_at sheet.by_id shows.inner) sheet.waits in
+    let most = length-append (shows.inner ++ waits) (end ∷ []) in
+    ap (λ (xs : List ℕ). length xs) shows.all
+    ∙ omega (arith, most, length-append shows.inner waits, length-map sheet.waits (end_at sheet.by_id shows.inner), inner)
 
-by_whole : (b : Bool) (form : Form) (sheet : Sheet) (rows : List Row) (starts : List ℕ) (rest : List Row) → (b ≡ true → length sheet.by_id + 2 ≡ length sheet.entries) → ShowsBy b form sheet rows starts rest
-    → length starts ≡ length sheet.entries
+by_whole : (b : Bool) (form : Form) (sheet : Sheet) (rows : List Row) (starts : List ℕ) (rest : List Row)
+    → (b ≡ true → length sheet.by_id + length sheet.waits + 2 ≡ length sheet.entries) → ShowsBy b form sheet rows starts rest → length starts ≡ length sheet.entries
 by_whole true form sheet rows starts rest is shows = ids_whole form sheet rows starts rest shows ∙ is refl
 by_whole false form sheet rows starts rest is shows = sheet_whole sheet rows starts rest shows
 
@@ -233,10 +263,15 @@ rows_whole form sheet rows starts rest is shows = by_whole (begins_with_id sheet
 
 ids_early : (form : Form) (sheet : Sheet) (rows : List Row) (starts : List ℕ) (rest : List Row) → ShowsIds form sheet rows starts rest → All (λ t. t ≤ latest_start) starts
 ids_early form sheet rows starts rest shows =
-    let end = greatest_end sheet.by_id shows.inner in
+    let entries = sheet.by_id in
+    let inner = shows.inner in
+    let waits = map (end_at entries inner) sheet.waits in
+    let end = greatest_end entries inner in
     let zero : 0 ≤ latest_start = omega arith in
-    let are = early_before shows.inner end (inner_early form shows.body sheet.by_id shows.inner shows.shown) shows.in_time in
-    subst (λ (xs : List ℕ). All (λ t. t ≤ latest_start) xs) (sym shows.all) (All-from_recursion (λ t. t ≤ latest_start) (all_starts sheet.by_id shows.inner) (zero, are))
+    let are = inner_early form shows.body entries inner shows.shown in
+    let also = waits_early entries inner sheet.waits (inner_whole form shows.body entries inner shows.shown) shows.in_time in
+    let both = early_both (inner ++ waits) (end ∷ []) (early_both inner waits are also) (shows.in_time, tt) in
+    subst (λ (xs : List ℕ). All (λ t. t ≤ latest_start) xs) (sym shows.all) (All-from_recursion (λ t. t ≤ latest_start) (all_starts entries sheet.waits inner) (zero, both))
 
 by_early : (b : Bool) (form : Form) (sheet : Sheet) (rows : List Row) (starts : List ℕ) (rest : List Row) → ShowsBy b form sheet rows starts rest → All (λ t. t ≤ latest_start) starts
 by_early true form sheet rows starts rest shows = ids_early form sheet rows starts rest shows

@@ -73,21 +73,27 @@ ShowAllById form rows (entry ∷ entries) (start ∷ starts) =
     ShowsById form rows entry start × ShowAllById form rows entries starts
 ShowAllById form rows _ _ = ⊥
 
--- the greatest end of activities that start then
+-- the durations of activities
 abbrev pub durations_of : List IdEntry → List ℕ
 durations_of entries = map (λ entry. entry.entry.duration) entries
 
-abbrev pub greatest_end : List IdEntry → List ℕ → ℕ
-greatest_end entries starts = greatest_below (length entries)
-    (λ i. slice_index_or starts i 0 + slice_index_or (durations_of entries) i 0)
+-- the end of the activity at a place
+abbrev pub end_at : List IdEntry → List ℕ → ℕ → ℕ
+end_at entries starts k = slice_index_or starts k 0 + slice_index_or (durations_of entries) k 0
 
--- the starts of all activities: the first starts at 0, and the last at the greatest end
-abbrev pub all_starts : List IdEntry → List ℕ → List ℕ
-all_starts entries inner = 0 ∷ inner ++ greatest_end entries inner ∷ []
+-- the greatest end of activities that start then
+abbrev pub greatest_end : List IdEntry → List ℕ → ℕ
+greatest_end entries starts = greatest_below (length entries) (end_at entries starts)
+
+-- the starts of all activities: the first starts at 0, those with ids as given, each wait at the end
+-- of the activity that it is behind, and the last one at the greatest end
+abbrev pub all_starts : List IdEntry → List ℕ → List ℕ → List ℕ
+all_starts entries waits inner =
+    0 ∷ (inner ++ map (end_at entries inner) waits) ++ greatest_end entries inner ∷ []
 
 -- rows show starts by ids: a row with the names of the columns, as many rows as activities with an
 -- id, and then the rest. Each row has the id of one activity, and each activity starts as the row
--- with its id shows. The activities without an id are the first and the last.
+-- with its id shows. The activities without an id are the first, the waits and the last.
 pub record ShowsIds (form : Form) (sheet : Sheet) (rows : List Row) (starts : List ℕ)
     (rest : List Row) : Type 0 where
   pub head : Row
@@ -99,7 +105,7 @@ pub record ShowsIds (form : Form) (sheet : Sheet) (rows : List Row) (starts : Li
   pub inner : List ℕ
   pub shown : ShowAllById form body sheet.by_id inner
   pub in_time : greatest_end sheet.by_id inner ≤ latest_start
-  pub all : starts ≡ all_starts sheet.by_id inner
+  pub all : starts ≡ all_starts sheet.by_id sheet.waits inner
 
 -- a sheet has ids
 abbrev pub has_ids : Sheet → Bool
@@ -164,12 +170,12 @@ starts_by_id form last rows before (entry ∷ entries) = do
   starts_by_id form last rows (before ++ start ∷ []) entries
 
 -- the starts of all activities
-unfoldable pub starts_of_body : Form → ℕ → List IdEntry → List Row → Result (List ℕ) Fault
-starts_of_body form last entries rows = do
+unfoldable pub starts_of_body : Form → ℕ → List IdEntry → List ℕ → List Row → Result (List ℕ) Fault
+starts_of_body form last entries waits rows = do
   known ← all_known form entries rows
   inner ← starts_by_id form last rows [] entries
   early ← check (nat_le (greatest_end entries inner) latest_start) code.Limit last
-  Ok (all_starts entries inner)
+  Ok (all_starts entries waits inner)
 
 -- the next rows, and those behind them
 unfoldable pub rows_before : ℕ → ℕ → List Row → Result (List Row × List Row) Fault
@@ -183,7 +189,7 @@ id_rows_at form sheet [] = fault code.MissingHead 0
 id_rows_at form sheet (head ∷ rows) = do
   named ← check (has_columns id_columns head.cells) code.MissingHead head.line
   split ← rows_before head.line (length sheet.by_id) rows
-  starts ← starts_of_body form (last_line head.line split.0) sheet.by_id split.0
+  starts ← starts_of_body form (last_line head.line split.0) sheet.by_id sheet.waits split.0
   Ok (starts, split.1)
 
 -- the starts in rows, by ids or by numbers, and the rows behind them

@@ -6,6 +6,7 @@ pub mod Sheet
 pub mod IdRows
 pub mod JsonTable
 pub mod StartsText
+pub mod Waits
 pub mod IdSheets
 pub mod VerdictText
 pub mod Comparison

@@ -33,12 +33,13 @@ pub record IdEntry : Type 0 where
   pub id : List ℕ
   pub entry : Entry
 
--- the names of the columns, an entry for each row, and the entries between the first and the last
--- by their ids, if all of these have ids
+-- The names of the columns, and an entry for each row. If activities have ids, their entries by
+-- these, and for each wait behind them the place of the one that the wait is behind.
 pub record Sheet : Type 0 where
   pub columns : List (List ℕ)
   pub entries : List Entry
   pub by_id : List IdEntry
+  pub waits : List ℕ
 
 -- the same, as the program keeps them
 abbrev pub entry_of : declared_entry.Entry → Entry
@@ -56,6 +57,7 @@ sheet_of sheet = record {
   columns = map (λ name. name.now) sheet.columns.now;
   entries = map entry_of sheet.entries.items;
   by_id = map id_entry_of sheet.by_id.items;
+  waits = sheet.waits.items;
 }
 
 abbrev pub cells_of : List (Bor (List ℕ)) → List (List ℕ)

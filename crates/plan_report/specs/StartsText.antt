@@ -40,6 +40,7 @@ activity_sheet net = record {
   columns = codes "act" ∷ codes "d" ∷ codes "start" ∷ codes "end" ∷ [];
   entries = activity_entries net;
   by_id = [];
+  waits = [];
 }
 
 -- A table may lack the row of a step of time 0. Such a step starts at 0 if it is the first one of its
@@ -67,6 +68,7 @@ step_sheet s = record {
       codes "job" ∷ codes "step" ∷ codes "mach" ∷ codes "d" ∷ codes "start" ∷ codes "end" ∷ [];
   entries = step_entries s;
   by_id = [];
+  waits = [];
 }
 
 -- the first word of a text, empty if there is none

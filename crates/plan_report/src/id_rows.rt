@@ -236,6 +236,20 @@ fn starts_by_id(
     Ok(starts)
 }
 
+// Returns the end of the activity at a place, 0 if there is none.
+fn end_at(entries: &[IdEntry<'_>], starts: &[u64], k: usize) -> u64
+    requires short { All (λ entry. entry.entry.duration ≤ 10000) entries.now }
+    requires early { All (λ t. t ≤ LATEST_START) starts.now }
+    requires whole { length starts.now ≡ length entries.now }
+    ensures { result ≡ spec.end_at (map sheets.id_entry_of entries.now) starts.now k }
+{
+    if k < entries.len() {
+        starts[k] + entries[k].entry.duration
+    } else {
+        0
+    }
+}
+
 // Returns the greatest end of the activities with ids.
 fn greatest_end(entries: &[IdEntry<'_>], starts: &[u64]) -> u64
     requires short { All (λ entry. entry.entry.duration ≤ 10000) entries.now }
@@ -245,19 +259,50 @@ fn greatest_end(entries: &[IdEntry<'_>], starts: &[u64]) -> u64
 {
     let mut latest = 0;
     for i in 0..entries.len() {
-        let end = starts[i] + entries[i].entry.duration;
-        latest = latest.max(end);
+        latest = latest.max(end_at(entries, starts, i));
     }
     latest
 }
 
-// Returns the starts of all activities: the first starts at 0, and the last at `end`.
-fn with_both_ends(alloc: Global, inner: &[u64], end: u64) -> Result<Vec<u64>, AllocError>
-    ensures { IfOk result (λ starts. starts.items ≡ 0 ∷ inner.now ++ end ∷ []) }
+// Appends the starts of waits: each starts at the end of the activity that it is behind.
+fn push_waits(
+    all: &mut Vec<u64>,
+    entries: &[IdEntry<'_>],
+    starts: &[u64],
+    waits: &[usize],
+) -> Result<(), AllocError>
+    requires short { All (λ entry. entry.entry.duration ≤ 10000) entries.now }
+    requires early { All (λ t. t ≤ LATEST_START) starts.now }
+    requires whole { length starts.now ≡ length entries.now }
+    ensures { OnOk result (all.new.items ≡ all.old.items
+        ++ map (spec.end_at (map sheets.id_entry_of entries.now) starts.now) waits.now) }
+{
+    for &place in waits {
+        all.push(end_at(entries, starts, place))?;
+    }
+    Ok(())
+}
+
+// Returns the starts of all activities: the first starts at 0, each wait at the end of the activity
+// that it is behind, and the last activity at `end`.
+fn with_others(
+    alloc: Global,
+    entries: &[IdEntry<'_>],
+    inner: &[u64],
+    waits: &[usize],
+    end: u64,
+) -> Result<Vec<u64>, AllocError>
+    requires short { All (λ entry. entry.entry.duration ≤ 10000) entries.now }
+    requires early { All (λ t. t ≤ LATEST_START) inner.now }
+    requires whole { length inner.now ≡ length entries.now }
+    ensures { IfOk result (λ starts. starts.items ≡ 0 ∷ (inner.now
+        ++ map (spec.end_at (map sheets.id_entry_of entries.now) inner.now) waits.now)
+        ++ end ∷ []) }
 {
     let mut starts = Vec::new(alloc);
     starts.push(0)?;
     starts.extend_from_slice(inner)?;
+    push_waits(&mut starts, entries, inner, waits)?;
     starts.push(end)?;
     Ok(starts)
 }
@@ -269,11 +314,12 @@ fn starts_of_body(
     form: Form,
     last: u64,
     entries: &[IdEntry<'_>],
+    waits: &[usize],
     rows: &[Row<'_>],
 ) -> Result<Vec<u64>, ReadError>
     requires { All (λ entry. entry.entry.duration ≤ 10000) entries.now }
     ensures { Gives (λ v. v.items) result (spec.starts_of_body form last
-        (map sheets.id_entry_of entries.now) (map sheets.row_of rows.now)) }
+        (map sheets.id_entry_of entries.now) waits.now (map sheets.row_of rows.now)) }
 {
     check_all_known(alloc, form, entries, rows)?;
     let inner = starts_by_id(alloc, form, last, rows, entries)?;
@@ -281,7 +327,7 @@ fn starts_of_body(
     if end > LATEST_START {
         return Err(ReadError::Fault(Fault::new(FileCode::Limit, last)));
     }
-    Ok(with_both_ends(alloc, &inner, end)?)
+    Ok(with_others(alloc, entries, &inner, waits, end)?)
 }
 
 // Returns the line of the last row, or `line` if there is none.
@@ -331,7 +377,7 @@ fn read_id_rows<'a, 'b>(
     }
     let (body, behind) = rows_before(head.line, sheet.by_id.len(), rest)?;
     let last = last_line(head.line, body);
-    let starts = starts_of_body(alloc, form, last, &sheet.by_id, body)?;
+    let starts = starts_of_body(alloc, form, last, &sheet.by_id, &sheet.waits, body)?;
     Ok((starts, behind))
 }
 

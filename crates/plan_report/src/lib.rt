@@ -12,9 +12,12 @@ mod slack;
 mod start_numbers;
 mod starts;
 mod verdict_text;
+mod waits;
 
 pub use chain::tight_chain;
+pub use id_sheets::first_behind;
 pub use makespans::{makespan_of, shop_makespan_of};
 pub use slack::{SlackFault, schedule_slack};
 pub use starts::{read_id_starts_text, read_shop_starts_text, read_starts_text};
 pub use verdict_text::{push_sentence, push_shop_sentence};
+pub use waits::{is_wait, only_predecessor};

@@ -35,13 +35,14 @@ pub struct IdEntry<'a> {
     pub entry: Entry,
 }
 
-/// The names of the columns, an entry for each row, and the entries between the first and the last
-/// by their ids, if all of these have ids.
+/// The names of the columns, and an entry for each row. If activities have ids, their entries by
+/// these, and for each wait behind them the place of the one that the wait is behind.
 #[derive(Drop)]
 pub struct Sheet<'a> {
     pub columns: &'a [&'a str],
     pub entries: Vec<Entry>,
     pub by_id: Vec<IdEntry<'a>>,
+    pub waits: Vec<usize>,
 }
 
 /// A row: the number of its line, and its cells.

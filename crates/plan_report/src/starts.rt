@@ -336,6 +336,7 @@ fn activity_sheet(alloc: Global, network: &Network) -> Result<Sheet<'static>, Al
         columns: ACTIVITY_COLUMNS,
         entries: activity_entries(alloc, network)?,
         by_id: Vec::new(alloc),
+        waits: Vec::new(alloc),
     })
 }
 
@@ -351,6 +352,7 @@ fn step_sheet(alloc: Global, shop: &Shop) -> Result<Sheet<'static>, AllocError>
         columns: STEP_COLUMNS,
         entries: step_entries(alloc, shop)?,
         by_id: Vec::new(alloc),
+        waits: Vec::new(alloc),
     })
 }
 
@@ -396,11 +398,12 @@ pub fn read_starts_text(
 /// The forms and the errors are those of [`read_starts_text`], and activities can have ids. The id
 /// of an activity is the first one of its number in `ids`.
 ///
-/// If all activities but the first and the last have an id, and these two have none, a table, CSV
-/// or JSON may have the column `id` in place of the activity's number. It has a row for each
-/// activity with an id, in any order. A cell of CSV may have the id in quotes. JSON is such a table
-/// if its first row has a string `id`; the numbers of activities don't count then. The first
-/// activity starts at 0, and the last at the greatest end of all others.
+/// If all activities but the first, the last and the waits before the last have an id, and these
+/// have none, a table, CSV or JSON may have the column `id` in place of the activity's number. It
+/// has a row for each activity with an id, in any order. A cell of CSV may have the id in quotes.
+/// JSON is such a table if its first row has a string `id`; the numbers of activities don't count
+/// then. The first activity starts at 0, a wait at the end of its only predecessor, and the last
+/// activity at the greatest end of those with an id.
 ///
 /// Errors of such a table: `Count` (F9) if a row is missing or left over, `JobOrder` (F7) for a row
 /// whose id isn't that of exactly one activity or is that of an earlier row, or whose duration or

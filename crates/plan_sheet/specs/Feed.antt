@@ -1,6 +1,6 @@
 -- The calendar file of a plan (docs/definitions.md, "Sheets"; RFC 5545): an event of whole days for
 -- each bar that takes time.
-use Rattle.std.specs.Prelude.{◌≡◌, ℕ, ◌-◌, ◌⊎◌, Bool, false, if◌then◌else◌, nat_lt, List, [], ◌++◌, map, codes, Option, Some, None, is_some}
+use Rattle.std.specs.Prelude.{◌≡◌, ℕ, ◌-◌, ◌⊎◌, ◌&&◌, Bool, false, if◌then◌else◌, nat_lt, List, [], ◌++◌, map, codes, Option, Some, None, is_some}
 use Rattle.std.specs.Option.{option_map}
 use Rattle.std.specs.List.{AllZip, flat_map}
 use Rattle.std.specs.Fmt.{decimal}
@@ -11,9 +11,11 @@ use Rattle.plan_table.specs.Names.{Name}
 use Rattle.plan_sheet.specs.Bars.{greatest_end}
 use Rattle.plan_sheet.specs.Days.{AreDays, HasDayBeyond, HasLastDay, IsDayAfter, compact_day}
 use Rattle.plan_sheet.specs.Moments.{begin_stamp, day_count, end_stamp}
+use Rattle.plan_sheet.specs.Names.{is_shown}
 use Rattle.plan_sheet.specs.Parts.{EventNames, event_name, event_names_of, is_wanted, name_or_number, parts_of}
 use Rattle.plan_sheet.specs.Ics.{Event, event_text, calendar_head, calendar_end, text_value}
 use Rattle.plan_sheet.specs.declared.bars.Bar.{Bar}
+use Rattle.plan_sheet.specs.declared.parts.Part.{Part}
 use Rattle.plan_sheet.specs.declared.feed.Events as declared_events
 use Rattle.plan_sheet.specs.declared.feed.Work as declared_work
 
@@ -103,10 +105,14 @@ bar_event feed bar =
       end = end_stamp feed.events.hours feed.days feed.nexts (bar.to - 1);
     }
 
+-- the event of a bar with these parts is wanted; if there are ids, the number of the bar has one
+abbrev pub is_event : Option (List ℕ) → EventNames → Bar → List Part → Bool
+is_event only names bar parts =
+    is_shown names.ids bar.number && is_wanted only names bar parts
+
 -- the event of a bar that takes time is wanted
 abbrev pub wants : Feed → Bar → Bool
-wants feed bar =
-    is_wanted feed.events.only feed.work.names bar (parts_of feed.work.needs bar)
+wants feed bar = is_event feed.events.only feed.work.names bar (parts_of feed.work.needs bar)
 
 -- the text of the event of a bar that takes time; nothing if it isn't wanted
 abbrev pub wanted_text : Feed → Bar → List ℕ

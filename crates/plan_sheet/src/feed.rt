@@ -1,6 +1,7 @@
 //! The calendar file of a plan.
 
-ghost use Rattle.std.specs.Prelude.{◌≡◌, ◌++◌, ◌<◌, true, IfOk, OnOk, IsErrOf, map, string_bytes};
+ghost use Rattle.std.specs.Prelude.{◌≡◌, ◌++◌, ◌<◌, true, IfOk, OnOk, IsErrOf, map};
+ghost use Rattle.std.specs.Prelude.{option_map, string_bytes};
 ghost use Rattle.std.specs.List.{flat_map};
 ghost use Rattle.plan_table.specs.Names.{name_of};
 ghost use Rattle.plan_sheet.specs.Bars.{greatest_end};
@@ -13,6 +14,7 @@ use crate::bars::{Bar, last_end};
 use crate::days::{compact_day, days_after, working_days};
 use crate::ics::{Event, push_end, push_event, push_head, text_value};
 use crate::moments::{begin_stamp, day_count, end_stamp};
+use crate::names::is_shown;
 use crate::parts::{EventNames, Part, event_name, is_wanted, name_or_number, parts_of};
 use jiff::civil::Date;
 use plan_calendar::{Calendar, Hours};
@@ -165,6 +167,25 @@ fn push_bar_event(
     push_event(alloc, text, &stamp, &event)
 }
 
+// Tests whether the event of a bar with these parts is wanted. If there are ids, the number of the
+// bar must have one.
+fn is_event(
+    alloc: Global,
+    only: Option<&str>,
+    names: &EventNames<'_>,
+    bar: Bar,
+    parts: &[Part],
+) -> Result<bool, AllocError>
+    ensures { IfOk result (λ is. is ≡ spec.is_event (option_map (λ name. name.now) only.entry)
+        (spec_parts.event_names_of names.now) bar parts.now) }
+{
+    if is_shown(names.ids, bar.number) {
+        is_wanted(alloc, only, names, bar, parts)
+    } else {
+        Ok(false)
+    }
+}
+
 // Appends the event of a bar that takes time, or nothing if it isn't wanted.
 fn push_wanted(
     alloc: Global,
@@ -181,7 +202,7 @@ fn push_wanted(
         (spec.events_of events.now) days.now nexts.now) bar) }
 {
     let parts = parts_of(alloc, work.needs, bar)?;
-    if is_wanted(alloc, events.only, &work.names, bar, &parts)? {
+    if is_event(alloc, events.only, &work.names, bar, &parts)? {
         push_bar_event(alloc, text, work, events, days, nexts, bar, &parts)
     } else {
         Ok(())

@@ -1,5 +1,5 @@
 -- The rows of a table or a chart, one after another.
-use Rattle.std.proofs.Common.{◌≡◌, ℕ, zero, suc, ◌+◌, List, [], ◌∷◌, ◌++◌, Vec, map, fold, sym, ap, ◌∙◌, arith}
+use Rattle.std.proofs.Common.{◌≡◌, ℕ, zero, suc, ◌+◌, ◌-◌, ◌<◌, ◌≤◌, List, [], ◌∷◌, ◌++◌, Vec, map, fold, append_assoc, sym, ap, ◌∙◌, arith}
 use Rattle.std.specs.List.{range_with_len, flat_map}
 use Rattle.std.proofs.lemmas.List.{append-nil, map-append}
 use Rattle.std.proofs.lemmas.List.Concat.{flat_map-append}
@@ -44,6 +44,24 @@ pub next_item_from_zero : {X Y : Type 0} (g : X → Y) (f : ℕ → Y) (k : ℕ)
 next_item_from_zero g f k old new v so_far is step =
     let place : k ≡ 0 + k = omega arith in
     next_item g f 0 k old new v so_far (is ∙ ap f place) step
+
+-- the items so far with the next one, and those that are left up to the last number
+pub items_go_on : {X Y : Type 0} (g : X → Y) (f : ℕ → Y) (j n : ℕ) (old new : List X) (v : X) (all : List Y) → j < n
+    → map g old ++ map f (range_with_len j (n - j)) ≡ all → g v ≡ f j → new ≡ old ++ v ∷ []
+    → map g new ++ map f (range_with_len (j + 1) (n - (j + 1))) ≡ all
+items_go_on g f j n old new v all below left is step =
+    let more : n - j ≡ suc (n - (j + 1)) = omega (arith, below) in
+    let rest = map f (range_with_len (j + 1) (n - (j + 1))) in
+    ap (λ items. map g items ++ rest) step ∙ ap (λ items. items ++ rest) (map-append g old (v ∷ []))
+    ∙ append_assoc (map g old) (g v ∷ []) rest ∙ ap (λ item. map g old ++ item ∷ rest) is
+    ∙ sym (ap (λ k. map g old ++ map f (range_with_len j k)) more) ∙ left
+
+-- no item is left
+pub items_end : {X Y : Type 0} (g : X → Y) (f : ℕ → Y) (j n : ℕ) (items : List X) (all : List Y) → n ≤ j
+    → map g items ++ map f (range_with_len j (n - j)) ≡ all → map g items ≡ all
+items_end g f j n items all past left =
+    let none : n - j ≡ 0 = omega (arith, past) in
+    sym (append-nil (map g items)) ∙ sym (ap (λ k. map g items ++ map f (range_with_len j k)) none) ∙ left
 
 range_more : (first n : ℕ) → range_with_len first (suc n) ≡ range_with_len first n ++ (first + n) ∷ []
 range_more first zero =

@@ -20,4 +20,5 @@ pub mod IdComparisons
 pub mod Bars
 pub mod Charts
 pub mod ChartData
+pub mod Predecessors
 pub mod LinkColumns

@@ -10,6 +10,7 @@ use Rattle.plan_formats.specs.Columns.{Column}
 use Rattle.plan_formats.specs.NamedTables.{with_column}
 use Rattle.plan_formats.specs.Tables.{Table}
 use Rattle.plan_formats.specs.declared.column.Layout.TheVariants as layout
+use Rattle.plan_views.specs.Predecessors.{predecessor_words}
 use Rattle.plan_views.specs.declared.links.ActivityLinks as declared
 
 -- a comma behind a text that isn't empty
@@ -53,7 +54,7 @@ abbrev pub name_or_empty : Option Name → List ℕ
 name_or_empty None = []
 name_or_empty (Some name) = name.name
 
--- the id of the predecessor in an arc to activity j; empty for another arc, and without an id
+-- the word for the predecessor in an arc to activity j; empty for another arc, and without a word
 abbrev pub arc_word : List Name → ℕ → ℕ × ℕ → List ℕ
 arc_word ids j arc = if arc.1 == j then name_or_empty (first_name arc.0 ids) else []
 
@@ -87,10 +88,14 @@ links_at i names ids j = record {
   predecessors = predecessors_text ids j i.project.network.arcs;
 }
 
--- those of all activities, by the names of the resources and the ids of the activities
+-- those of all activities, by the names of the resources and the words for the predecessors
+abbrev pub links_by : Planned → List Name → List Name → List Links
+links_by i names words =
+    map (links_at i names words) (range_with_len 1 (count_of i.project.network))
+
+-- the same by the ids of the activities
 abbrev pub project_links : Planned → List Name → List Name → List Links
-project_links i names ids =
-    map (links_at i names ids) (range_with_len 1 (count_of i.project.network))
+project_links i names ids = links_by i names (predecessor_words ids i.project.network)
 
 -- the texts by the numbers of the activities
 abbrev pub resource_line : Links → Name

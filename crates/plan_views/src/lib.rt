@@ -17,6 +17,7 @@ mod line_lists;
 mod links;
 mod moments;
 mod plans;
+mod predecessors;
 mod rows;
 mod schedules;
 mod slacks;

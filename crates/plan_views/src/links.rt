@@ -7,6 +7,7 @@ ghost use Rattle.plan_formats.specs.Columns.{column_of};
 ghost use Rattle.plan_formats.specs.Tables.{table_of};
 ghost use Rattle.plan_views.specs.LinkColumns as spec;
 
+use crate::predecessors::{predecessor_words, word_lines};
 use plan_formats::{Column, Layout, Table, with_column};
 use plan_sgs::Instance;
 use plan_table::{NameLine, first_name};
@@ -148,9 +149,27 @@ fn links_at(
     })
 }
 
+// Returns the resources and the predecessors of each activity of a project, which have these words.
+fn links_by(
+    alloc: Global,
+    instance: &Instance<'_>,
+    resources: &[NameLine<'_>],
+    words: &[NameLine<'_>],
+) -> Result<Vec<ActivityLinks>, AllocError>
+    ensures { IfOk result (λ links. map spec.links_of links.items ≡ spec.links_by instance.now
+        (map name_of resources.now) (map name_of words.now)) }
+{
+    let mut links = Vec::new(alloc);
+    for k in 0..instance.network().len() {
+        links.push(links_at(alloc, instance, resources, words, k as u32 + 1)?)?;
+    }
+    Ok(links)
+}
+
 /// Returns the resources and the predecessors of each activity of a project as texts, by the names
 /// of its resources and the ids of its activities. A resource without a name is `R` and its number;
-/// predecessors without an id are left out, and so are resources of which nothing is needed.
+/// resources of which nothing is needed are left out. A wait is `A+2`, and other predecessors without
+/// an id are left out.
 pub fn project_links(
     alloc: Global,
     instance: &Instance<'_>,
@@ -160,11 +179,9 @@ pub fn project_links(
     ensures { IfOk result (λ links. map spec.links_of links.items ≡ spec.project_links instance.now
         (map name_of resources.now) (map name_of ids.now)) }
 {
-    let mut links = Vec::new(alloc);
-    for k in 0..instance.network().len() {
-        links.push(links_at(alloc, instance, resources, ids, k as u32 + 1)?)?;
-    }
-    Ok(links)
+    let words = predecessor_words(alloc, ids, instance.network())?;
+    let lines = word_lines(alloc, &words)?;
+    links_by(alloc, instance, resources, &lines)
 }
 
 // Returns the resources by the numbers of the activities.

@@ -3,6 +3,7 @@ use Rattle.std.proofs.lemmas.Result.{IfOk-weaker}
 use Rattle.std.proofs.lemmas.List.FromFn.{length-map-range_with_len}
 use Rattle.plan_net.specs.Network.{count_of}
 use Rattle.plan_psplib.specs.Tokens.{Fails}
+use Rattle.plan_report.specs.IdSheets.{id_sheet}
 use Rattle.plan_report.specs.Sheet.{Sheet, sheet_of}
 use Rattle.plan_report.specs.StartsText.{SaysStarts, activity_entry, starts_in}
 use Rattle.plan_table.specs.Names.{name_of}
@@ -30,6 +31,7 @@ returns-clause-refused c =
     (refused_of c.read_starts.result (sheet_of c.in_ok-sheet.sheet) text c.read_starts.ensures)
 
 pub returns-clause-whole : goal.returns-clause-whole
+unfolding id_sheet
 returns-clause-whole c =
     let net = c.args.network.now in
     IfOk-weaker c.read_starts.result _ _

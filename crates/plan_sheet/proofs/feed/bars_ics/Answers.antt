@@ -21,7 +21,12 @@ returns-clause-text c =
     }
 
 pub returns-clause-short : goal.returns-clause-short
-returns-clause-short c = ap (are_short 0) c.in_ok-text.ensures ∙ short_file _ c.args.bars.now
+returns-clause-short c =
+    ap (are_short 0)
+    (c.in_ok-text.ensures
+    ∙ ap₂ (λ ds ns. ics_text (record { work = work_of c.args.work.now; events = events_of c.args.events.now; days = ds; nexts = ns }) c.args.bars.now)
+    c.deref-2.ensures.value c.deref-3.ensures.value)
+    ∙ short_file (record { work = work_of c.args.work.now; events = events_of c.args.events.now; days = c.in_ok-days.days.items; nexts = c.in_ok-nexts.nexts.items }) c.args.bars.now
 
 pub returns-in_err-days-clause-beyond : goal.returns-in_err-days-clause-beyond
 returns-in_err-days-clause-beyond c is =

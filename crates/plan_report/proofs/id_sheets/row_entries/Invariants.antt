@@ -4,7 +4,7 @@ use Rattle.std.specs.List.{range_with_len}
 use Rattle.plan_table.specs.Names.{name_of}
 use Rattle.plan_report.specs.Sheet.{id_entry_of}
 use Rattle.plan_report.specs.IdSheets.{id_entry}
-use Rattle.plan_report.proofs.id_sheets.inner_entries.Given as goal
+use Rattle.plan_report.proofs.id_sheets.row_entries.Given as goal
 
 -- the entries of the activities so far
 abbrev pub invariant-loop-j : goal.invariant-loop-j

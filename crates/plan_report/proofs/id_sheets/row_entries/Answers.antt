@@ -5,7 +5,7 @@ use Rattle.plan_table.specs.Names.{name_of}
 use Rattle.plan_report.specs.declared.sheet.IdEntry as declared
 use Rattle.plan_report.specs.IdSheets.{id_entry}
 use Rattle.plan_report.proofs.IdSheetLemmas.{ids_more}
-use Rattle.plan_report.proofs.id_sheets.inner_entries.Goals as goal
+use Rattle.plan_report.proofs.id_sheets.row_entries.Goals as goal
 
 pub loop-j-preserved : goal.loop-j-preserved
 loop-j-preserved c =
