@@ -534,7 +534,8 @@ impl Code {
                 "The id in line N is empty, has more than 32 characters, or contains a blank, a comma, a semicolon or a control character. In a list of orders: the name of an order or a machine is empty."
             }
             Code::IdTwice => "The id in line N is the id of an earlier row.",
-            Code::NoPredecessor => "A predecessor in line N is the id of no row.",
+            Code::NoPredecessor =>
+                "A predecessor in line N is neither the id of a row nor such an id with a lag in days, for example A+2.",
             Code::BadNeed => {
                 "The need of this resource in line N, or its capacity, isn't a number: one to nine digits, no sign, no fraction."
             }
@@ -706,12 +707,13 @@ impl Code {
             }
             Code::BadId => "Shorten the id, or replace its blanks.",
             Code::IdTwice => "Give each row its own id.",
-            Code::NoPredecessor => "Correct the predecessor, or add its row.",
+            Code::NoPredecessor =>
+                "Correct the predecessor, or add its row. A lag is a number of days. Links such as A+2SS aren't supported.",
             Code::BadNeed => {
                 "Correct the cell. If the column isn't a resource, delete it or its header."
             }
             Code::NoCapacity => {
-                "Add a row with the id capacity and the amounts, or the option --capacity NAME=N. If the column isn't a resource, delete it or its header."
+                "Add a row with the id capacity and the amounts, or give plan import the option --capacity NAME=N. If the column isn't a resource, delete it or its header."
             }
             Code::TableCycle => "Delete one of these predecessors.",
             Code::TableLimit => "Choose a coarser time unit, or split the project.",

@@ -17,6 +17,8 @@ use Rattle.plan_spreadsheet.specs.PreparedLists.{IsPlainWith}
 use Rattle.plan_spreadsheet.specs.Rows.{Spells, filled}
 use Rattle.plan_spreadsheet.proofs.AssignmentLemmas.{spliced_cells}
 use Rattle.plan_list_back.specs.ListBack.{IsBack, IsProjectOf, IsReadAs, SameProject, Times, padded, put, with_times}
+use Rattle.plan_list_back.specs.Texts.{IsUnwritten}
+use Rattle.plan_list_back.specs.declared.fault.ListBackFault.{ListBackFault}
 
 -- a text in the place of another cell
 pub put_within : (k : ℕ) (text : List ℕ) (cells : List (List ℕ)) → k < length cells
@@ -55,6 +57,11 @@ pub put_behind : (k : ℕ) (text : List ℕ) (cells : List (List ℕ)) → lengt
 put_behind k text cells behind =
     ap (λ front. front ++ text ∷ drop (k + 1) cells) (take_all k (padded k cells) (omega (arith, padded_length k cells behind)))
     ∙ ap (λ end. padded k cells ++ text ∷ end) (drop_all (k + 1) cells (omega (arith, behind)))
+
+-- the error of a text that isn't read as its rows
+pub unwritten : (made text : List ℕ) (rows : List Row) (fault : ListBackFault) → made ≡ text → (Spells made rows → ⊥)
+    → ((others : List Row) → (Spells made others → ⊥) → IsUnwritten made others fault) → IsUnwritten text rows fault
+unwritten made text rows fault same unread told = subst (λ (t : List ℕ). IsUnwritten t rows fault) same (told rows unread)
 
 -- a text is read as the rows of a list with times
 pub back : (times : List Times) (bytes text made : List ℕ) (d : Decoded) (rows all new : List Row)

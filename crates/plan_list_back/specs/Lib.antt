@@ -1,1 +1,2 @@
 pub mod ListBack
+pub mod Texts

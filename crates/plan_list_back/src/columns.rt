@@ -9,9 +9,9 @@ use plan_psplib::trim;
 use plan_table::{Row, same_name};
 use std::alloc::{AllocError, Global};
 
-// Returns the place of the first column with a header.
+/// Returns where the first column with a header is.
 #[tactic(auto, unfolding(crate::specs::ListBack::place_from))]
-fn place_in(word: &[u8], cells: &[Vec<u8>]) -> Option<usize>
+pub fn place_in(word: &[u8], cells: &[Vec<u8>]) -> Option<usize>
     ensures { result ≡ spec.place_in word.now (map (λ cell. cell.items) cells.now) }
 {
     for (k, cell) in cells.iter().enumerate() {
@@ -82,8 +82,13 @@ fn put_behind(
     Ok(all)
 }
 
-// Cells with a text in column `k`.
-fn put(alloc: Global, k: usize, text: &[u8], cells: &[Vec<u8>]) -> Result<Vec<Vec<u8>>, AllocError>
+/// Returns cells with a text in column `k`.
+pub fn put(
+    alloc: Global,
+    k: usize,
+    text: &[u8],
+    cells: &[Vec<u8>],
+) -> Result<Vec<Vec<u8>>, AllocError>
     ensures { IfOk result (λ v. map (λ cell. cell.items) v.items
         ≡ spec.put k text.now (map (λ cell. cell.items) cells.now)) }
 {
@@ -95,8 +100,8 @@ fn put(alloc: Global, k: usize, text: &[u8], cells: &[Vec<u8>]) -> Result<Vec<Ve
     }
 }
 
-// A header with a word behind its cells, unless it has it already.
-fn header_with(alloc: Global, word: &[u8], row: &Row) -> Result<Row, AllocError>
+/// Returns a header with a word behind its cells, unless it has it already.
+pub fn header_with(alloc: Global, word: &[u8], row: &Row) -> Result<Row, AllocError>
     ensures { IfOk result (λ r. row_of r ≡ spec.header_with word.now (row_of row.now)) }
 {
     let mut cells = Vec::new(alloc);

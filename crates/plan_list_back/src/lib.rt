@@ -8,7 +8,8 @@ mod sameness;
 mod text;
 mod times;
 
+pub use columns::{header_with, place_in, put};
 pub use fault::ListBackFault;
-pub use lists::list_back;
+pub use lists::{list_back, spelled_rows};
 pub use sameness::list_table;
-pub use times::Times;
+pub use times::{Times, has_id};

@@ -1,16 +1,19 @@
 //! A planner's own list with the times of its activities.
 
-ghost use Rattle.std.specs.Prelude.{map, IfOk};
+ghost use Rattle.std.specs.Prelude.{◌≡◌, List, map, IfErr, IfOk};
 ghost use Rattle.plan_encoding.specs.Encodings.{utf8_of};
+ghost use Rattle.plan_table.specs.Csv as csv;
 ghost use Rattle.plan_table.specs.Csv.{row_of};
 ghost use Rattle.plan_table.specs.Overrides.{override_of};
 ghost use Rattle.plan_spreadsheet.specs.Options.{options_of};
+ghost use Rattle.plan_spreadsheet.specs.Rows.{Spells};
 ghost use Rattle.plan_list_back.specs.ListBack as spec;
+ghost use Rattle.plan_list_back.specs.Texts as texts;
 
 use crate::columns::with_times;
 use crate::fault::ListBackFault;
 use crate::sameness::project_of;
-use crate::text::{separator_of, text_of};
+use crate::text::text_with;
 use crate::times::Times;
 use plan_encoding::utf8_text;
 use plan_psplib::LONGEST_TEXT;
@@ -18,8 +21,11 @@ use plan_spreadsheet::{Options, filled, spells};
 use plan_table::{Override, ReadError, Row, read_rows_of};
 use std::alloc::Global;
 
-// Why a text isn't read as the rows of a list with times.
-fn too_long_or_changed(made: &[u8]) -> ListBackFault {
+// Returns the error of a text that isn't read as its rows.
+fn unread(made: &[u8]) -> ListBackFault
+    ensures { (rows : List csv.Row) → (Spells made.now rows → ⊥)
+        → texts.IsUnwritten made.now rows result }
+{
     if made.len() > LONGEST_TEXT {
         ListBackFault::TooLong
     } else {
@@ -36,6 +42,29 @@ fn changed(fault: ListBackFault) -> ListBackFault {
     }
 }
 
+/// Returns the text of rows, each in its line. It has the separator of `text`, which is the text of
+/// the file in UTF-8, and begins with a byte-order mark if `bytes` do, which are those of the file.
+pub fn spelled_rows(
+    alloc: Global,
+    bytes: &[u8],
+    text: &[u8],
+    rows: &[Row],
+) -> Result<Vec<u8>, ListBackFault>
+    ensures spelled { IfOk result (λ made. made.items
+        ≡ texts.text_with bytes.now text.now (map row_of rows.now)) }
+    // The text is read as these rows.
+    ensures read { IfOk result (λ made. Spells made.items (map row_of rows.now)) }
+    ensures refused { IfErr result (texts.IsUnwritten
+        (texts.text_with bytes.now text.now (map row_of rows.now)) (map row_of rows.now)) }
+{
+    let made = text_with(alloc, bytes, text, rows)?;
+    let right = spells(alloc, &made, rows)?;
+    if !right {
+        return Err(unread(&made));
+    }
+    Ok(made)
+}
+
 // A list with the times of its activities, which are no part of the project.
 #[tactic(auto, using(crate::proofs::ListBackLemmas::back))]
 fn with_texts(alloc: Global, bytes: &[u8], times: &[Times<'_>]) -> Result<Vec<u8>, ListBackFault>
@@ -50,11 +79,7 @@ fn with_texts(alloc: Global, bytes: &[u8], times: &[Times<'_>]) -> Result<Vec<u8
         Err(ReadError::Fault(_)) => return Err(ListBackFault::NoList),
     };
     let rows = with_times(alloc, times, &rows)?;
-    let made = text_of(alloc, bytes, separator_of(text), &rows)?;
-    let right = spells(alloc, &made, &rows)?;
-    if !right {
-        return Err(too_long_or_changed(&made));
-    }
+    let made = spelled_rows(alloc, bytes, text, &rows)?;
     Ok(made)
 }
 

@@ -1,37 +1,71 @@
-//! The text of rows (RFC 4180). No contract says what it is: `list_back` reads it again.
+//! The text of rows in the layout of their list (RFC 4180).
 
+ghost use Rattle.std.specs.Prelude.{◌≡◌, ◌<◌, ◌++◌, ◌∷◌, length, map, replicate, IfOk, OnOk};
+ghost use Rattle.std.specs.List.{position};
+ghost use Rattle.plan_psplib.specs.Lines.{is_line_feed, raw_lines};
+ghost use Rattle.plan_spreadsheet.specs.Spelling as spelling;
+ghost use Rattle.plan_table.specs.Csv as csv;
+ghost use Rattle.plan_table.specs.Csv.{row_of};
+ghost use Rattle.plan_list_back.specs.Texts as spec;
+
+use plan_psplib::trim;
 use plan_table::Row;
 use std::alloc::{AllocError, Global};
 
-// The marks that a line contains.
-#[derive(Clone, Copy)]
-struct Marks {
-    tab: bool,
-    semicolon: bool,
-    content: bool,
-}
+// ---- the separator
 
-// Nothing.
-fn no_marks() -> Marks {
-    Marks {
-        tab: false,
-        semicolon: false,
-        content: false,
+// Returns the separator of a header line.
+fn delimiter_of(line: &[u8]) -> u8
+    ensures { result ≡ csv.delimiter_of line.now }
+{
+    if line.contains(&b'\t') {
+        b'\t'
+    } else if line.contains(&b';') {
+        b';'
+    } else {
+        b','
     }
 }
 
-// Returns the marks of a line with one more byte.
-fn with_byte(marks: Marks, byte: u8) -> Marks {
-    Marks {
-        tab: marks.tab || byte == b'\t',
-        semicolon: marks.semicolon || byte == b';',
-        content: marks.content
-            || !matches!(byte, b'\t' | b'\x0b' | b'\x0c' | b'\r' | b'\x1a' | b' '),
+// Returns where the first line ends.
+fn first_line_end(text: &[u8]) -> Option<usize>
+    ensures { result ≡ position is_line_feed text.now }
+{
+    text.iter().position(|&byte| byte == b'\n')
+}
+
+// Splits a nonempty text into its first line and the text behind it.
+#[tactic(auto, using(plan_table::proofs::HeaderLineLemmas::first_line, plan_table::proofs::HeaderLineLemmas::only_line))]
+fn cut_line(text: &[u8]) -> (&[u8], &[u8])
+    requires { 0 < length text.now }
+    ensures line { raw_lines text.now ≡ result.0.now ∷ raw_lines result.1.now }
+    ensures shorter { length result.1.now < length text.now }
+{
+    match first_line_end(text) {
+        Some(end) => (&text[..end], &text[end + 1..]),
+        None => (text, &[]),
     }
 }
 
-// A text without a byte-order mark at its start.
-fn without_mark(text: &[u8]) -> &[u8] {
+// Returns the first line with content.
+fn header_line(text: &[u8]) -> &[u8]
+    ensures { result.now ≡ csv.header_line text.now }
+{
+    let mut rest = text;
+    while !rest.is_empty() {
+        let (line, others) = cut_line(rest);
+        if !trim(line).is_empty() {
+            return line;
+        }
+        rest = others;
+    }
+    b""
+}
+
+// Returns a text without a byte-order mark at its start.
+fn without_mark(text: &[u8]) -> &[u8]
+    ensures { result.now ≡ csv.without_mark text.now }
+{
     if text.starts_with(b"\xef\xbb\xbf") {
         &text[3..]
     } else {
@@ -39,119 +73,192 @@ fn without_mark(text: &[u8]) -> &[u8] {
     }
 }
 
-// Returns the marks of the first line with content.
-fn header_marks(text: &[u8]) -> Marks {
-    let mut marks = no_marks();
-    for &byte in without_mark(text) {
-        if byte != b'\n' {
-            marks = with_byte(marks, byte);
-        } else if marks.content {
-            return marks;
-        } else {
-            marks = no_marks();
-        }
-    }
-    marks
+// Returns the separator of a list.
+fn separator_of(text: &[u8]) -> u8
+    ensures { result ≡ spec.separator_of text.now }
+{
+    delimiter_of(header_line(without_mark(text)))
 }
 
-/// Returns the separator of a list: the first of tab, semicolon and comma in its first line with
-/// content.
-pub fn separator_of(text: &[u8]) -> u8 {
-    let marks = header_marks(text);
-    if marks.content && marks.tab {
-        b'\t'
-    } else if marks.content && marks.semicolon {
-        b';'
-    } else {
-        b','
-    }
+// ---- cells
+
+// Whether a cell with this byte is written between quotes.
+fn needs_quotes(separator: u8, byte: u8) -> bool
+    ensures { result ≡ spec.needs_quotes separator byte }
+{
+    byte == separator || byte == b'"' || byte == b'\r' || byte == b'\n'
 }
 
 // Whether a cell is written between quotes.
-fn is_quoted(separator: u8, cell: &[u8]) -> bool {
+fn is_quoted(separator: u8, cell: &[u8]) -> bool
+    ensures { result ≡ spec.is_quoted separator cell.now }
+{
     for &byte in cell {
-        if byte == separator || matches!(byte, b'"' | b'\r' | b'\n') {
+        if needs_quotes(separator, byte) {
             return true;
         }
     }
     false
 }
 
-// Appends the bytes of a cell; a quote is doubled. Returns how many line feeds there are.
-fn push_bytes(text: &mut Vec<u8>, cell: &[u8]) -> Result<u64, AllocError> {
-    let mut feeds: u64 = 0;
+// Appends a byte of a cell between quotes.
+fn push_byte(text: &mut Vec<u8>, byte: u8) -> Result<(), AllocError>
+    ensures { OnOk result (text.new.items ≡ text.old.items ++ spelling.quoted_byte byte) }
+{
+    if byte == b'"' {
+        text.push(b'"')?;
+    }
+    text.push(byte)?;
+    Ok(())
+}
+
+// Appends a cell between quotes.
+#[tactic(auto, unfolding(plan_spreadsheet::specs::Spelling::quoted_from))]
+fn push_quoted(text: &mut Vec<u8>, cell: &[u8]) -> Result<(), AllocError>
+    ensures { OnOk result (text.new.items ≡ spelling.with_cell text.old.items cell.now) }
+{
+    text.push(b'"')?;
     for &byte in cell {
-        if byte == b'"' {
-            text.push(b'"')?;
-        }
-        text.push(byte)?;
-        if byte == b'\n' {
-            feeds = feeds.saturating_add(1);
-        }
-    }
-    Ok(feeds)
-}
-
-// Appends a cell. Returns how many line feeds it contains.
-fn push_cell(text: &mut Vec<u8>, separator: u8, cell: &[u8]) -> Result<u64, AllocError> {
-    if !is_quoted(separator, cell) {
-        text.extend_from_slice(cell)?;
-        return Ok(0);
+        push_byte(text, byte)?;
     }
     text.push(b'"')?;
-    let feeds = push_bytes(text, cell)?;
-    text.push(b'"')?;
-    Ok(feeds)
+    Ok(())
 }
 
-// Appends a row with a carriage return behind it. Returns the line in which it ends.
-fn push_row(text: &mut Vec<u8>, separator: u8, row: &Row) -> Result<u64, AllocError> {
-    let mut line = row.line;
-    for (k, cell) in row.cells.iter().enumerate() {
-        if k > 0 {
-            text.push(separator)?;
-        }
-        let feeds = push_cell(text, separator, cell)?;
-        line = line.saturating_add(feeds);
+// Appends a cell.
+fn push_cell(text: &mut Vec<u8>, separator: u8, cell: &[u8]) -> Result<(), AllocError>
+    ensures { OnOk result (text.new.items
+        ≡ spec.with_text separator text.old.items cell.now) }
+{
+    if is_quoted(separator, cell) {
+        return push_quoted(text, cell);
     }
-    text.push(b'\r')?;
-    Ok(line)
+    text.extend_from_slice(cell)?;
+    Ok(())
 }
 
-// Appends line feeds up to a line.
-fn push_feeds(text: &mut Vec<u8>, from: u64, to: u64) -> Result<(), AllocError> {
-    for _line in from..to {
+// Appends a separator, unless the next cell is the first one of its row.
+fn push_separator(text: &mut Vec<u8>, separator: u8, k: usize) -> Result<(), AllocError>
+    ensures { OnOk result (text.new.items
+        ≡ spec.with_separator separator k text.old.items) }
+{
+    if k == 0 {
+        return Ok(());
+    }
+    text.push(separator)?;
+    Ok(())
+}
+
+// Appends the cells of a row.
+#[tactic(auto, unfolding(crate::specs::Texts::cells_from))]
+fn push_cells(text: &mut Vec<u8>, separator: u8, cells: &[Vec<u8>]) -> Result<(), AllocError>
+    ensures { OnOk result (text.new.items ≡ spec.cells_from separator text.old.items 0
+        (map (λ cell. cell.items) cells.now)) }
+{
+    for (k, cell) in cells.iter().enumerate() {
+        push_separator(text, separator, k)?;
+        push_cell(text, separator, cell)?;
+    }
+    Ok(())
+}
+
+// ---- rows
+
+// Returns how many line feeds a cell contains.
+fn feeds_in(cell: &[u8]) -> u64
+    ensures { result ≡ spelling.feeds_in cell.now }
+{
+    cell.iter().filter(|&&byte| byte == b'\n').count() as u64
+}
+
+// Returns how many line feeds are between a row and the line of the next one.
+fn gap(before: &Row, line: u64) -> u64
+    ensures { result ≡ spelling.gap (row_of before.now) line }
+{
+    let mut left = line.saturating_sub(before.line);
+    for cell in &before.cells {
+        left = left.saturating_sub(feeds_in(cell));
+    }
+    left
+}
+
+// Appends line feeds.
+fn push_feeds(text: &mut Vec<u8>, count: u64) -> Result<(), AllocError>
+    ensures { OnOk result (text.new.items ≡ text.old.items ++ replicate count 10) }
+{
+    for _feed in 0..count {
         text.push(b'\n')?;
     }
     Ok(())
 }
 
-// Appends the byte-order mark of UTF-8 if the bytes of a file begin with one of any encoding.
-fn push_mark(text: &mut Vec<u8>, bytes: &[u8]) -> Result<(), AllocError> {
-    let is_marked = bytes.starts_with(b"\xef\xbb\xbf")
-        || bytes.starts_with(b"\xff\xfe")
-        || bytes.starts_with(b"\xfe\xff");
-    if is_marked {
-        text.extend_from_slice(b"\xef\xbb\xbf")?;
+// Appends a row, in its line.
+fn push_row(text: &mut Vec<u8>, separator: u8, before: &Row, row: &Row) -> Result<(), AllocError>
+    ensures { OnOk result (text.new.items ≡ spec.with_row separator text.old.items
+        (row_of before.now) (row_of row.now)) }
+{
+    push_feeds(text, gap(before, row.line))?;
+    push_cells(text, separator, &row.cells)?;
+    text.push(b'\r')?;
+    Ok(())
+}
+
+// Appends rows, each in its line, behind another one.
+#[tactic(auto, unfolding(crate::specs::Texts::rows_from))]
+fn push_lines<'a>(
+    text: &mut Vec<u8>,
+    separator: u8,
+    first: &'a Row,
+    rows: &'a [Row],
+) -> Result<(), AllocError>
+    ensures { OnOk result (text.new.items ≡ spec.rows_from separator text.old.items
+        (row_of first.now) (map row_of rows.now)) }
+{
+    let mut before = first;
+    for row in rows {
+        push_row(text, separator, before, row)?;
+        before = row;
     }
     Ok(())
 }
 
-/// Returns the text of rows, each in its line. It begins with a byte-order mark if the bytes of the
-/// file of the rows do.
-pub fn text_of(
+// Whether bytes begin with a byte-order mark.
+fn is_marked(bytes: &[u8]) -> bool
+    ensures { result ≡ spec.is_marked bytes.now }
+{
+    bytes.starts_with(b"\xef\xbb\xbf")
+        || bytes.starts_with(b"\xff\xfe")
+        || bytes.starts_with(b"\xfe\xff")
+}
+
+// Returns the mark of the text for a file with these bytes.
+fn mark_of(bytes: &[u8]) -> &'static [u8]
+    ensures { result.now ≡ spec.mark_of bytes.now }
+{
+    if is_marked(bytes) {
+        b"\xef\xbb\xbf"
+    } else {
+        b""
+    }
+}
+
+/// Returns the text of rows for a file with these bytes, which is `text` in UTF-8: with its
+/// separator and its byte-order mark, and with each row in its line.
+pub fn text_with(
     alloc: Global,
     bytes: &[u8],
-    separator: u8,
+    text: &[u8],
     rows: &[Row],
-) -> Result<Vec<u8>, AllocError> {
-    let mut text = Vec::new(alloc);
-    push_mark(&mut text, bytes)?;
-    let mut line: u64 = 1;
-    for row in rows {
-        push_feeds(&mut text, line, row.line)?;
-        line = push_row(&mut text, separator, row)?;
-    }
-    text.push(b'\n')?;
-    Ok(text)
+) -> Result<Vec<u8>, AllocError>
+    ensures { IfOk result (λ made. made.items
+        ≡ spec.text_with bytes.now text.now (map row_of rows.now)) }
+{
+    let first = Row {
+        line: 1,
+        cells: Vec::new(alloc),
+    };
+    let mut made = Vec::from_slice(alloc, mark_of(bytes))?;
+    push_lines(&mut made, separator_of(text), &first, rows)?;
+    made.push(b'\n')?;
+    Ok(made)
 }

@@ -64,8 +64,8 @@ fn is_in(id: &[u8], cells: &[Vec<u8>]) -> bool
     false
 }
 
-// Whether an id is empty, or a cell has it.
-fn has_id(id: &[u8], cells: &[Vec<u8>]) -> bool
+/// Whether an id is empty, or a cell has it between blanks.
+pub fn has_id(id: &[u8], cells: &[Vec<u8>]) -> bool
     ensures { result ≡ spec.has_id id.now (map (λ cell. cell.items) cells.now) }
 {
     id.is_empty() || is_in(id, cells)

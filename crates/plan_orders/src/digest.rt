@@ -2,4 +2,4 @@
 
 /// The digest of all sources of the program but this file, in hexadecimal digits, as
 /// `./release --digest` prints it.
-pub(crate) const SOURCES: &str = "12145b1ecdc1a6c598c8e194884b6c4e6abfa697d6800e0c03b43f41ea33e2e5";
+pub(crate) const SOURCES: &str = "54e7895a4f992d4542232e2c5f72048e1e1c2fbaf1e810ffe7d6238497c9696c";

@@ -717,10 +717,10 @@ fn days_task<'a>(
     })
 }
 
-// Returns the options of a list with dates, if the arguments of `days` ask for a table of the best
-// schedule.
+// Returns the options of a list with dates, if the arguments of `days` ask for a table or a list of
+// the best schedule.
 fn days_week<'a>(arguments: &'a ArgMatches<'_>) -> Option<WeekWords<'a>> {
-    if arguments.get_flag("solve") && !prints_list(arguments) {
+    if arguments.get_flag("solve") {
         return Some(week_words(arguments, None));
     }
     None

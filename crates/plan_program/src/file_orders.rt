@@ -108,7 +108,14 @@ fn do_texts(
 ) -> Result<(), FileFault> {
     let mut line = ProgressLine::within(rt, seconds);
     match (week, task) {
-        (Some(words), Task::Days { dates, .. }) => {
+        (
+            Some(words),
+            Task::Days { dates, .. }
+            | Task::List {
+                dates: Some(dates),
+                ..
+            },
+        ) => {
             do_days_file(
                 rt, options, task, dates, rows, words, &mut line, texts, path,
             )?

@@ -29,6 +29,7 @@ columns_of body heads = record {
   remaining = dated_from body (codes "remaining") 0 heads;
   done = dated_from body (codes "done") 0 heads;
   due = dated_from body (codes "due") 0 heads;
+  late = dated_from body (codes "late") 0 heads;
 }
 
 -- a column is column k
@@ -36,17 +37,19 @@ abbrev pub is_place : Option ℕ → ℕ → Bool
 is_place None k = false
 is_place (Some place) k = place == k
 
--- column k has dates
+-- column k has dates, or the tardiness in an earlier plan, which isn't read
 abbrev pub has_dates : Columns → ℕ → Bool
 has_dates columns k =
     is_place columns.earliest k || is_place columns.fixed k || is_place columns.begun k
     || is_place columns.remaining k || is_place columns.done k || is_place columns.due k
+    || is_place columns.late k
 
--- no column has dates
+-- no column has dates or such a tardiness
 abbrev pub is_undated : Columns → Bool
 is_undated columns =
     is_none columns.earliest && is_none columns.fixed && is_none columns.begun
     && is_none columns.remaining && is_none columns.done && is_none columns.due
+    && is_none columns.late
 
 -- a row with the id `absence`, in any case
 abbrev pub is_absence : Option ℕ → Row → Bool

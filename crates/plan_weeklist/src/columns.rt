@@ -12,7 +12,8 @@ ghost use Rattle.plan_weeklist.specs.Columns as spec;
 use plan_table::{Body, Column, Head, Row, cell_of, has_capacity, same, same_kind, same_name};
 use std::alloc::{AllocError, Global};
 
-/// The columns of the ids and of the durations, and those of dates.
+/// The columns of the ids and of the durations, those of dates, and that of the tardiness in an
+/// earlier plan.
 #[derive(Clone, Copy, Drop)]
 pub struct Columns {
     pub ids: Option<usize>,
@@ -23,6 +24,7 @@ pub struct Columns {
     pub remaining: Option<usize>,
     pub done: Option<usize>,
     pub due: Option<usize>,
+    pub late: Option<usize>,
 }
 
 // Whether column `k` has dates of a kind.
@@ -69,6 +71,7 @@ pub fn columns_of(body: &Body<'_>, heads: &[Head]) -> Columns
         remaining: dated_place(body, b"remaining", heads),
         done: dated_place(body, b"done", heads),
         due: dated_place(body, b"due", heads),
+        late: dated_place(body, b"late", heads),
     }
 }
 
@@ -82,7 +85,7 @@ fn is_place(place: Option<usize>, k: usize) -> bool
     }
 }
 
-/// Whether column `k` has dates.
+/// Whether column `k` has dates, or the tardiness in an earlier plan, which isn't read.
 pub fn has_dates(columns: &Columns, k: usize) -> bool
     ensures { result ≡ spec.has_dates columns.now k }
 {
@@ -92,9 +95,10 @@ pub fn has_dates(columns: &Columns, k: usize) -> bool
         || is_place(columns.remaining, k)
         || is_place(columns.done, k)
         || is_place(columns.due, k)
+        || is_place(columns.late, k)
 }
 
-/// Whether no column has dates.
+/// Whether no column has dates or such a tardiness.
 pub fn is_undated(columns: &Columns) -> bool
     ensures { result ≡ spec.is_undated columns.now }
 {
@@ -104,6 +108,7 @@ pub fn is_undated(columns: &Columns) -> bool
         && columns.remaining.is_none()
         && columns.done.is_none()
         && columns.due.is_none()
+        && columns.late.is_none()
 }
 
 /// Whether a row is an absence.
