@@ -2,4 +2,4 @@
 
 /// The digest of all sources of the program but this file, in hexadecimal digits, as
 /// `./release --digest` prints it.
-pub(crate) const SOURCES: &str = "54e7895a4f992d4542232e2c5f72048e1e1c2fbaf1e810ffe7d6238497c9696c";
+pub(crate) const SOURCES: &str = "3e4e3c026c367e8e0c54a7178ccc0b3b2dc38201c7e49d91488d1db15ed3f54a";

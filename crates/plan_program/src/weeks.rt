@@ -168,8 +168,8 @@ fn do_week_task(
     }
 }
 
-// Returns the calendar of `solve`, if dates are given. The holidays are read first.
-fn calendar_in(
+/// Returns the calendar of `solve` or `check`, if dates are given. The holidays are read first.
+pub(crate) fn calendar_in(
     rt: &HostRuntime,
     words: WeekWords<'_>,
 ) -> Result<Option<InstantCalendar>, CliFault> {
