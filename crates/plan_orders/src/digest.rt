@@ -2,4 +2,4 @@
 
 /// The digest of all sources of the program but this file, in hexadecimal digits, as
 /// `./release --digest` prints it.
-pub(crate) const SOURCES: &str = "3e4e3c026c367e8e0c54a7178ccc0b3b2dc38201c7e49d91488d1db15ed3f54a";
+pub(crate) const SOURCES: &str = "1af7bd1fb84cb0de695b6fd960865b68f333cf74f092c611a353c085cac8ca36";

@@ -15,3 +15,4 @@ pub use columns::DateColumn;
 pub use fault::{CellCode, CellFault, DateError};
 pub use laws::days_have_their_instants;
 pub use list::{DatedList, dated_list};
+pub use text::write_rows;
