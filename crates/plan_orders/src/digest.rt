@@ -2,4 +2,4 @@
 
 /// The digest of all sources of the program but this file, in hexadecimal digits, as
 /// `./release --digest` prints it.
-pub(crate) const SOURCES: &str = "1af7bd1fb84cb0de695b6fd960865b68f333cf74f092c611a353c085cac8ca36";
+pub(crate) const SOURCES: &str = "65c388e00aa9fb2c4a245560020cc56729dea050b7a72ab19df25d03eba01fe8";
