@@ -2,4 +2,4 @@
 
 /// The digest of all sources of the program but this file, in hexadecimal digits, as
 /// `./release --digest` prints it.
-pub(crate) const SOURCES: &str = "65c388e00aa9fb2c4a245560020cc56729dea050b7a72ab19df25d03eba01fe8";
+pub(crate) const SOURCES: &str = "0e812745502e2dd6aded6051d8d3cc57636776253a09fecaa9d1324da9701b2f";
