@@ -748,7 +748,7 @@ impl Code {
             Code::BadBudget => "Give a budget of at most 200000.",
             Code::BadNodes => "Start with 1000000, which takes some seconds.",
             Code::NoResource => {
-                "Name a resource by its number in the file, for example R2=4 for the second."
+                "Name a resource by its number in the file, for example R2=4 for the second. For a list without a row of capacities, give the capacities to plan import."
             }
             Code::LateEnd => "Start the activities earlier, or use larger time units.",
             Code::Infeasible => "Correct the start times. Check them with plan check.",

@@ -2,4 +2,4 @@
 
 /// The digest of all sources of the program but this file, in hexadecimal digits, as
 /// `./release --digest` prints it.
-pub(crate) const SOURCES: &str = "0e812745502e2dd6aded6051d8d3cc57636776253a09fecaa9d1324da9701b2f";
+pub(crate) const SOURCES: &str = "aa289b86352b9bd4ba774543a789f70a7527c27fcaa304029d9718b8d34b257b";
