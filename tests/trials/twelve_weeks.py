@@ -1,11 +1,12 @@
 #!/usr/bin/env python3
-"""Carries one planner's list through twelve weeks: people fall ill, work is late or early, is added and
-interrupted, a second site shares the crew, things are due. Each week `plan solve --now T --format list`
-prints the list with its plan, the planner writes into it what has happened, and that is the list of the
-next week. A model checks each plan by its definition, and the list for everything else in it. `plan days`
-must print the same list with the days of the plan.
+"""Carries one planner's list through twelve weeks. People fall ill, work is late, early, added or
+interrupted, a second site shares the crew, and some work is due. Each week `plan solve --now T --format
+list` prints the list with its plan. The planner enters what has happened, and that is the list of the next
+week. A model checks each plan by its definition, and all other cells of the list. `plan days` must print
+the same list with the days of the plan.
 
-If begun work is more than the crew that is left, `plan solve` says so, and the planner interrupts some.
+If begun work needs more than the crew that is left, `plan solve` must return S11. The planner then
+interrupts some work.
 
     tests/trials/twelve_weeks.py       prints nothing on success
     tests/trials/twelve_weeks.py -v    prints a line a week
@@ -218,9 +219,9 @@ def planned(folder, sheet, now, goal):
 
 
 def interrupt_overload(folder, sheet, now):
-    """Interrupts begun work as long as it is more than the crew that is left. The program says when it
-    is."""
-    name = f"overload{now // LONG + 1}.csv"
+    """Interrupts begun work while it needs more than the crew that is left; the program must report the
+    same overload. Returns how many activities it interrupted."""
+    name, count = f"overload{now // LONG + 1}.csv", 0
     while (overload := weeks.overload(week_of(sheet, now))) is not None:
         instant, resource = overload
         crew = CREWS[resource]
@@ -228,6 +229,8 @@ def interrupt_overload(folder, sheet, now):
         found = plan(folder, "solve", "--now", str(now), name)
         same(f"week {now // LONG + 1}: an overload", found, refused(f"S11 {crew} {instant}"))
         sheet.put(begun_with(sheet, crew), begun="interrupted")
+        count += 1
+    return count
 
 
 # ---- what happens in a week
@@ -256,7 +259,7 @@ def begun_with(sheet, *crews):
     return None
 
 
-# Each event returns whether it can happen; otherwise it is for a later week.
+# Each event returns whether it can happen in this week; if not, it is tried in a later one.
 
 
 def ill(sheet, now):
@@ -301,8 +304,8 @@ def second_site(sheet, now):
     return True
 
 
-def two_ill(sheet, now):
-    sheet.add(f"absence,Ada is away,4,,1,,{now + 1},,,,,,\nabsence,digger in repair,3,,,1,{now},,,,,,\n")
+def three_away(sheet, now):
+    sheet.add(f"absence,a course,4,,3,,{now + 1},,,,,,\nabsence,digger in repair,3,,,1,{now},,,,,,\n")
     return True
 
 
@@ -317,13 +320,13 @@ def dropped(sheet, now):
     return True
 
 
-EVENTS = [ill, late, added, finished, interrupted, appointed, second_site, two_ill, hired, dropped]
+EVENTS = [ill, late, added, finished, interrupted, appointed, second_site, three_away, hired, dropped]
 # The goal of the plans after an event.
 GOALS = {"second_site": "tardiness", "dropped": "makespan"}
 
 
 def happening(sheet, now, events):
-    """The name of the first of the events that can happen, which does, or "nothing"."""
+    """Makes the first event happen that can, and returns its name, or "nothing"."""
     for event in events:
         if event(sheet, now):
             events.remove(event)
@@ -332,17 +335,18 @@ def happening(sheet, now, events):
 
 
 def try_twelve_weeks(_room=None, is_verbose=False):
-    sheet, goal, events = Sheet(",".join(HEADS) + "\n" + HOUSE), None, list(EVENTS)
+    sheet, goal, events, count = Sheet(",".join(HEADS) + "\n" + HOUSE), None, list(EVENTS), 0
     with tempfile.TemporaryDirectory() as folder:
         for now in range(0, 12 * LONG, LONG):
             made, week, starts = planned(folder, sheet, now, goal)
             live(made, week, starts, now + LONG)
             event = happening(made, now + LONG, events) if now else "nothing"
-            interrupt_overload(folder, made, now + LONG)
+            count += interrupt_overload(folder, made, now + LONG)
             if is_verbose:
                 print(f"week {now // LONG + 1}: {weeks.makespan(week, starts)}, then {event}")
             sheet, goal = made, GOALS.get(event, goal)
     same("events that haven't happened", events, [])
+    same("an overload has happened", count > 0, True)
 
 
 if __name__ == "__main__":
