@@ -2,4 +2,4 @@
 
 /// The digest of all sources of the program but this file, in hexadecimal digits, as
 /// `./release --digest` prints it.
-pub(crate) const SOURCES: &str = "aa289b86352b9bd4ba774543a789f70a7527c27fcaa304029d9718b8d34b257b";
+pub(crate) const SOURCES: &str = "e4db64428ae2fc888050e497210dac7aa3be9e9707e615dad44bfff19466225f";
