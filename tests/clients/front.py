@@ -48,7 +48,7 @@ def filled(name, room, port, pair):
     text = replaced(text, r"listen 443 ssl;", f"listen 127.0.0.1:{port}{' ssl' if pair else ''};")
     text = replaced(text, r"/var/log/nginx/office\.log", os.path.join(room, "access.log"))
     text = replaced(text, r"/var/log/nginx/office-error\.log", os.path.join(room, "office-error.log"))
-    text = replaced(text, r"/usr/local/share/plan/web", WEB)
+    text = replaced(text, r"root /usr/local/share/plan/web;", f'root "{WEB}";')
     text = re.sub(r"auth_delay ([1248])s;", r"auth_delay \1ms;", text)
     if not pair:
         text = replaced(text, r"^ *ssl_.*\n", "", 5)
