@@ -111,8 +111,15 @@ class Front:
         while not os.path.exists(os.path.join(self.room, "nginx.pid")):
             if self.process.poll() is not None or time.monotonic() > end:
                 self.stop()
-                raise Unable(f"nginx doesn't start on port {self.port}")
+                raise Unable(f"nginx doesn't start on port {self.port}{self.last_words()}")
             time.sleep(0.002)
+
+    def last_words(self):
+        """The last line of nginx's log of errors, behind a colon; nothing if there is none."""
+        with contextlib.suppress(FileNotFoundError):
+            lines = self.read("error.log").splitlines()
+            return "".join(f": {line}" for line in lines[-1:])
+        return ""
 
     def stop(self):
         """Ends nginx; it may be started again."""
