@@ -8,7 +8,7 @@ import {
 import { rowWords } from "./cells.js";
 import { noteList, openSaved, replacedFile, showEdit } from "./edit.js";
 import { isAlone } from "./local.js";
-import { isOfDates } from "./messages.js";
+import { ignoredWords, isOfDates } from "./messages.js";
 import { showPlace } from "./place.js";
 import { openPlan, showPlan, takeStarts } from "./plan.js";
 import { showPlans } from "./plans.js";
@@ -193,10 +193,11 @@ function capacityNode(name, value) {
 }
 
 // the program's note on columns that it ignores, or on the letters of the file
-const noteNodes = (note) => (note.match(/[^;]+/g) ?? []).map((words) => say(words.trim()
+const noteNodes = (note) => (note.match(/[^;]+/g) ?? []).flatMap((words) => [words.trim()
   .replace(/^ignored columns:/,
     "These columns are no crews, because no capacity is given, and are ignored:")
-  .replace(/^read as (.*)$/, "The list isn't in UTF-8; it is read as $1."), { class: "hint" }));
+  .replace(/^read as (.*)$/, "The list isn't in UTF-8; it is read as $1."), ...ignoredWords(words)])
+  .map((words) => say(words, { class: "hint" }));
 
 const previewNodes = (name, kind, parts, table, note) => [
   tell(`${name} becomes a ${kind} of ${parts}. Change the list, or make the plan.`),

@@ -200,6 +200,12 @@ function shopBars({ rows }) {
   return bars.map((bar) => ({ ...bar, colour: `c${colours.get(bar.key)}` }));
 }
 
+// an order of a list has a step of time 0 on each machine that it doesn't use
+function shownOf(plan, rows) {
+  const used = rows.filter(({ d }) => d > 0);
+  return plan.kind === "shop" && recordOf(plan.n).list && used.length ? used : rows;
+}
+
 export function viewOf(plan) {
   const table = plan.schedules.get(plan.drawn);
   const starts = startsOf(table);
@@ -209,9 +215,11 @@ export function viewOf(plan) {
   const hasIds = all.some(({ id }) => id);
   // as the program does, without the start and the end if the others have ids
   const rows = hasIds ? all.filter(({ id }) => id) : all;
-  const bars = plan.kind === "project" ? projectBars({ plan, rows, slack }) : shopBars({ rows });
+  const shown = shownOf(plan, rows);
+  const bars = plan.kind === "project" ? projectBars({ plan, rows, slack })
+    : shopBars({ rows: shown });
   return {
-    plan, starts, slack, rows, bars, total: Math.max(...all.map(({ end }) => end)),
+    plan, starts, slack, rows, shown, bars, total: Math.max(...all.map(({ end }) => end)),
     hasIds, isNamed: rows.some(({ name }) => name),
     dates, axis: plan.axis, calendar: dates && plan.calendar,
     lineNames: new Map(bars.map(({ line, lineName }) => [line, lineName])),

@@ -15,7 +15,7 @@ from page_units import as_model, brute_slack, read_sm, shop_model, worked_days
 from pages import (
     RULE_NAMES, RULES, drop, example, focus_window, makespan_of, open_plan, open_tab, pick,
     printed, rows_of,
-    same_bars, same_project, same_table, seen, seen_axis, seen_plans, seen_table,
+    same_bars, same_project, same_table, seen, seen_axis, seen_bars, seen_plans, seen_table,
     set_date, submit, texts, wait_idle, wait_plan, wait_text,
 )
 from pictures import smaller
@@ -1360,9 +1360,11 @@ def visit_orders(browser, office):
         days = days_by(rule, "2024-03-01", "1111100", "-", ["shop"], given)
         slack = brute_slack(shop_model(rows), [int(row[4]) for row in rows])
         wanted = [["job", "step", "machine", "start", "end", "first day", "last day", "slack"]]
+        # without the steps of time 0, as the commands print a list
         wanted += [[f"{row[0]} order {4710 + int(row[0])}", row[1], f"{row[2]} {machines[int(row[2])]}",
-                    *row[4:6], *dates, str(s)] for row, dates, s in zip(rows, days, slack)]
+                    *row[4:6], *dates, str(s)] for row, dates, s in zip(rows, days, slack) if row[3] != "0"]
         same(f"the table by {rule}", seen_table(browser, "#table"), wanted)
+        same(f"the bars by {rule}", len(seen_bars(browser)), len(wanted) - 1)
     submit(browser, "best")
     wanted = as_printed([("solve",)], given, ["shop"])
     days = [str(day) for day in worked_days(datetime.date(2024, 3, 1), "1111100", wanted["makespan"])]
