@@ -13,7 +13,7 @@ import { showPlace } from "./place.js";
 import { openPlan, showPlan, takeStarts } from "./plan.js";
 import { showPlans } from "./plans.js";
 import { printed, printedWith } from "./program.js";
-import { readProject, readShop } from "./project.js";
+import { arcsOverWaits, isWait, readProject, readShop } from "./project.js";
 import { page, remember } from "./state.js";
 import { counted } from "./words.js";
 
@@ -208,19 +208,21 @@ const previewNodes = (name, kind, parts, table, note) => [
 
 // the first and the last activity of the project aren't rows of the list
 function projectNodes({ name, list: { note } }, project) {
-  const { durations, arcs, needs, ids, names, resources, capacities } = project;
+  const { durations, needs, ids, names, resources, capacities } = project;
   const last = durations.length - 1;
-  const inner = arcs.filter(({ from, to }) => from > 0 && to < last);
+  const inner = arcsOverWaits(project).filter(({ from, to }) => from > 0 && to < last);
   const idOf = (number) => ids.get(number) ?? number;
-  const before = (at) => inner.filter(({ to }) => to === at).map(({ from }) => idOf(from + 1));
+  const before = (at) => inner.filter(({ to }) => to === at)
+    .map(({ from, lag }) => `${idOf(from + 1)}${lag ? `+${lag}` : ""}`);
   const caps = [...resources].map(([number, words]) => `${words} ${capacities[number - 1]}`);
   const rows = durations.map((duration, at) => [idOf(at + 1), names.get(at + 1) ?? "", duration,
-    before(at).join(" "), ...[...resources.keys()].map((number) => needs[at][number - 1])]);
-  return previewNodes(name, "project", `${counted(last - 1, "activity", "activities")}, with ${
+    before(at).join(" "), ...[...resources.keys()].map((number) => needs[at][number - 1])])
+    .slice(1, -1).filter(([id]) => !isWait(id));
+  return previewNodes(name, "project", `${counted(rows.length, "activity", "activities")}, with ${
     counted(inner.length, "link")} between them and ${counted(resources.size, "resource")}`, {
     caption: caps.length && `Capacities: ${caps.join(", ")}`,
     heads: [ids.size ? "id" : "number", "name", "duration", "predecessors", ...resources.values()],
-    rows: rows.slice(1, -1),
+    rows,
   }, note);
 }
 

@@ -167,7 +167,8 @@ export function redraw() {
   if (view) showChart(view);
 }
 
-export const showPaper = () => view && fillPaper(view);
+export const showPaper = () => (view ? fillPaper(view)
+  : fill("paper", say("Make a plan or open one, and print that.")));
 
 function showDayNote(plan) {
   const refusal = [...plan.days.values()].find((days) => days instanceof Refusal);

@@ -461,6 +461,10 @@ def try_projects(modules, draw):
     ])
     cases = [([0, 0], [1, 1], 0), ([2, 1], [4, 2], 1), ([1, 1], [2, 1], 2), ([0, 3], [0, 3], 2),
              ([3, 3], [3, 3], 1), ([1, 2, 2], [4, 4, 4], 2)]
+    arcs = [{"from": at, "to": to, "lag": 0} for at, to in ((0, 1), (1, 3), (3, 2), (2, 4))]
+    model = {"durations": [0, 2, 1, 3, 0], "arcs": arcs, "ids": {"map": [[2, "A"], [3, "B"], [4, "wait+0"]]}}
+    same("the arcs over a wait of 3", modules.values([["project", "arcsOverWaits", [model]]])[0],
+         [{"from": 0, "to": 1, "lag": 0}, {"from": 1, "to": 2, "lag": 3}, {"from": 2, "to": 4, "lag": 0}])
     found = modules.values([["project", "mostNeeded", [needs, caps]] for needs, caps, _ in cases])
     same("the resources needed most", found, [place for *_, place in cases])
 
