@@ -16,7 +16,8 @@ import { legendOf, linksOf, nameOf, namesIn } from "./view.js";
 const AXIS = 22;
 const RIGHT = 26;
 const USE = 56;
-const SHEET = { width: 1040, lines: 40 };
+// `room` is the height below the head of a sheet, for lines and the use of resources
+const SHEET = { width: 1040, lines: 40, room: 610 };
 
 const lineNode = (name, x1, y1, x2, y2) => draw("line", { class: name, x1, y1, x2, y2 });
 const textNode = (name, x, y, ...words) => draw("text", { class: name, x, y }, ...words);
@@ -193,15 +194,19 @@ const planTitle = (plan) => namesIn(plan).title || `Plan ${plan.n}`;
 
 export function fillPaper(view) {
   const pages = pagesOf([...view.lineNames.keys()], SHEET.lines);
+  const scale = scaleOf(view, roomForNames(view, SHEET.width), SHEET.width - RIGHT);
+  const uses = useNodes(view, scale, SHEET.width);
+  const caption = () => say(captionOf(view), { class: "hint" });
   const charts = pages.map((lines, index) => {
-    const isDense = lines.length > 24;
-    const { axis, body, scale } = chartOf(view, SHEET.width, lines, isDense ? 14 : 22);
-    const isLast = index === pages.length - 1;
-    const uses = isLast && !isDense ? useNodes(view, scale, SHEET.width).slice(0, 4) : [];
+    const row = lines.length > 24 ? 14 : 22, isLast = index === pages.length - 1;
+    const { axis, body } = chartOf(view, SHEET.width, lines, row);
+    const below = isLast ? uses.splice(0, (SHEET.room - row * lines.length) / USE) : [];
     return make("section", { class: "sheet" }, headNode(view, index + 1, pages.length), axis, body,
-      make("ul", { class: "legend" }, ...legendNodes(view)), ...uses,
-      say(captionOf(view), { class: "hint" }));
+      make("ul", { class: "legend" }, ...legendNodes(view)), ...below, caption());
   });
-  fill("paper", ...charts, make("section", { class: "sheet rows" },
+  const others = pagesOf(uses, Math.floor(SHEET.room / USE)).map((part) =>
+    make("section", { class: "sheet" }, headNode(view, 1, 1), axisSvg(scale, SHEET.width), ...part,
+      caption()));
+  fill("paper", ...charts, ...others, make("section", { class: "sheet rows" },
     paperTable(view, `${planTitle(view.plan)}: ${captionOf(view)}`)));
 }

@@ -15,6 +15,7 @@ import { keptPlan } from "./keep.js";
 import { verdictWords } from "./messages.js";
 import { visitPlace } from "./place.js";
 import { markOpen, showPlans } from "./plans.js";
+import { isWait } from "./project.js";
 import { searchWords, shorterOf } from "./search.js";
 import { page, recordOf, remember, RULES, shapeOf, WORDS_OF_KIND } from "./state.js";
 import { ownList, savedText, solved, verdictOf } from "./subject.js";
@@ -167,7 +168,8 @@ export function redraw() {
   if (view) showChart(view);
 }
 
-export const showPaper = () => view && fillPaper(view);
+export const showPaper = () => (view ? fillPaper(view)
+  : fill("paper", say("Make a plan or open one, and print that.")));
 
 function showDayNote(plan) {
   const refusal = [...plan.days.values()].find((days) => days instanceof Refusal);
@@ -199,7 +201,7 @@ function withIds(plan, { heads, rows }) {
   const { ids } = namesIn(plan);
   if (!rows.some(({ act }) => ids[act])) return { heads, rows };
   return { heads: ["id", ...heads.slice(1)],
-    rows: rows.map((row) => ({ ...row, id: ids[row.act] })).filter(({ id }) => id) };
+    rows: rows.map((row) => ({ ...row, id: ids[row.act] })).filter(({ id }) => id && !isWait(id)) };
 }
 
 function showDates(plan) {

@@ -7,7 +7,7 @@ import { byId } from "./dom.js";
 import { activityLabel, named, resourceLabel } from "./labels.js";
 import { coloursOf } from "./layout.js";
 import { isAlone } from "./local.js";
-import { mostNeeded } from "./project.js";
+import { arcsOverWaits, isWait, mostNeeded } from "./project.js";
 import { page, recordOf, shapeOf } from "./state.js";
 import { RULE_NAMES } from "./words.js";
 import {
@@ -200,6 +200,14 @@ function shopBars({ rows }) {
   return bars.map((bar) => ({ ...bar, colour: `c${colours.get(bar.key)}` }));
 }
 
+// without waits, and of a list without steps of time 0: an order has one on each machine that it
+// doesn't use
+function shownOf(plan, rows) {
+  if (plan.kind === "project") return rows.filter(({ id }) => !isWait(id));
+  const used = rows.filter(({ d }) => d > 0);
+  return recordOf(plan.n).list && used.length ? used : rows;
+}
+
 export function viewOf(plan) {
   const table = plan.schedules.get(plan.drawn);
   const starts = startsOf(table);
@@ -209,9 +217,11 @@ export function viewOf(plan) {
   const hasIds = all.some(({ id }) => id);
   // as the program does, without the start and the end if the others have ids
   const rows = hasIds ? all.filter(({ id }) => id) : all;
-  const bars = plan.kind === "project" ? projectBars({ plan, rows, slack }) : shopBars({ rows });
+  const shown = shownOf(plan, rows);
+  const bars = plan.kind === "project" ? projectBars({ plan, rows: shown, slack })
+    : shopBars({ rows: shown });
   return {
-    plan, starts, slack, rows, bars, total: Math.max(...all.map(({ end }) => end)),
+    plan, starts, slack, rows, shown, bars, total: Math.max(...all.map(({ end }) => end)),
     hasIds, isNamed: rows.some(({ name }) => name),
     dates, axis: plan.axis, calendar: dates && plan.calendar,
     lineNames: new Map(bars.map(({ line, lineName }) => [line, lineName])),
@@ -233,8 +243,8 @@ export function legendOf({ bars, slack, plan }) {
 
 /** Returns the pairs of bars that are linked to one, by arcs or by their machine. */
 export function linksOf({ plan, rows }, index) {
-  const links = (plan.model?.arcs ?? []).filter(({ from, to }) => from === index || to === index)
-    .map(({ from, to }) => [from, to]);
+  const links = (plan.model ? arcsOverWaits(plan.model) : [])
+    .filter(({ from, to }) => from === index || to === index).map(({ from, to }) => [from, to]);
   if (plan.kind !== "shop") return links;
   const order = rows.filter((row) => row.machine === rows[index].machine && row.d > 0)
     .sort((a, b) => a.start - b.start).map((row) => row.index);

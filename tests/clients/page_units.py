@@ -461,6 +461,10 @@ def try_projects(modules, draw):
     ])
     cases = [([0, 0], [1, 1], 0), ([2, 1], [4, 2], 1), ([1, 1], [2, 1], 2), ([0, 3], [0, 3], 2),
              ([3, 3], [3, 3], 1), ([1, 2, 2], [4, 4, 4], 2)]
+    arcs = [{"from": at, "to": to, "lag": 0} for at, to in ((0, 1), (1, 3), (3, 2), (2, 4))]
+    model = {"durations": [0, 2, 1, 3, 0], "arcs": arcs, "ids": {"map": [[2, "A"], [3, "B"], [4, "wait+0"]]}}
+    same("the arcs over a wait of 3", modules.values([["project", "arcsOverWaits", [model]]])[0],
+         [{"from": 0, "to": 1, "lag": 0}, {"from": 1, "to": 2, "lag": 3}, {"from": 2, "to": 4, "lag": 0}])
     found = modules.values([["project", "mostNeeded", [needs, caps]] for needs, caps, _ in cases])
     same("the resources needed most", found, [place for *_, place in cases])
 
@@ -473,11 +477,12 @@ def try_messages(modules, draw):
     a blank in the place of a number."""
     rows = {line: modules.values([["cells", "rowWords", [page_messages.LIST, line]]])[0] for line in (1, 3, 4, 9)}
     same("the rows of a list", rows, {1: "", 3: "B Walls, north (line 3)", 4: "7 (line 4)", 9: ""})
+    german = {line: modules.values([["cells", "rowWords", [page_messages.GERMAN, line]]])[0] for line in (2, 3)}
     cases = [(page_messages.PROJECTS, page_messages.LABELS), (page_messages.SHOPS, page_messages.SHOP),
-             (page_messages.LISTS, {"rows": rows})]
+             (page_messages.LISTS, {"rows": rows}), (page_messages.GERMANS, {"rows": german})]
     calls = [["messages", "sentencesOf", [line, labels]] for lines, labels in cases for line, _ in lines]
     cases += [(page_messages.VERDICTS, page_messages.LABELS), (page_messages.SHOP_VERDICTS, page_messages.SHOP)]
-    calls += [["messages", "verdictWords", [line, labels]] for lines, labels in cases[3:] for line, _ in lines]
+    calls += [["messages", "verdictWords", [line, labels]] for lines, labels in cases[4:] for line, _ in lines]
     wanted = [case for lines, _ in cases for case in lines]
     for (line, first), found in zip(wanted, modules.values(calls)):
         same(f"what to do about {line}", found[0], first)
@@ -501,6 +506,9 @@ def try_messages(modules, draw):
         first += re.findall(r"meaning(?:: | = )\[[\"`](\w+)", text)
         same(f"verbs of {os.path.basename(path)}", [word for word in first if word not in page_messages.VERBS
              and word != "G4"], [])
+    notes = [["messages", "ignoredWords", [note]] for note, _ in page_messages.IGNORED]
+    for (note, wanted), found in zip(page_messages.IGNORED, modules.values(notes)):
+        same(f"what to do about {note}", found, wanted)
     same("a line without a code", modules.values([["messages", "sentencesOf", ["C1 unknown code"]]]), [[]])
 
 

@@ -2,4 +2,4 @@
 
 /// The digest of all sources of the program but this file, in hexadecimal digits, as
 /// `./release --digest` prints it.
-pub(crate) const SOURCES: &str = "e4db64428ae2fc888050e497210dac7aa3be9e9707e615dad44bfff19466225f";
+pub(crate) const SOURCES: &str = "2a1a1ab99a83ca88aa81cbddc3f0d2ca931e6435307f75459d9c6b705755870f";
