@@ -57,7 +57,7 @@ fails late entries file text rows new fault same read whole unwritten = (
   rows,
   ap rows_read (sym same) ∙ read,
   subst (λ (xs : List Row). IsUnwritten (text_with file (utf8_of file) xs) xs fault) whole
-  (subst (λ (t : List ℕ). IsUnwritten (text_with file t new) new fault) same unwritten),
+      (subst (λ (t : List ℕ). IsUnwritten (text_with file t new) new fault) same unwritten),
 )
 
 -- the error of the text

@@ -11,9 +11,9 @@ returns-in-Ok-plan_entries-clause-texts c =
       c.in-Ok.list,
       c.in-Ok.ensures.list,
       subst
-      (λ (rows : List DatedRow). AreEntries (days_in a.calendar) a.listed.now.table (map dated_of rows) a.listed.now.week a.plan.now.starts.items
-      (map entry_of c.in-Ok-plan_entries.entries.items))
-      c.deref.ensures.value c.in-Ok-plan_entries.ensures.entries,
+          (λ (rows : List DatedRow). AreEntries (days_in a.calendar) a.listed.now.table (map dated_of rows) a.listed.now.week a.plan.now.starts.items
+          (map entry_of c.in-Ok-plan_entries.entries.items))
+          c.deref.ensures.value c.in-Ok-plan_entries.ensures.entries,
     )
 
 pub returns-clause-refused : goal.returns-clause-refused
