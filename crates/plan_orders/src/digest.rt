@@ -2,4 +2,4 @@
 
 /// The digest of all sources of the program but this file, in hexadecimal digits, as
 /// `./release --digest` prints it.
-pub(crate) const SOURCES: &str = "2a1a1ab99a83ca88aa81cbddc3f0d2ca931e6435307f75459d9c6b705755870f";
+pub(crate) const SOURCES: &str = "7ff512e2d88934844300fb621c681546d0ee6b73b67f9f74be587ce82fd27900";
