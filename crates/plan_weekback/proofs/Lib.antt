@@ -1,5 +1,0 @@
-pub mod BackLemmas
-pub mod EntryLemmas
-pub mod OutputLemmas
-pub mod ReadingLemmas
-pub mod SamenessLemmas

@@ -1,3 +1,0 @@
-mod OpenedLemmas
-mod StartLemmas
-mod OutputLemmas

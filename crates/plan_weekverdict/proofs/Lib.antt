@@ -1,5 +1,0 @@
-mod MissLemmas
-mod ArcLemmas
-mod PinLemmas
-mod StartLemmas
-mod VerdictLemmas
