@@ -126,6 +126,19 @@ async function comparedTo({ words: [file, ...instance], files }, starts) {
   return { line, total: Number(total), starts: tableOf(text).rows.map(({ A }) => A) };
 }
 
+/** Returns a model without links. Its capacities are doubled until start times keep to them. */
+export async function loosened(model, starts) {
+  let loose = { ...model, arcs: [] };
+  for (;;) {
+    const files = { "plan.sm": projectText(loose) };
+    const { line } = await comparedTo({ words: ["plan.sm"], files }, startLines(starts));
+    const place = line.match(/ more of resource (\d+) /)?.[1] - 1;
+    if (!(place >= 0)) return loose;
+    const { capacities } = loose;
+    loose = { ...loose, capacities: capacities.with(place, 2 * capacities[place] || 1) };
+  }
+}
+
 const withoutLags = (model, names) =>
   projectText({ ...model, arcs: model.arcs.map((arc) => ({ ...arc, lag: 0 })) }, names);
 
@@ -186,6 +199,10 @@ export async function daysOf({ model, subject: { files, words } }, starts, calen
   return tableOf(text).rows.slice(0, starts.length)
     .map(({ first, last }) => (first === "-" ? null : { first, last }));
 }
+
+/** Returns the days of a schedule as a text, to compare them. */
+export const dayCells = (rows) =>
+  rows.map((row) => (row && row.first !== "-" ? `${row.first} ${row.last}` : "-")).join();
 
 /** Returns the seconds of each slice of a search: 1, 2, 4 .., and the rest. */
 export function slicesOf(seconds) {

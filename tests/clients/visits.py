@@ -15,8 +15,8 @@ from page_units import as_model, brute_slack, read_sm, shop_model, worked_days
 from pages import (
     RULE_NAMES, RULES, drop, example, focus_window, makespan_of, open_plan, open_tab, pick,
     printed, rows_of,
-    same_bars, same_project, same_table, seen, seen_axis, seen_plans, seen_table,
-    set_date, submit, texts, wait_idle, wait_plan, wait_text,
+    same_bars, same_project, same_table, same_tails, seen, seen_axis, seen_bands, seen_plans,
+    seen_table, set_date, submit, texts, wait_idle, wait_plan, wait_text,
 )
 from pictures import smaller
 from programs import Wrong, plan, same, talk
@@ -291,6 +291,9 @@ def visit_slack(browser):
         slack = slack_in(text, lines)
         same_table(browser, lines, text.encode(), slack=slack)
         same(f"the colours by {rule}", bar_classes(browser), ["loose" if s else "tight" for s in slack])
+        rows = rows_of(lines)
+        same_bars(f"two sites by {rule}", browser, [[row[0], row[2], row[3]] for row in rows], makespan_of(lines))
+        same_tails(browser, [[row[0], int(row[3]), s] for row, s in zip(rows, slack)], int(makespan_of(lines)))
         stars = [row[-1] == "*" for row in rows_of(printed("cpm", "-", given=text.encode()))]
         differ += sum(star != (s == 0) for star, s in zip(stars, slack))
     same("a star is another thing than no slack", differ > 3, True)
@@ -298,16 +301,21 @@ def visit_slack(browser):
 
 
 def visit_use(browser):
-    """The steps below the chart are the use of the resource."""
+    """The area below the chart is the use of the resource, and a line is its capacity."""
     lines = printed("schedule", "lft", "-", given=two_sites().encode())
     model = model_of(two_sites())
     starts = [int(row[2]) for row in rows_of(lines)]
-    found = browser.run("return [...document.querySelectorAll('#use rect')].map((bar) =>"
-                        " [Number(bar.dataset.time), Number(bar.dataset.used), bar.classList[0]])")
-    times = sorted({time for s, d in zip(starts, model["durations"]) for time in (s, s + d)})
+    found = browser.run("""
+        const { x1, x2 } = document.querySelector("#drawing .thread");
+        const left = x1.baseVal.value, width = x2.baseVal.value - left;
+        const path = document.querySelector("#use .use").getAttribute("d");
+        return [...path.matchAll(/H([0-9.]+)V([0-9]+)/g)].map(([, x, y]) => [(x - left) / width, (108 - y) / 80]);
+    """)
+    last = int(makespan_of(lines))
     use = lambda time: sum(need[0] for need, s, d in zip(model["needs"], starts, model["durations"])
                            if s <= time < s + d)
-    same("the use", found, [[time, use(time), "used"] for time in times if use(time)])
+    wanted = [[time, use(time)] for time in range(last) if use(time) != (use(time - 1) if time else 0)]
+    same("the use", [[round(part * last), round(amount * 2)] for part, amount in found], [*wanted, [last, 0]])
     same("the capacity", "capacity 2" in browser.run(
         "return document.querySelector('#use svg').getAttribute('aria-label')"), True)
 
@@ -372,17 +380,13 @@ def visit_calendar(browser):
     browser.click("#drawn [value=lft]")
     span = places_in(start, marks, 45)(0, 45)[2]
     axis = seen_axis(browser)
-    same("the first date of the axis", axis[0], ["2024-03-01", 0])
+    same("the first date of the axis", axis[0], ["Fri 1 Mar", 0])
     for words, part in axis[1:]:
-        day = datetime.date.fromisoformat(words)
+        day = datetime.datetime.strptime(f"{words} 2024", "%a %d %b %Y").date()
         same(f"the day {words}", (day.weekday(), round(part * span)),
              (0, (day - datetime.date(2024, 3, 1)).days))
     same("weeks with a date", len(axis) > 4, True)
-    bands = browser.run("""
-        const thread = document.querySelector(".thread"), width = thread.x2.baseVal.value - thread.x1.baseVal.value;
-        return [...document.querySelectorAll("#drawing .free")].map((band) =>
-            [(band.x.baseVal.value - thread.x1.baseVal.value) / width, band.width.baseVal.value / width]);
-    """)
+    bands = seen_bands(browser)
     weekends = [at for at in range(span) if (datetime.date(2024, 3, 1)
                                              + datetime.timedelta(at)).weekday() == 5]
     same("the shaded days", [[round(a * span), round(b * span)] for a, b in bands],
@@ -401,7 +405,7 @@ def visit_today(browser):
         const width = thread.x2.baseVal.value - thread.x1.baseVal.value;
         return (line.x1.baseVal.value - thread.x1.baseVal.value) / width;
     """)
-    same("the place of today", round(part * 45, 3), 14)
+    same("the place of today", round(part * 45, 1), 14)
     for box in range(1, 8):
         browser.run("const box = document.querySelectorAll('#marks input')[arguments[0]];"
                     " if (box.checked) box.click();", box - 1)
@@ -457,7 +461,11 @@ def visit_lag(browser):
     for link in model["arcs"]:
         link["lag"] = 5 if (link["from"], link["to"]) == (1, 2) else 0
     starts = [int(cell) for cell in column(browser, "start")]
-    same("the slack with a lag", column(browser, "slack"), [str(s) for s in brute_slack(model, starts)])
+    slack = brute_slack(model, starts)
+    same("the slack with a lag", column(browser, "slack"), [str(s) for s in slack])
+    ends = [int(cell) for cell in column(browser, "end")]
+    same_tails(browser, [[str(at + 1), end, s] for at, (end, s) in enumerate(zip(ends, slack))], 50,
+               places_in("2024-03-01", "1111100", 50))
     browser.type("#lag [name=lag]", "0")
     submit(browser, "lag")
     wait_text(browser, "#lag-set", "2 to 3: 0 (set here on")
@@ -492,6 +500,7 @@ def visit_elsewhere(browser, office):
     wait_text(browser, "#note", "Bind or set the lag here too to see slack: the office's plan differs from the file")
     same("a column of slack", "slack" in seen_table(browser, "#table")[0], False)
     same("the colours", set(bar_classes(browser)), {"plain"})
+    same("thin lines", texts(browser, "#drawing .tail"), [])
     sent(office.server.port, "POST", path + "lag", KEY, b'{"from":2,"to":3,"lag":0}')
     sent(office.server.port, "POST", path + "bind", KEY, b'{"place":1,"code":"crew-a"}')
     open_plan(browser, 2)
@@ -594,6 +603,13 @@ def values_set(browser):
                        " lag.elements.lag, calendar.elements.start].map((field) => field.value)")
 
 
+def is_overused(model, starts):
+    """Whether more of the first resource is used at some time than there is."""
+    work = list(zip(starts, model["durations"], model["needs"]))
+    return any(sum(need[0] for start, d, need in work if start <= time < start + d) > model["capacities"][0]
+               for time in starts)
+
+
 def visit_check(browser):
     """Start times get the verdicts of `plan check`, with the makespan, and their place is shown."""
     drop(browser, "six.sm", file_of("examples/six.sm").decode())
@@ -613,6 +629,12 @@ def visit_check(browser):
         named = f"own {max(ends)}" + (" (not feasible)" if found == "refusal" else "")
         same("its name", seen(browser, "#drawn label:last-child").strip(), named)
         same("its caption", named in seen(browser, "#caption"), True)
+        rows = [[str(at + 1), start, str(end)] for at, (start, end) in enumerate(zip(starts.split(), ends))]
+        same_bars(f"the start times {starts}", browser, rows, max(ends))
+        same("more than the capacity", browser.run("""
+            const [area, most] = [".use", ".most"].map((css) => document.querySelector(`#use ${css}`).getBBox());
+            return area.y < most.y - 1;
+        """), is_overused(model_of(file_of("examples/six.sm").decode()), [int(start) for start in starts.split()]))
         if line.startswith("activity"):
             wait_text(browser, "#told", f"Activity {line.split()[1]}: ")
     browser.choose("#check-file", example("late.txt"))
@@ -868,6 +890,12 @@ def visit_names(browser):
     wait_text(browser, "#note", "Add the file of this plan below to see slack: this page hasn't read it.")
     same("the colours", set(bar_classes(browser)), {"plain"})
     same("the use without a file", texts(browser, "#use svg"), [])
+    # the calendar of this plan isn't known here any more
+    open_plan(browser, 1)
+    rows = [[cell.strip("*") for cell in row] for row in zip(*(column(browser, head)
+                                                               for head in ("number", "start", "end")))]
+    last = max(int(row[2]) for row in rows)
+    same_bars("a calendar that was set elsewhere", browser, rows, last, places_in("2024-03-01", "1111100", last))
     open_plan(browser, 4)
     submit(browser, "best")
     wait_text(browser, "#best-answer .refusal", "E11 S5 too large")
@@ -956,7 +984,7 @@ def visit_shop(browser):
              [[row[0], row[1], row[2], row[4], row[5], str(s)] for row, s in zip(rows, slack)])
     browser.click("#lines option[value=job]")
     same_bars("jobs", browser, [[row[0], row[4], row[5]] for row in rows], makespan_of(lines))
-    browser.click("#lines option[value=mach]")
+    browser.click("#lines option[value=machine]")
     submit(browser, "best")
     wait_text(browser, "#best-answer", "optimal 6:")
     open_tab(browser, "changes")
@@ -985,7 +1013,7 @@ def visit_colours(browser):
     found = column(browser, "slack")
     same("the slack of the steps", [found[at] for at in places], [str(number) for number in slack])
     same("some slack", any(slack), True)
-    for lines, count, other in (("mach", 10, 15), ("job", 15, 10)):
+    for lines, count, other in (("machine", 10, 15), ("job", 15, 10)):
         browser.click(f"#lines option[value={lines}]")
         bars = browser.run("""
             return [...document.querySelectorAll("#drawing .bar")].map((bar) => [Number(bar.dataset.line),
@@ -996,15 +1024,15 @@ def visit_colours(browser):
         starts = [bar[:2] for bar in bars]
         same("the bars of each line", starts, sorted(starts))
         same("the colours", len({bar[2] for bar in bars}), other)
-        key = 1 if lines == "mach" else 2
+        key = 1 if lines == "machine" else 2
         words = [bar[3].replace(",", "").replace(":", "").split() for bar in bars]
         by = {}
         for bar, word in zip(bars, words):
             name = word[1] if key == 1 else word[word.index("machine") + 1]
             same(f"the colour of {lines} {name}", by.setdefault(name, bar[2]), bar[2])
         same("orders in tooltips", all(" order 47" in bar[3] for bar in bars), True)
-    browser.click("#lines option[value=mach]")
-    same("the press", "M0 press" in texts(browser, "#drawing .name")[0], True)
+    browser.click("#lines option[value=machine]")
+    same("the press", "0 press" in texts(browser, "#drawing .name")[0], True)
 
 
 def visit_links(browser):
