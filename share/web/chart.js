@@ -32,11 +32,13 @@ const barsInOrder = ({ bars }) => bars.filter(({ d, isAlone: isOwn }) => isOwn |
 
 const linesIn = (image) => [...image.querySelectorAll(":scope > g")];
 
+// the end of the program's words on a bar
+const endOfTip = ({ isAlone: isOwn, step, start, end }) =>
+  `${isOwn ? "" : `, step ${step}`}, ${start} to ${end}`;
+
 function barNode(shape, bar) {
   const title = shape.firstChild;
-  if (!title.textContent.endsWith(`, ${bar.start} to ${bar.end}`)) {
-    throw new Error("a bar of another schedule");
-  }
+  if (!title.textContent.endsWith(endOfTip(bar))) throw new Error("a bar of another schedule");
   title.textContent = bar.words;
   const node = draw("g", {
     class: `bar ${bar.colour}${bar.isCritical ? " critical" : ""}`, "data-index": bar.index,

@@ -463,9 +463,15 @@ def visit_lag(browser):
     starts = [int(cell) for cell in column(browser, "start")]
     slack = brute_slack(model, starts)
     same("the slack with a lag", column(browser, "slack"), [str(s) for s in slack])
+    late = [start + 2 * (at > 1) for at, start in enumerate(starts)]
+    browser.run("check.elements.starts.value = arguments[0]", " ".join(map(str, late)))
+    submit(browser, "check")
+    slack = brute_slack(model, late)
+    same("the slack before a lag", slack[1], 2)
     ends = [int(cell) for cell in column(browser, "end")]
-    same_tails(browser, [[str(at + 1), end, s] for at, (end, s) in enumerate(zip(ends, slack))], 50,
-               places_in("2024-03-01", "1111100", 50))
+    same_tails(browser, [[str(at + 1), end, s] for at, (end, s) in enumerate(zip(ends, slack))], 52,
+               places_in("2024-03-01", "1111100", 52))
+    open_tab(browser, "changes")
     browser.type("#lag [name=lag]", "0")
     submit(browser, "lag")
     wait_text(browser, "#lag-set", "2 to 3: 0 (set here on")
@@ -984,7 +990,9 @@ def visit_shop(browser):
              [[row[0], row[1], row[2], row[4], row[5], str(s)] for row, s in zip(rows, slack)])
     browser.click("#lines option[value=job]")
     same_bars("jobs", browser, [[row[0], row[4], row[5]] for row in rows], makespan_of(lines))
+    same("the names of the jobs", texts(browser, "#drawing .name title"), ["1", "2"])
     browser.click("#lines option[value=machine]")
+    same("the names of the machines", texts(browser, "#drawing .name title"), ["0", "1"])
     submit(browser, "best")
     wait_text(browser, "#best-answer", "optimal 6:")
     open_tab(browser, "changes")
