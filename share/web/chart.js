@@ -17,6 +17,7 @@ import { legendOf, linksOf, nameOf, namesIn } from "./view.js";
 const AXIS = 19;
 const LINE = 20;
 const USE = 93;
+// the room behind the axis on the screen
 const RIGHT = 26;
 // the width of a drawing, and how much larger its letters are than those on the screen
 const DRAWN = { width: 1390, letters: 4 / 3 };
@@ -265,6 +266,7 @@ export function showChart(view) {
     if (view.drawings.fault) throw view.drawings.fault;
     return showDrawings(view);
   } catch (fault) {
+    Object.assign(view, { drawings: { fault } });
     put("told", "");
     fill("use");
     fill("drawing", ...faultNodes(fault));
