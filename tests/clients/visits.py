@@ -1031,6 +1031,14 @@ def visit_colours(browser):
         same(f"the lines of {lines}", (order, len(set(order))), (sorted(order), count))
         starts = [bar[:2] for bar in bars]
         same("the bars of each line", starts, sorted(starts))
+        same("the bars by keys", browser.run("""
+            const chart = document.querySelector("#drawing [role=application]");
+            return [...document.querySelectorAll("#drawing .bar")].map(() => {
+                chart.dispatchEvent(new KeyboardEvent("keydown", { key: "ArrowRight" }));
+                const { line, start } = document.querySelector("#drawing .told").dataset;
+                return [Number(line), Number(start)];
+            });
+        """), starts)
         same("the colours", len({bar[2] for bar in bars}), other)
         key = 1 if lines == "machine" else 2
         words = [bar[3].replace(",", "").replace(":", "").split() for bar in bars]
