@@ -2,12 +2,14 @@
 // their words. On the screen they have its width, and one axis; on paper, A4 on its side, a sheet
 // for each chart of 40 lines, and then the table.
 
-import { byId, draw, faultNodes, fill, make, onArrows, put, say } from "./dom.js";
+import { Refusal } from "./api.js";
+import { byId, draw, faultNodes, fill, make, onArrows, put, refusalNode, say } from "./dom.js";
 import { resourceLabel } from "./labels.js";
 import {
   labelFor, placed, placedPath, roomyLabels, shortened, today, widthOf,
 } from "./layout.js";
 import { isAlone } from "./local.js";
+import { verdictWords } from "./messages.js";
 import { page, WORDS_OF_KIND } from "./state.js";
 import { drawingNode } from "./svg.js";
 import { paperTable } from "./table.js";
@@ -59,7 +61,7 @@ function chartOf(view) {
   const images = view.drawings.charts.map(drawingNode);
   for (const image of images) image.firstChild.remove();
   const wanted = barsInOrder(view);
-  // the last lines are those of lags
+  // the last lines are those of waits and lags
   const isOwn = wanted.every((bar) => bar.isAlone);
   for (const line of isOwn ? images.flatMap(linesIn).slice(wanted.length) : []) line.remove();
   const shapes = images.flatMap((image) => [...image.querySelectorAll(".bar")]);
@@ -229,19 +231,49 @@ function useSvg(text, name, capacity, drawn) {
     viewBox: `0 ${AXIS} ${DRAWN.width} ${USE}` }, ...image.children);
 }
 
-function useNodes({ plan: { kind, model, ...plan }, drawings }) {
-  if (kind !== "project" || !model) return [];
-  const labels = namesIn(plan);
-  return drawings.uses.map((text, at) => useSvg(text, resourceLabel(labels, at + 1),
-    model.capacities[at], drawings.capacities[at]));
+// shows the use above the line of the capacity in the colour of errors
+function markOver(image, width) {
+  const area = image.querySelector(".use");
+  const [, y] = image.querySelector(".most").getAttribute("d").split(" ");
+  const height = parseFloat(y) - AXIS;
+  area.after(draw("svg", { y: AXIS, width, height, viewBox: `0 ${AXIS} ${width} ${height}` },
+    draw("path", { class: "over", d: area.getAttribute("d") })));
 }
 
-const screenUses = (view, { edges }, width) => useNodes(view).map((node) => {
-  place(node, edges);
-  shorten(nameIn(node), edges.left - 24);
-  node.setAttribute("viewBox", `0 ${AXIS} ${width} ${USE}`);
-  return node;
-});
+// the images of the use, each with the verdict that more is needed than there is
+function usesOf({ plan: { kind, model, ...plan }, drawings: { uses, capacities, over } }) {
+  if (kind !== "project" || !model) return [];
+  const labels = namesIn(plan);
+  return uses.map((text, at) => ({ over: over.get(at), image: useSvg(text,
+    resourceLabel(labels, at + 1), model.capacities[at], capacities[at]) }));
+}
+
+const wrongNodes = ({ plan: { labels } }, line) =>
+  (line ? [say(verdictWords(line, labels).join(" "), { class: "fault" })] : []);
+
+// what is wrong with start times, if no use shows it
+function otherWrong({ plan, drawings: { over } }) {
+  const { wrong } = plan.schedules.get(plan.drawn);
+  return [...over.values()].includes(wrong) ? "" : wrong;
+}
+
+const useNodes = (view, uses, width) => [
+  ...wrongNodes(view, otherWrong(view)),
+  ...uses.flatMap(({ over, image }) => {
+    markOver(image, width);
+    return [...wrongNodes(view, over), image];
+  }),
+];
+
+function screenUses(view, { edges }, width) {
+  const uses = usesOf(view);
+  for (const { image } of uses) {
+    place(image, edges);
+    shorten(nameIn(image), edges.left - 24);
+    image.setAttribute("viewBox", `0 ${AXIS} ${width} ${USE}`);
+  }
+  return useNodes(view, uses, width);
+}
 
 function showDrawings(view) {
   const width = Math.max(280, byId("drawing").clientWidth || 320);
@@ -258,6 +290,11 @@ function showDrawings(view) {
   };
 }
 
+// in the place of a chart: what to do, and why there is none
+const missingNodes = (fault) => (fault instanceof Refusal && fault.message.endsWith(".")
+  ? [refusalNode(`${fault.message.slice(0, -1)}; until then there is no chart.`)]
+  : faultNodes(fault));
+
 /** Shows the chart of a view, and returns the function that points at a bar. */
 export function showChart(view) {
   put("caption", captionOf(view));
@@ -269,7 +306,8 @@ export function showChart(view) {
     Object.assign(view, { drawings: { fault } });
     put("told", "");
     fill("use");
-    fill("drawing", ...faultNodes(fault));
+    fill("legend");
+    fill("drawing", ...missingNodes(fault));
     return () => {};
   }
 }
@@ -299,10 +337,12 @@ function paperCharts(view) {
 
 export function fillPaper(view) {
   const sheets = paperCharts(view).map(({ count, chart }, at, { length }) => {
-    const room = at < length - 1 ? 0 : Math.floor((LINE * (SHEET_LINES - count)) / USE);
+    const lines = SHEET_LINES - count - view.drawings.over.size;
+    const uses = usesOf(view).slice(0, Math.max(0, Math.floor((LINE * lines) / USE)));
     return make("section", { class: "sheet" }, headNode(view, at + 1, length), chart,
       make("ul", { class: "legend" }, ...legendNodes(view)),
-      ...useNodes(view).slice(0, room), say(captionOf(view), { class: "hint" }));
+      ...(at < length - 1 ? [] : useNodes(view, uses, DRAWN.width)),
+      say(captionOf(view), { class: "hint" }));
   });
   fill("paper", ...sheets, make("section", { class: "sheet rows" },
     paperTable(view, `${planTitle(view.plan)}: ${captionOf(view)}`)));

@@ -31,7 +31,10 @@ const withoutNeeds = (durations) =>
 // the program refuses a schedule that isn't feasible, so it is drawn without links: each activity
 // or step has a line of its own, and a resource has the capacity that is used
 async function looseSubject({ kind, model, labels }, rows, starts) {
-  if (kind === "project" && model) return subjectFor(await loosened(model, starts), labels);
+  if (kind === "project" && model) {
+    const { loose, over } = await loosened(model, starts);
+    return { ...subjectFor(loose, labels), over };
+  }
   const { ids, names } = kind === "shop" ? stepLabels(labels, rows) : labels;
   return subjectFor(withoutNeeds(rows.map(({ d }) => d)), { ids, names });
 }
@@ -40,8 +43,8 @@ async function looseSubject({ kind, model, labels }, rows, starts) {
 export const isLinked = ({ model, schedules }, rule) =>
   Boolean(model) && !schedules.get(rule).isInfeasible;
 
-/** Returns the drawings of a schedule, as { charts, uses, capacities }; `by` names the lines of a
- * job shop: "machine" or "job". */
+/** Returns the drawings of a schedule, as { charts, uses, capacities, over }: the images, and what
+ * `loosened` returns. `by` names the lines of a job shop: "machine" or "job". */
 export async function drawingsOf(plan, rule, calendar, by) {
   const { rows } = plan.schedules.get(rule);
   const starts = rows.map(({ start }) => start);
@@ -50,7 +53,7 @@ export async function drawingsOf(plan, rule, calendar, by) {
     : await looseSubject(plan, rows, starts);
   const options = linked && plan.kind === "shop" ? ["--by", by] : [];
   const drawings = await reportOf(subject, starts, calendar, options);
-  return { ...drawings, capacities: subject.model.capacities };
+  return { ...drawings, capacities: subject.model.capacities, over: subject.over ?? new Map() };
 }
 
 /** Returns the drawing of an activity on the present day, beside one that takes as long as a plan;

@@ -19,7 +19,7 @@ import { searchWords, shorterOf } from "./search.js";
 import { page, recordOf, remember, RULES, shapeOf, WORDS_OF_KIND } from "./state.js";
 import { ownList, savedText, solved, verdictOf } from "./subject.js";
 import { showTable } from "./table.js";
-import { learn, nameOf, namesIn, needWords, settle, viewOf } from "./view.js";
+import { isShown, learn, nameOf, namesIn, needWords, settle, viewOf } from "./view.js";
 import { letAskWhatIf, showWhatIf } from "./whatif.js";
 import { bringBack, wholeText } from "./whole.js";
 import { COLUMN_WORDS, RULE_NAMES, RULE_WORDS } from "./words.js";
@@ -155,6 +155,7 @@ function showDrawn() {
   const { plan } = page;
   view = viewOf(plan);
   const point = showChart(view);
+  byId("note").hidden = !plan.note || plan.note === view.drawings.fault?.message;
   showTable(view, `Schedule by ${nameOf(plan, plan.drawn)}`);
   showSaves(view);
   showDayNote(plan);
@@ -194,12 +195,12 @@ function showChoice(plan) {
 const titled = (words) =>
   make("abbr", { title: COLUMN_WORDS[words] ?? RULE_WORDS[words] }, RULE_NAMES[words] ?? words);
 
-// the heads of a table with the rows of activities that have an id, if some have one
+// the heads of a table with the rows of activities that are shown, if some have an id
 function withIds(plan, { heads, rows }) {
   const { ids } = namesIn(plan);
   if (!rows.some(({ act }) => ids[act])) return { heads, rows };
   return { heads: ["id", ...heads.slice(1)],
-    rows: rows.map((row) => ({ ...row, id: ids[row.act] })).filter(({ id }) => id) };
+    rows: rows.filter(({ act }) => isShown(plan, act)).map((row) => ({ ...row, id: ids[row.act] })) };
 }
 
 function showDates(plan) {
@@ -311,6 +312,7 @@ async function checkStarts(text) {
   const isFeasible = line === "active" || line.endsWith("can start earlier");
   schedules.set("own", {
     heads, total, isInfeasible: !isFeasible, verdict: isFeasible ? "" : " (not feasible)",
+    wrong: isFeasible ? "" : line,
     rows: rows.map((row, at) => ({ ...row, start: starts[at], end: starts[at] + row.d })),
   });
   plan.days.delete("own");

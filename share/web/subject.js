@@ -126,14 +126,17 @@ async function comparedTo({ words: [file, ...instance], files }, starts) {
   return { line, total: Number(total), starts: tableOf(text).rows.map(({ A }) => A) };
 }
 
-/** Returns a model without links. Its capacities are doubled until start times keep to them. */
+/** Returns a model without links, whose capacities are doubled until start times keep to them; and by
+ * the place of a resource the first verdict that more of it is needed than there is. */
 export async function loosened(model, starts) {
+  const over = new Map();
   let loose = { ...model, arcs: [] };
   for (;;) {
     const files = { "plan.sm": projectText(loose) };
     const { line } = await comparedTo({ words: ["plan.sm"], files }, startLines(starts));
     const place = line.match(/ more of resource (\d+) /)?.[1] - 1;
-    if (!(place >= 0)) return loose;
+    if (!(place >= 0)) return { loose, over };
+    if (!over.has(place)) over.set(place, line);
     const { capacities } = loose;
     loose = { ...loose, capacities: capacities.with(place, 2 * capacities[place] || 1) };
   }
@@ -142,8 +145,8 @@ export async function loosened(model, starts) {
 const withoutLags = (model, names) =>
   projectText({ ...model, arcs: model.arcs.map((arc) => ({ ...arc, lag: 0 })) }, names);
 
-/** Returns by the number of an activity its resources and predecessors in the ids of its file, as
- * the program prints them; null without ids. */
+/** Returns by the number of each activity that is printed its resources and predecessors in the ids of
+ * its file, as the program prints them; null without ids. */
 export async function describedBy(model, names) {
   if (!Object.keys(names.ids).length) return null;
   const words = ["schedule", "num", "--format", "json", "plan.sm"];

@@ -43,13 +43,13 @@ async function learnTimes(plan, rule) {
   }
 }
 
-// the lines of a job shop are machines or jobs
-const BY = { project: [""], shop: ["machine", "job"] };
+// the lines of a chart: activities, or machines or jobs
+const linesBy = ({ kind }) => (kind === "shop" ? ["machine", "job"] : [""]);
 
 async function learnDrawings(plan, rule) {
   const dates = datesIn(plan, rule);
   const calendar = dates && (plan.calendar ?? plan.week);
-  for (const by of BY[plan.kind]) {
+  for (const by of linesBy(plan)) {
     const place = `${rule} ${by}`;
     plan.drawings.set(place, await drawingsOf(plan, rule, calendar, by).catch((fault) => ({ fault })));
   }
@@ -165,6 +165,11 @@ function rowsOf(plan, table, dates, slack) {
   });
 }
 
+/** Returns whether an activity of a plan with ids is shown: as the program does, without the start, the
+ * end and the waits for lags. */
+export const isShown = ({ described, labels: { ids } }, number) =>
+  (described ? described.has(number) : Boolean(ids[number]));
+
 function timesOf({ start, end, first, last, slack, isCritical }, needed = "") {
   const dates = first && `, ${first} to ${last}`;
   const known = slack === "" ? "" : `; ${slack ? `slack ${slack}` : "no slack"} in this schedule`;
@@ -219,8 +224,7 @@ export function viewOf(plan) {
   const dates = datesIn(plan, plan.drawn);
   const all = rowsOf(plan, table, dates, slack);
   const hasIds = all.some(({ id }) => id);
-  // as the program does, without the start and the end if the others have ids
-  const rows = hasIds ? all.filter(({ id }) => id) : all;
+  const rows = hasIds ? all.filter(({ number }) => isShown(plan, number)) : all;
   const bars = plan.kind === "project" ? projectBars({ plan, rows, slack }) : shopBars({ plan, rows });
   const by = plan.kind === "shop" ? byId("lines").value : "";
   return {
@@ -231,7 +235,7 @@ export function viewOf(plan) {
   };
 }
 
-export function legendOf({ bars, slack, plan }) {
+export function legendOf({ bars, slack, plan, drawings }) {
   const colours = new Map(bars.filter((bar) => bar.legend).map((bar) => [bar.legend, bar.colour]));
   const items = [...colours].sort(([a], [b]) => a.localeCompare(b, "en", { numeric: true }))
     .map(([legend, colour]) => [`bar ${colour}`, legend]);
@@ -241,6 +245,7 @@ export function legendOf({ bars, slack, plan }) {
       ["", "slack by the plan's file and the changes set here"]);
   }
   if (bars.some(({ isCritical }) => isCritical)) items.push(["", `* ${STARRED}`]);
+  if (drawings.over?.size) items.push(["over", "more of a resource than there is"]);
   return items;
 }
 

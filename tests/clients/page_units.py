@@ -1,5 +1,5 @@
 """Compares the modules of the browser page that need no browser (subject, search, layout, project,
-handin, table) with Python's datetime and csv, with plain models, and with `plan`. Needs node.
+handin, table, view) with Python's datetime and csv, with plain models, and with `plan`. Needs node.
 """
 
 import csv
@@ -546,8 +546,23 @@ def try_sorting(modules, draw):
     same("orders", [(order > 0) - (order < 0) for order in found], [-1, 1, 1, 1, -1, 0])
 
 
+def try_shown(modules, draw):
+    """The activities that are shown are those that the program prints, so a wait for a lag with an id can be
+    left out. An overuse is in the legend."""
+    ids = {"2": "A", "3": "B", "4": "wait+0"}
+    found = modules.values([["view", "isShown", [{"described": described, "labels": {"ids": ids}}, number]]
+                            for described in ({"map": [[2, {}], [3, {}]]}, {"map": [[2, {}], [3, {}], [4, {}]]}, None)
+                            for number in range(1, 6)])
+    same("what is shown", [found[at:at + 5] for at in (0, 5, 10)], [
+        [False, True, True, False, False], [False, True, True, True, False], [False, True, True, True, False]])
+    view = lambda over: {"bars": [], "slack": None, "plan": {"kind": "project"}, "drawings": over}
+    legends = modules.values([["view", "legendOf", [view(over)]] for over in (
+        {"over": {"map": [[0, "at time 4"]]}}, {"over": {"map": []}}, {})])
+    same("the legends", legends, [[["over", "more of a resource than there is"]], [], []])
+
+
 TRIALS = [try_slack, try_kept, try_verdicts, try_shops, try_search, try_hand_in,
-          try_projects, try_messages, try_layout, try_sorting]
+          try_projects, try_messages, try_layout, try_sorting, try_shown]
 
 
 def try_units(room, web, seed=1):

@@ -110,6 +110,28 @@ def seen_axis(browser):
     """)
 
 
+def seen_uses(browser, last):
+    """For each resource the sentence above its use, and the instants at which the use above its capacity
+    has the colour of errors; that there is none of it below."""
+    return browser.run("""
+        const last = arguments[0];
+        document.getElementById("use").scrollIntoView({ block: "center" });
+        const axis = document.querySelector("#drawing .thread").getBoundingClientRect();
+        const red = getComputedStyle(document.querySelector("#delete .danger")).color;
+        const isRed = (x, y) => {
+            const node = document.elementFromPoint(x, y);
+            return node?.matches(".over") && getComputedStyle(node).fill === red;
+        };
+        return [...document.querySelectorAll("#use > svg")].map((image) => {
+            const above = image.previousElementSibling?.matches(".fault") && image.previousElementSibling;
+            const { top } = image.querySelector(".most").getBoundingClientRect();
+            const times = [...Array(last).keys()], x = (time) => axis.left + axis.width * (time + 0.5) / last;
+            if (times.some((time) => isRed(x(time), top + 3))) return ["red below the capacity"];
+            return [above ? above.textContent : "", times.filter((time) => isRed(x(time), top - 3))];
+        });
+    """, last)
+
+
 def wait_text(browser, css, text):
     """Waits until an element has a text in it."""
     browser.wait(f"{text!r} in {css}", """

@@ -51,7 +51,7 @@ CONTRAST = """
             if (value < 4.5) tell(node, value, node.textContent);
         }
     }
-    for (const node of document.querySelectorAll(".bar rect, .bar path, .use")) {
+    for (const node of document.querySelectorAll(".bar rect, .bar path, .use, .over")) {
         if (!node.checkVisibility()) continue;
         const style = getComputedStyle(node), page = behind(node.closest("svg"));
         const mixed = (colour) => colour.map((part, at) =>

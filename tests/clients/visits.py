@@ -13,10 +13,10 @@ from exchanges import OFFICE_KEY, TOP, Exchange, file_of
 from front import sent
 from page_units import as_model, brute_slack, read_sm, shop_model, worked_days
 from pages import (
-    RULE_NAMES, RULES, drop, example, focus_window, makespan_of, open_plan, open_tab, pick,
+    RULE_NAMES, RULES, drop, example, focus_window, id_rows, makespan_of, open_plan, open_tab, pick,
     printed, rows_of,
-    same_bars, same_project, same_table, same_tails, seen, seen_axis, seen_bands, seen_plans,
-    seen_table, set_date, submit, texts, wait_idle, wait_plan, wait_text,
+    same_bars, same_dates, same_project, same_table, same_tails, seen, seen_axis, seen_bands, seen_plans,
+    seen_table, seen_uses, set_date, submit, texts, wait_idle, wait_plan, wait_text,
 )
 from pictures import smaller
 from programs import Wrong, plan, same, talk
@@ -253,6 +253,43 @@ def visit_bars(browser):
     same("the legend", "may not slip" in legend, False)
     same("the star", "* critical by dates alone (crews not counted)" in legend, True)
     same("where slack is from", "slack by the plan's file and the changes set here" in legend, True)
+
+
+# what the page of a desk gets in the place of the program, and how it says so
+NO_PROGRAM = {
+    "new Response('', { status: 404 })": "the server answers 404 for plan.wasm",
+    "Promise.reject(new TypeError('cut off'))": "plan.wasm doesn't come",
+    "new Response('other')": "plan.wasm is another module than this page expects",
+}
+
+
+def visit_unloaded(browser):
+    """Without the program one sentence in the place of the chart says why there is none and what to do, and
+    the tables stay. With the program the chart is there again."""
+    browser.open(browser.run("return location.href"))
+    browser.wait("the first page", "return document.querySelector('#door fieldset:enabled')")
+    sign_in(browser)
+    wait_text(browser, "#plans", "house")
+    house = os.path.join(TOP, HOUSE)
+    lines = printed("schedule", "lft", house)
+    rows = rows_of(lines)
+    browser.run("window.real = window.fetch")
+    for answer, why in NO_PROGRAM.items():
+        browser.run("window.fetch = async (path, ...more) =>"
+                    f" path === 'plan.wasm' ? {answer} : window.real(path, ...more)")
+        open_plan(browser, 1)
+        same("what is said in the place of a chart", texts(browser, "#chart .refusal > *"), [
+            f"Reload the page, or tell the office: the program can't be loaded, because {why}; until then"
+            " there is no chart."])
+        same("whether it is said twice", browser.run("return note.checkVisibility()"), False)
+        same("what else there is of the chart", texts(browser, "#drawing svg, #use > *, #legend li"), [])
+        same("the starts", column(browser, "start"), [row[2] for row in rows])
+        same_dates(browser, printed("cpm", house))
+        same("the makespan", seen(browser, "#drawn label").strip(), f"{RULE_NAMES['lft']} {makespan_of(lines)}")
+    same_senses("a plan without a chart", browser)
+    browser.run("window.fetch = window.real")
+    open_plan(browser, 1)
+    same_bars("the chart with the program", browser, [[row[0], row[2], row[3]] for row in rows], makespan_of(lines))
 
 
 def bar_classes(browser):
@@ -609,11 +646,22 @@ def values_set(browser):
                        " lag.elements.lag, calendar.elements.start].map((field) => field.value)")
 
 
-def is_overused(model, starts):
-    """Whether more of the first resource is used at some time than there is."""
+def overuse_words(name, time):
+    return f"Start an activity that needs {name} at time {time} later. More of it is needed then than there is."
+
+
+def same_uses(browser, model, starts, names):
+    """The use of each resource has the colour of errors where more is used than there is, and nowhere else.
+    A sentence above it names the resource and the first of these instants."""
     work = list(zip(starts, model["durations"], model["needs"]))
-    return any(sum(need[0] for start, d, need in work if start <= time < start + d) > model["capacities"][0]
-               for time in starts)
+    last = max(start + d for start, d, _ in work)
+    used = lambda time, place: sum(need[place] for start, d, need in work if start <= time < start + d)
+    over = [[time for time in range(last) if used(time, place) > capacity]
+            for place, capacity in enumerate(model["capacities"])]
+    wanted = [[overuse_words(name, times[0]) if times else "", times] for name, times in zip(names, over)]
+    same(f"the overuse by {starts}", seen_uses(browser, last), wanted)
+    same(f"the overuse by {starts} in the legend", "more of a resource than there is" in " ".join(
+        texts(browser, "#legend li")), any(over))
 
 
 def visit_check(browser):
@@ -637,10 +685,7 @@ def visit_check(browser):
         same("its caption", named in seen(browser, "#caption"), True)
         rows = [[str(at + 1), start, str(end)] for at, (start, end) in enumerate(zip(starts.split(), ends))]
         same_bars(f"the start times {starts}", browser, rows, max(ends))
-        same("more than the capacity", browser.run("""
-            const [area, most] = [".use", ".most"].map((css) => document.querySelector(`#use ${css}`).getBBox());
-            return area.y < most.y - 1;
-        """), is_overused(model_of(file_of("examples/six.sm").decode()), [int(start) for start in starts.split()]))
+        same_uses(browser, model_of(file_of("examples/six.sm").decode()), list(map(int, starts.split())), ["resource 1"])
         if line.startswith("activity"):
             wait_text(browser, "#told", f"Activity {line.split()[1]}: ")
     browser.choose("#check-file", example("late.txt"))
@@ -832,10 +877,33 @@ def check_early(browser):
           "activity 3 starts before 2 ends"])
     starts_are(browser, "0 0 4 4 13 23", "at time 4 more of resource 1 is needed than there is")
     wait_text(browser, "#check-answer strong", "Start an activity that needs crew at time 4 later.")
+    check_overuse(browser)
     starts_are(browser, "0 0 4 10 14 24", "activity 5 can start earlier")
     wait_text(browser, "#check-answer strong", "Start D Walls, north earlier, if you like.")
     starts_are(browser, "0 0 4 10 13 24", "activity 6 can start earlier")
     wait_text(browser, "#check-answer strong", "Start the end earlier, if you like.")
+
+
+def check_overuse(browser):
+    """More use than there is has the colour of errors, with its resource and its instant, also on paper. What
+    else is wrong is said too."""
+    later = "Start B Foundation later. It starts before A Excavation ends."
+    model = model_of("\n".join(printed("import", "tests/tables/list.csv")))
+    for starts, line, told in (
+        ("0 0 4 4 13 23", "at time 4 more of resource 1 is needed than there is", [overuse_words("crew", 4)]),
+        # of the crew 8, 10 and then 11; two diggers
+        ("0 0 0 2 4 30", "activity 3 starts before 2 ends",
+         [later, overuse_words("crew", 0), overuse_words("digger", 2)]),
+        ("0 0 3 10 13 23", "activity 3 starts before 2 ends", [later, overuse_words("crew", 3)]),
+    ):
+        starts_are(browser, starts, line)
+        same(f"what is wrong with {starts}", texts(browser, "#use .fault"), told)
+        same_uses(browser, model, list(map(int, starts.split())), ["crew", "digger"])
+        browser.run("dispatchEvent(new Event('beforeprint'))")
+        same(f"what is wrong with {starts} on paper", texts(browser, "#paper .fault"), told)
+        same("the uses on paper", len(texts(browser, "#paper .sheet > svg .over")), 2)
+        browser.run("dispatchEvent(new Event('afterprint'))")
+    same_senses("start times that aren't feasible", browser)
 
 
 def visit_need(browser, office):
@@ -1425,7 +1493,10 @@ def visit_orders(browser, office):
     # worked out by hand: a step too early, the saw twice, a feasible schedule, and the press later
     starts_are(browser, "0 0 0 0 0 0 0 0 0", "step 2 of job 1 starts before step 1 ends")
     starts_are(browser, "0 3 5 1 7 8 12 16 19", "at time 1 more than one step is on machine 0")
+    same("what is wrong", texts(browser, "#use .fault"),
+         ["Start a step on saw at time 1 later. More than one is on it then."])
     starts_are(browser, "0 3 5 3 7 8 12 16 19", "active")
+    same("what is wrong with an active one", texts(browser, "#use .fault"), [])
     starts_are(browser, "0 3 5 3 7 8 13 17 20", "step 1 of job 3 can start earlier")
     wait_text(browser, "#told", "Job 3 order 4713, step 1, machine 1 press: 13 to 17")
     wait_text(browser, "#check-answer", "makespan 20.")
@@ -1539,6 +1610,30 @@ def visit_keep(browser, office):
         answer = talk(office.server.port, Exchange("GET", path, KEY).request()).decode()
         rows = rows_of(answer.partition("\r\n\r\n")[2].splitlines())
         same(f"the office's schedule {rule}", [row[2] for row in rows], starts)
+
+
+def visit_lags(browser, office):
+    """The rows and the bars of a list with lags are those that `plan` prints, also for start times that aren't
+    feasible."""
+    n = max(listed(office.server)) + 1
+    text = "id,name,duration,predecessors,crew\nA,Dig,2,,1\nB,Pour,3,A+2,1\nC,Paint,1,A B+1,1\ncapacity,,,,1\n"
+    given = "\n".join([*printed("import", "-", given=text.encode()), ""]).encode()
+    drop(browser, "lags.csv", text)
+    wait_text(browser, "#preview", "lags.csv becomes a project")
+    submit(browser, "import")
+    wait_plan(browser, n)
+    rows = [[row[0], row[2]] for row in id_rows(printed("schedule", "lft", "--names", "-", given=given))]
+    bars = "return [...document.querySelectorAll('#drawing .bar')].map(({ dataset }) => dataset.start)"
+    ids = [cell.strip("*") for cell in column(browser, "id")]
+    same("the rows", list(map(list, zip(ids, column(browser, "start")))), rows)
+    same("the bars", browser.run(bars), [row[1] for row in rows])
+    same("the dates", [row[0] for row in seen_table(browser, "#dates")[1:]], ids)
+    count = len(rows_of(printed("schedule", "lft", "-", given=given)))
+    browser.run("check.elements.starts.value = arguments[0]", " ".join(["0"] * count))
+    submit(browser, "check")
+    wait_text(browser, "#check-answer", "Not feasible")
+    same("the bars at 0", browser.run(bars), ["0"] * len(rows))
+    open_tab(browser, "table")
 
 
 def visit_module(browser):
@@ -1679,10 +1774,10 @@ def named_house():
 
 VISIT = [
     visit_door, visit_help, visit_office, visit_upgrade, visit_desk, visit_left, visit_import, visit_bars,
-    visit_slack, visit_use, visit_sort, visit_calendar, visit_today, visit_bind, visit_lag, visit_elsewhere,
+    visit_unloaded, visit_slack, visit_use, visit_sort, visit_calendar, visit_today, visit_bind, visit_lag, visit_elsewhere,
     visit_best, visit_large, visit_check, visit_save, visit_table, visit_capacity, visit_need,
     visit_names, visit_other,
     visit_shop, visit_colours, visit_links, visit_focus, visit_closed, visit_refused, visit_keys, visit_back, visit_delete,
     visit_lost, visit_found, visit_waiting, visit_sizes, visit_senses, visit_paper, visit_orders,
-    visit_cancel, visit_whole, visit_keep, visit_quiet, visit_module, visit_pictures,
+    visit_cancel, visit_whole, visit_keep, visit_lags, visit_quiet, visit_module, visit_pictures,
 ]
