@@ -257,11 +257,12 @@ function otherWrong({ plan, drawings: { over } }) {
   return [...over.values()].includes(wrong) ? "" : wrong;
 }
 
-const useNodes = (view, uses, width) => [
+// the images that there is room for, and what is wrong
+const useNodes = (view, uses, width, room = uses.length) => [
   ...wrongNodes(view, otherWrong(view)),
-  ...uses.flatMap(({ over, image }) => {
+  ...uses.flatMap(({ over, image }, at) => {
     markOver(image, width);
-    return [...wrongNodes(view, over), image];
+    return [...wrongNodes(view, over), ...(at < room ? [image] : [])];
   }),
 ];
 
@@ -337,11 +338,10 @@ function paperCharts(view) {
 
 export function fillPaper(view) {
   const sheets = paperCharts(view).map(({ count, chart }, at, { length }) => {
-    const lines = SHEET_LINES - count - view.drawings.over.size;
-    const uses = usesOf(view).slice(0, Math.max(0, Math.floor((LINE * lines) / USE)));
+    const room = Math.floor((LINE * (SHEET_LINES - count - view.drawings.over.size)) / USE);
     return make("section", { class: "sheet" }, headNode(view, at + 1, length), chart,
       make("ul", { class: "legend" }, ...legendNodes(view)),
-      ...(at < length - 1 ? [] : useNodes(view, uses, DRAWN.width)),
+      ...(at < length - 1 ? [] : useNodes(view, usesOf(view), DRAWN.width, room)),
       say(captionOf(view), { class: "hint" }));
   });
   fill("paper", ...sheets, make("section", { class: "sheet rows" },

@@ -1,6 +1,7 @@
 // The drawings of a schedule, which the program makes: those of `plan report`, a chart in images of
 // 40 lines and an image of the use of each resource. They are texts.
 
+import { Refusal } from "./api.js";
 import { daysUpTo } from "./axis.js";
 import { today } from "./layout.js";
 import { stepLabels } from "./labels.js";
@@ -9,6 +10,7 @@ import { dayCells, daysOf, lateStarts, loosened, projectText } from "./subject.j
 
 const USES = "<h2>Resource use</h2>";
 const WEEKS = ["1111100", "1111110", "1111111"];
+const TOO_LARGE = "Correct the start times: a schedule of more than 502 steps is drawn if it is feasible.";
 
 const imagesIn = (text) => text.match(/<svg xmlns[^]*?(?=\s<\/figure>)/g) ?? [];
 
@@ -52,7 +54,9 @@ export async function drawingsOf(plan, rule, calendar, by) {
   const subject = linked ? { ...plan.subject, model: plan.model }
     : await looseSubject(plan, rows, starts);
   const options = linked && plan.kind === "shop" ? ["--by", by] : [];
-  const drawings = await reportOf(subject, starts, calendar, options);
+  const drawings = await reportOf(subject, starts, calendar, options).catch((fault) => {
+    throw linked || !fault.message.startsWith("F10 ") ? fault : new Refusal(TOO_LARGE);
+  });
   return { ...drawings, capacities: subject.model.capacities, over: subject.over ?? new Map() };
 }
 

@@ -1636,6 +1636,23 @@ def visit_lags(browser, office):
     open_tab(browser, "table")
 
 
+def visit_most(browser, office):
+    """A schedule of 520 steps is drawn; one that isn't feasible isn't, and a sentence says why."""
+    n = max(listed(office.server)) + 1
+    rows = [" ".join(f"{(job + step) % 20} 1" for step in range(20)) for job in range(26)]
+    drop(browser, "most.txt", "instance most\nmany steps\n26 20\n" + "\n".join(rows) + "\n")
+    wait_plan(browser, n)
+    same("the bars", len(bar_classes(browser)), 520)
+    browser.run("check.elements.starts.value = arguments[0]", " ".join(["0"] * 520))
+    submit(browser, "check")
+    wait_text(browser, "#check-answer", "Not feasible")
+    same("what is said in the place of a chart", texts(browser, "#chart .refusal > *"), [
+        "Correct the start times: a schedule of more than 502 steps is drawn if it is feasible; until then there"
+        " is no chart."])
+    same("the table", column(browser, "start"), ["0"] * 520)
+    open_tab(browser, "table")
+
+
 def visit_module(browser):
     """A module of another digest is refused; the page goes on without slack."""
     state = lambda script: browser.call("POST", "/execute/async", {"script": script, "args": []})
@@ -1779,5 +1796,5 @@ VISIT = [
     visit_names, visit_other,
     visit_shop, visit_colours, visit_links, visit_focus, visit_closed, visit_refused, visit_keys, visit_back, visit_delete,
     visit_lost, visit_found, visit_waiting, visit_sizes, visit_senses, visit_paper, visit_orders,
-    visit_cancel, visit_whole, visit_keep, visit_lags, visit_quiet, visit_module, visit_pictures,
+    visit_cancel, visit_whole, visit_keep, visit_lags, visit_most, visit_quiet, visit_module, visit_pictures,
 ]
