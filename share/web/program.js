@@ -40,7 +40,7 @@ async function moduleBytes() {
   const packed = inside("packed-module");
   if (!packed) {
     const response = await fetch("plan.wasm", { redirect: "error" })
-      .catch(() => { throw new Error("plan.wasm doesn't come"); });
+      .catch(() => { throw new Error("plan.wasm can't be fetched"); });
     if (!response.ok) throw new Error(`the server answers ${response.status} for plan.wasm`);
     return response.arrayBuffer();
   }

@@ -101,11 +101,12 @@ export const earlyStarts = (model, starts) => startLines([...starts,
 export const lateStarts = (model, starts) => startLines([...starts,
   ...lagged(model).map(({ to, lag }) => Math.max(0, starts[to] - lag))]);
 
+// null for an error of the program, whose line begins with its code
 async function orNull(asking) {
   try {
     return await asking;
   } catch (fault) {
-    if (fault instanceof Refusal) return null;
+    if (fault instanceof Refusal && /^[A-Z]\d/.test(fault.message)) return null;
     throw fault;
   }
 }

@@ -258,7 +258,7 @@ def visit_bars(browser):
 # what the page of a desk gets in the place of the program, and how it says so
 NO_PROGRAM = {
     "new Response('', { status: 404 })": "the server answers 404 for plan.wasm",
-    "Promise.reject(new TypeError('cut off'))": "plan.wasm doesn't come",
+    "Promise.reject(new TypeError('cut off'))": "plan.wasm can't be fetched",
     "new Response('other')": "plan.wasm is another module than this page expects",
 }
 
