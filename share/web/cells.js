@@ -26,7 +26,12 @@ export function cellsOf(list) {
   return rows;
 }
 
-const NAMED = /^(id|name|task|task name|activity|order|nr\.?|no\.?|number)$/i;
+// the headers of ids and names: docs/lists.md, "Columns"
+const NAMED = new RegExp(`^(?:${[
+  "(?:activity |task )?id", "n[ro]\\.?", "number", "name", "task(?: name)?", "activity", "order",
+  "name der aufgabe", "vorgang(?:sname)?", "bezeichnung", "nom(?: de la t\u00e2che)?", "t\u00e2che",
+  "nombre(?: de tarea)?", "tarea",
+].join("|")})$`, "i");
 
 /** Returns the id and the name in a line of a list, with the line; nothing if it has none. */
 export function rowWords(text, line) {

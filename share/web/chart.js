@@ -252,19 +252,16 @@ const wrongNodes = ({ plan: { labels } }, line) =>
   (line ? [say(verdictWords(line, labels).join(" "), { class: "fault" })] : []);
 
 // what is wrong with start times, if no use shows it
-function otherWrong({ plan, drawings: { over } }) {
+function otherWrong(view) {
+  const { plan, drawings: { over } } = view;
   const { wrong } = plan.schedules.get(plan.drawn);
-  return [...over.values()].includes(wrong) ? "" : wrong;
+  return [...over.values()].includes(wrong) ? [] : wrongNodes(view, wrong);
 }
 
-// the images that there is room for, and what is wrong
-const useNodes = (view, uses, width, room = uses.length) => [
-  ...wrongNodes(view, otherWrong(view)),
-  ...uses.flatMap(({ over, image }, at) => {
-    markOver(image, width);
-    return [...wrongNodes(view, over), ...(at < room ? [image] : [])];
-  }),
-];
+const useNodes = (view, uses, width) => uses.flatMap(({ over, image }) => {
+  markOver(image, width);
+  return [...wrongNodes(view, over), image];
+});
 
 function screenUses(view, { edges }, width) {
   const uses = usesOf(view);
@@ -273,7 +270,7 @@ function screenUses(view, { edges }, width) {
     shorten(nameIn(image), edges.left - 24);
     image.setAttribute("viewBox", `0 ${AXIS} ${width} ${USE}`);
   }
-  return useNodes(view, uses, width);
+  return [...otherWrong(view), ...useNodes(view, uses, width)];
 }
 
 function showDrawings(view) {
@@ -336,14 +333,42 @@ function paperCharts(view) {
   });
 }
 
+// the uses on a sheet with some room, and those on further sheets
+function onSheets(uses, room) {
+  const parts = [[]];
+  let free = room;
+  for (const use of uses) {
+    const height = USE + (use.over ? 1.5 * LINE : 0);
+    if (height > free) {
+      parts.push([]);
+      free = LINE * SHEET_LINES;
+    }
+    free -= height;
+    parts.at(-1).push(use);
+  }
+  return parts;
+}
+
+function axisOfUses({ drawings: { uses: [text] } }) {
+  const marks = drawingNode(text).querySelectorAll(":scope > text:not(.end), :scope > .week");
+  return draw("svg", { viewBox: `0 0 ${DRAWN.width} ${AXIS}` }, ...marks);
+}
+
+function sheetsOf(view) {
+  const charts = paperCharts(view), { length } = charts;
+  if (!length) return [];
+  const sheet = (at, count, ...nodes) => make("section", { class: "sheet" },
+    headNode(view, at, count), ...nodes, say(captionOf(view), { class: "hint" }));
+  const [below, ...others] = onSheets(usesOf(view), LINE * (SHEET_LINES - charts.at(-1).count));
+  const rest = [...otherWrong(view), ...useNodes(view, below, DRAWN.width)];
+  return [
+    ...charts.map(({ chart }, at) => sheet(at + 1, length, chart,
+      make("ul", { class: "legend" }, ...legendNodes(view)), ...(at < length - 1 ? [] : rest))),
+    ...others.map((uses) => sheet(1, 1, axisOfUses(view), ...useNodes(view, uses, DRAWN.width))),
+  ];
+}
+
 export function fillPaper(view) {
-  const sheets = paperCharts(view).map(({ count, chart }, at, { length }) => {
-    const room = Math.floor((LINE * (SHEET_LINES - count - view.drawings.over.size)) / USE);
-    return make("section", { class: "sheet" }, headNode(view, at + 1, length), chart,
-      make("ul", { class: "legend" }, ...legendNodes(view)),
-      ...(at < length - 1 ? [] : useNodes(view, usesOf(view), DRAWN.width, room)),
-      say(captionOf(view), { class: "hint" }));
-  });
-  fill("paper", ...sheets, make("section", { class: "sheet rows" },
+  fill("paper", ...sheetsOf(view), make("section", { class: "sheet rows" },
     paperTable(view, `${planTitle(view.plan)}: ${captionOf(view)}`)));
 }

@@ -6,6 +6,8 @@ import { daysUpTo } from "./axis.js";
 import { today } from "./layout.js";
 import { stepLabels } from "./labels.js";
 import { printed } from "./program.js";
+import { isWait } from "./project.js";
+import { recordOf } from "./state.js";
 import { dayCells, daysOf, lateStarts, loosened, projectText } from "./subject.js";
 
 const USES = "<h2>Resource use</h2>";
@@ -41,6 +43,14 @@ async function looseSubject({ kind, model, labels }, rows, starts) {
   return subjectFor(withoutNeeds(rows.map(({ d }) => d)), { ids, names });
 }
 
+/** Returns the rows of a schedule without waits, and of a list of orders without steps of time 0: an
+ * order has one on each machine that it doesn't use. */
+export function shownOf({ n, kind }, rows) {
+  if (kind === "project") return rows.filter(({ id }) => !isWait(id));
+  const used = rows.filter(({ d }) => d > 0);
+  return recordOf(n).list && used.length ? used : rows;
+}
+
 /** Returns whether a schedule is drawn with the links of its plan. */
 export const isLinked = ({ model, schedules }, rule) =>
   Boolean(model) && !schedules.get(rule).isInfeasible;
@@ -48,9 +58,9 @@ export const isLinked = ({ model, schedules }, rule) =>
 /** Returns the drawings of a schedule, as { charts, uses, capacities, over }: the images, and what
  * `loosened` returns. `by` names the lines of a job shop: "machine" or "job". */
 export async function drawingsOf(plan, rule, calendar, by) {
-  const { rows } = plan.schedules.get(rule);
+  const linked = isLinked(plan, rule), all = plan.schedules.get(rule).rows;
+  const rows = linked ? all : shownOf(plan, all);
   const starts = rows.map(({ start }) => start);
-  const linked = isLinked(plan, rule);
   const subject = linked ? { ...plan.subject, model: plan.model }
     : await looseSubject(plan, rows, starts);
   const options = linked && plan.kind === "shop" ? ["--by", by] : [];

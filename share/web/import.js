@@ -8,12 +8,12 @@ import {
 import { rowWords } from "./cells.js";
 import { noteList, openSaved, replacedFile, showEdit } from "./edit.js";
 import { isAlone } from "./local.js";
-import { isOfDates } from "./messages.js";
+import { ignoredWords, isOfDates } from "./messages.js";
 import { showPlace } from "./place.js";
 import { openPlan, showPlan, takeStarts } from "./plan.js";
 import { showPlans } from "./plans.js";
 import { printed, printedWith } from "./program.js";
-import { readProject, readShop } from "./project.js";
+import { arcsOverWaits, isWait, readProject, readShop } from "./project.js";
 import { page, remember } from "./state.js";
 import { counted } from "./words.js";
 
@@ -193,10 +193,11 @@ function capacityNode(name, value) {
 }
 
 // the program's note on columns that it ignores, or on the letters of the file
-const noteNodes = (note) => (note.match(/[^;]+/g) ?? []).map((words) => say(words.trim()
+const noteNodes = (note) => (note.match(/[^;]+/g) ?? []).flatMap((words) => [words.trim()
   .replace(/^ignored columns:/,
     "These columns are no crews, because no capacity is given, and are ignored:")
-  .replace(/^read as (.*)$/, "The list isn't in UTF-8; it is read as $1."), { class: "hint" }));
+  .replace(/^read as (.*)$/, "The list isn't in UTF-8; it is read as $1."), ...ignoredWords(words)])
+  .map((words) => say(words, { class: "hint" }));
 
 const previewNodes = (name, kind, parts, table, note) => [
   tell(`${name} becomes a ${kind} of ${parts}. Change the list, or make the plan.`),
@@ -207,19 +208,21 @@ const previewNodes = (name, kind, parts, table, note) => [
 
 // the first and the last activity of the project aren't rows of the list
 function projectNodes({ name, list: { note } }, project) {
-  const { durations, arcs, needs, ids, names, resources, capacities } = project;
+  const { durations, needs, ids, names, resources, capacities } = project;
   const last = durations.length - 1;
-  const inner = arcs.filter(({ from, to }) => from > 0 && to < last);
+  const inner = arcsOverWaits(project).filter(({ from, to }) => from > 0 && to < last);
   const idOf = (number) => ids.get(number) ?? number;
-  const before = (at) => inner.filter(({ to }) => to === at).map(({ from }) => idOf(from + 1));
+  const before = (at) => inner.filter(({ to }) => to === at)
+    .map(({ from, lag }) => `${idOf(from + 1)}${lag ? `+${lag}` : ""}`);
   const caps = [...resources].map(([number, words]) => `${words} ${capacities[number - 1]}`);
   const rows = durations.map((duration, at) => [idOf(at + 1), names.get(at + 1) ?? "", duration,
-    before(at).join(" "), ...[...resources.keys()].map((number) => needs[at][number - 1])]);
-  return previewNodes(name, "project", `${counted(last - 1, "activity", "activities")}, with ${
+    before(at).join(" "), ...[...resources.keys()].map((number) => needs[at][number - 1])])
+    .slice(1, -1).filter(([id]) => !isWait(id));
+  return previewNodes(name, "project", `${counted(rows.length, "activity", "activities")}, with ${
     counted(inner.length, "link")} between them and ${counted(resources.size, "resource")}`, {
     caption: caps.length && `Capacities: ${caps.join(", ")}`,
     heads: [ids.size ? "id" : "number", "name", "duration", "predecessors", ...resources.values()],
-    rows: rows.slice(1, -1),
+    rows,
   }, note);
 }
 

@@ -4,11 +4,32 @@
 import { activityLabel, machineLabel, resourceLabel } from "./labels.js";
 
 const CELL = "A number has one to nine digits, without a sign, a fraction or a unit.";
+const HEADERS = "Change headers and columns in the spreadsheet, or below in the list as a text.";
+
+// links of MS Project that the program doesn't read, in four languages, and negative lags
+const LINK = /^\d+(?:SS|SF|FF|AA|AE|EE|EA|DD|DF|FD|CC|CF|FC)\b|^\d+(?:[A-Z]{2})?-/i;
 
 // the columns of dates, which `plan solve` reads and the page doesn't
 const DATES = /^(?:earliest|fixed|begun|remaining|done|due|late)$/i;
 
 export const isOfDates = (header) => DATES.test(header);
+
+// the column with the names of resources, as planning programs export it
+const ASSIGNED =
+  /^(?:resource names|resources|ressourcennamen|noms ressources|nombres de los recursos)$/i;
+
+/** Returns what to do about the columns that the program ignores, as its note names them. */
+export function ignoredWords(note) {
+  const listed = note.match(/ignored columns:([^;]*)/)?.[1] ?? "";
+  const headers = (listed.match(/[^,]+/g) ?? []).map((header) => header.trim());
+  const dates = headers.filter(isOfDates).join(", ");
+  const assigned = headers.find((header) => ASSIGNED.test(header));
+  return [
+    ...(dates ? [`The page plans without the dates in ${dates}: plan solve reads them.`] : []),
+    ...(assigned ? [`To count the names in ${assigned}, add a row with the id capacity, and write, `
+      + "for example, crew[3],digger there."] : []),
+  ];
+}
 
 // by code; codes of start times end with s
 const MESSAGES = {
@@ -51,20 +72,29 @@ const MESSAGES = {
   T1: () => ["Delete rows, or split the list.", "It is larger than 1,048,576 bytes."],
   T2: ({ line }) => ["Save the list as CSV UTF-8, and delete line breaks in names.",
     `Line ${line} isn't plain text.`],
-  T3: ({ word }) => [`Add a column with the header ${word}.`, "A list of activities needs "
-    + "duration; a list of orders has order, and then pairs of machine and time."],
+  T3: ({ word }) => (word === "duration"
+    ? ["Write duration as the header of the column of durations.", "A list of activities needs it. "
+      + `A list of orders has order, and then pairs of machine and time. ${HEADERS}`]
+    : ["Delete all columns but order, machine and time.", "A list of orders has order, and then "
+      + `pairs of machine and time, in this order, and no others. ${HEADERS}`]),
   T4: ({ word }) => [`Rename or delete one of the two columns ${word}.`,
     "They have the same header, or two words for one column."],
-  T5: ({ row }) => (/^capacit/i.test(row)
+  T5: ({ row }) => (/^capacity\b/i.test(row)
     ? ["Add a column with the header id, and write capacity there.",
       "A row of capacities has no duration."]
+    : /^(?:kapazit|capaci)/i.test(row)
+    ? [`Write capacity in place of ${row}.`,
+      "The row of capacities has the id capacity, also in a list with other headers."]
     : [`Write a whole number as the duration of ${row}.`,
       `${CELL} For fractions use a finer time unit, for example hours.`]),
   T6: ({ row }) => [`Give ${row} an id of at most 32 characters.`,
     "An id has no blank, comma or semicolon. An order and a machine need a name."],
   T7: ({ row, word }) => [`Give ${row} another id.`, `An earlier row has the id ${word} too.`],
-  T8: ({ row, word }) => [`Correct the predecessor ${word} of ${row}, or add its row.`,
-    "No row has this id, and not exactly one this name."],
+  T8: ({ row, word }) => (LINK.test(word)
+    ? [`Write another link in place of ${word} of ${row}, or split an activity.`,
+      "A predecessor ends before the activity starts. A lag is a whole number of days behind a plus."]
+    : [`Correct the predecessor ${word} of ${row}, or add its row.`,
+      "No row has this id, and not exactly one this name. A group can't be a predecessor."]),
   T9: ({ row, word }) => [`Write a whole number as the need of ${row} for ${word}.`,
     `${CELL} If ${word} isn't a resource, delete its column or its header.`],
   T10: ({ word }) => (isOfDates(word)

@@ -15,11 +15,12 @@ import { keptPlan } from "./keep.js";
 import { verdictWords } from "./messages.js";
 import { visitPlace } from "./place.js";
 import { markOpen, showPlans } from "./plans.js";
+import { isWait } from "./project.js";
 import { searchWords, shorterOf } from "./search.js";
 import { page, recordOf, remember, RULES, shapeOf, WORDS_OF_KIND } from "./state.js";
 import { ownList, savedText, solved, verdictOf } from "./subject.js";
 import { showTable } from "./table.js";
-import { isShown, learn, nameOf, namesIn, needWords, settle, viewOf } from "./view.js";
+import { learn, nameOf, namesIn, needWords, settle, viewOf } from "./view.js";
 import { letAskWhatIf, showWhatIf } from "./whatif.js";
 import { bringBack, wholeText } from "./whole.js";
 import { COLUMN_WORDS, RULE_NAMES, RULE_WORDS } from "./words.js";
@@ -168,7 +169,8 @@ export function redraw() {
   if (view) showChart(view);
 }
 
-export const showPaper = () => view && fillPaper(view);
+export const showPaper = () => (view ? fillPaper(view)
+  : fill("paper", say("Make a plan or open one, and print that.")));
 
 function showDayNote(plan) {
   const refusal = [...plan.days.values()].find((days) => days instanceof Refusal);
@@ -195,12 +197,12 @@ function showChoice(plan) {
 const titled = (words) =>
   make("abbr", { title: COLUMN_WORDS[words] ?? RULE_WORDS[words] }, RULE_NAMES[words] ?? words);
 
-// the heads of a table with the rows of activities that are shown, if some have an id
+// the heads of a table with the rows of activities that have an id, if some have one
 function withIds(plan, { heads, rows }) {
   const { ids } = namesIn(plan);
   if (!rows.some(({ act }) => ids[act])) return { heads, rows };
   return { heads: ["id", ...heads.slice(1)],
-    rows: rows.filter(({ act }) => isShown(plan, act)).map((row) => ({ ...row, id: ids[row.act] })) };
+    rows: rows.map((row) => ({ ...row, id: ids[row.act] })).filter(({ id }) => id && !isWait(id)) };
 }
 
 function showDates(plan) {

@@ -106,6 +106,17 @@ export function readShop(text, instance) {
   return { names, resources, title };
 }
 
+/** Returns whether an id is that of a wait, which stands for a lag of a list. */
+export const isWait = (id) => /^wait\+\d+$/.test(id ?? "");
+
+/** Returns the arcs of a project with the lags of its list in the place of waits. */
+export function arcsOverWaits({ arcs, durations, ids }) {
+  const isGap = (at) => isWait(ids?.get(at + 1));
+  const before = (at) => arcs.find(({ to }) => to === at).from;
+  return arcs.filter(({ to }) => !isGap(to)).map((arc) => (isGap(arc.from)
+    ? { ...arc, from: before(arc.from), lag: durations[arc.from] } : arc));
+}
+
 /** Returns the first resource of which the greatest part is needed, counted from 1; 0 if none. */
 export function mostNeeded(needs, capacities) {
   const parts = needs.map((need, place) => need / Math.max(1, capacities[place]));

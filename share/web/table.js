@@ -48,8 +48,8 @@ export function showTable(view, words) {
   const isSorted = columnsOf(view).includes(head);
   const sign = isDown ? -1 : 1;
   const rows = isSorted
-    ? [...view.rows].sort((a, b) => sign * compare(a[head], b[head]) || a.index - b.index)
-    : view.rows;
+    ? [...view.shown].sort((a, b) => sign * compare(a[head], b[head]) || a.index - b.index)
+    : view.shown;
   const headNode = (column) => byId("table").querySelector(`[data-head=${column}]`);
   const buttonOf = (column) => {
     const title = COLUMN_WORDS[column] ?? `the ${headName(column)}`;
@@ -66,4 +66,4 @@ export function showTable(view, words) {
 }
 
 /** Returns the table in the order of the plan, without buttons. */
-export const paperTable = (view, words) => scheduleTable(view, view.rows, headName, words);
+export const paperTable = (view, words) => scheduleTable(view, view.shown, headName, words);

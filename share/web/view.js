@@ -3,11 +3,11 @@
 
 import { Refusal } from "./api.js";
 import { byId } from "./dom.js";
-import { drawingsOf, isLinked, todayDrawing, usualWeek } from "./drawing.js";
+import { drawingsOf, isLinked, shownOf, todayDrawing, usualWeek } from "./drawing.js";
 import { activityLabel, named, resourceLabel } from "./labels.js";
 import { coloursOf, today } from "./layout.js";
 import { isAlone } from "./local.js";
-import { mostNeeded } from "./project.js";
+import { arcsOverWaits, mostNeeded } from "./project.js";
 import { page, recordOf, shapeOf } from "./state.js";
 import { RULE_NAMES } from "./words.js";
 import {
@@ -165,9 +165,9 @@ function rowsOf(plan, table, dates, slack) {
   });
 }
 
-/** Returns whether an activity of a plan with ids is shown: as the program does, without the start, the
- * end and the waits for lags. */
-export const isShown = ({ described, labels: { ids } }, number) =>
+/** Returns whether the program prints an activity of a plan with ids: not the start and the end, and
+ * perhaps no waits. */
+export const isPrinted = ({ described, labels: { ids } }, number) =>
   (described ? described.has(number) : Boolean(ids[number]));
 
 function timesOf({ start, end, first, last, slack, isCritical }, needed = "") {
@@ -224,11 +224,13 @@ export function viewOf(plan) {
   const dates = datesIn(plan, plan.drawn);
   const all = rowsOf(plan, table, dates, slack);
   const hasIds = all.some(({ id }) => id);
-  const rows = hasIds ? all.filter(({ number }) => isShown(plan, number)) : all;
-  const bars = plan.kind === "project" ? projectBars({ plan, rows, slack }) : shopBars({ plan, rows });
+  const rows = hasIds ? all.filter(({ number }) => isPrinted(plan, number)) : all;
+  const shown = shownOf(plan, rows);
+  const bars = plan.kind === "project" ? projectBars({ plan, rows: shown, slack })
+    : shopBars({ plan, rows: shown });
   const by = plan.kind === "shop" ? byId("lines").value : "";
   return {
-    plan, starts, slack, rows, bars, total: Math.max(...all.map(({ end }) => end)),
+    plan, starts, slack, rows, shown, bars, total: Math.max(...all.map(({ end }) => end)),
     hasIds, isNamed: rows.some(({ name }) => name),
     dates, calendar: dates && plan.calendar, isDated: dates && (plan.calendar ?? plan.week),
     drawings: plan.drawings.get(`${plan.drawn} ${by}`), today: plan.todays.get(plan.drawn),
@@ -251,8 +253,8 @@ export function legendOf({ bars, slack, plan, drawings }) {
 
 /** Returns the pairs of bars that are linked to one, by arcs or by their machine. */
 export function linksOf({ plan, rows }, index) {
-  const links = (plan.model?.arcs ?? []).filter(({ from, to }) => from === index || to === index)
-    .map(({ from, to }) => [from, to]);
+  const links = (plan.model ? arcsOverWaits(plan.model) : [])
+    .filter(({ from, to }) => from === index || to === index).map(({ from, to }) => [from, to]);
   if (plan.kind !== "shop") return links;
   const order = rows.filter((row) => row.machine === rows[index].machine && row.d > 0)
     .sort((a, b) => a.start - b.start).map((row) => row.index);

@@ -48,7 +48,7 @@ def filled(name, room, port, pair):
     text = replaced(text, r"listen 443 ssl;", f"listen 127.0.0.1:{port}{' ssl' if pair else ''};")
     text = replaced(text, r"/var/log/nginx/office\.log", os.path.join(room, "access.log"))
     text = replaced(text, r"/var/log/nginx/office-error\.log", os.path.join(room, "office-error.log"))
-    text = replaced(text, r"/usr/local/share/plan/web", WEB)
+    text = replaced(text, r"root /usr/local/share/plan/web;", f'root "{WEB}";')
     text = re.sub(r"auth_delay ([1248])s;", r"auth_delay \1ms;", text)
     if not pair:
         text = replaced(text, r"^ *ssl_.*\n", "", 5)
@@ -111,8 +111,15 @@ class Front:
         while not os.path.exists(os.path.join(self.room, "nginx.pid")):
             if self.process.poll() is not None or time.monotonic() > end:
                 self.stop()
-                raise Unable(f"nginx doesn't start on port {self.port}")
+                raise Unable(f"nginx doesn't start on port {self.port}{self.last_words()}")
             time.sleep(0.002)
+
+    def last_words(self):
+        """The last line of nginx's log of errors, behind a colon; nothing if there is none."""
+        with contextlib.suppress(FileNotFoundError):
+            lines = self.read("error.log").splitlines()
+            return "".join(f": {line}" for line in lines[-1:])
+        return ""
 
     def stop(self):
         """Ends nginx; it may be started again."""

@@ -8,6 +8,8 @@ LABELS = {"ids": {"2": "A", "3": "B", "4": "C"}, "names": {"2": "Excavation", "4
 SHOP = {"ids": {}, "names": {"1": "order 4711"}, "resources": {"0": "saw"}, "count": 9}
 # a list in whose lines 3 and 4 the errors are
 LIST = "id,name,duration,predecessors,crew\nA,Dig,2,,1\nB,\"Walls, north\",x,A,1\n7,,3,B,9\ncapacity,,,,2\n"
+# another, from a German spreadsheet
+GERMAN = "Nr.;Vorgangsname;Dauer;Maler\n1;W\u00e4nde;x;1\nKapazit\u00e4t;;;2\n"
 
 PROJECTS = [
     ("E10 F2 line 3", "Save the file as plain text in UTF-8."),
@@ -61,12 +63,15 @@ SHOPS = [
 LISTS = [
     ("T1 too long", "Delete rows, or split the list."),
     ("T2 not text line 3", "Save the list as CSV UTF-8, and delete line breaks in names."),
-    ("T3 no column duration", "Add a column with the header duration."),
+    ("T3 no column duration", "Write duration as the header of the column of durations."),
+    ("T3 no column machine", "Delete all columns but order, machine and time."),
     ("T4 column crew twice", "Rename or delete one of the two columns crew."),
     ("T5 line 3 duration", "Write a whole number as the duration of B Walls, north (line 3)."),
     ("T6 line 4 id", "Give 7 (line 4) an id of at most 32 characters."),
     ("T7 line 3 id A twice", "Give B Walls, north (line 3) another id."),
     ("T8 line 3 predecessor F7", "Correct the predecessor F7 of B Walls, north (line 3), or add its row."),
+    ("T8 line 3 predecessor 1SS", "Write another link in place of 1SS of B Walls, north (line 3), or split an activity."),
+    ("T8 line 3 predecessor 12EA+3", "Write another link in place of 12EA+3 of B Walls, north (line 3), or split an activity."),
     ("T9 line 3 need crew", "Write a whole number as the need of B Walls, north (line 3) for crew."),
     ("T10 no capacity due", "Delete the column due, or plan the list with plan solve."),
     ("T10 no capacity big crew", "Enter the capacity of big crew, or add a row whose id is capacity."),
@@ -84,6 +89,18 @@ LISTS = [
     ("S11 crew 8", "Interrupt begun work, or move an appointment."),
     ("S12 no plan", "Move an appointment, raise a capacity, or shorten an absence."),
     ("S13 none found", "Search for longer."),
+]
+GERMANS = [
+    ("T5 line 2 duration", "Write a whole number as the duration of 1 W\u00e4nde (line 2)."),
+    ("T5 line 3 duration", "Write capacity in place of Kapazit\u00e4t (line 3)."),
+]
+# what to do about the columns that a note names
+IGNORED = [
+    ("ignored columns: Site, Cost center", []),
+    ("ignored columns: due, Site, earliest; read as Windows-1252",
+     ["The page plans without the dates in due, earliest: plan solve reads them."]),
+    ("ignored columns: Active, Resource Names",
+     ["To count the names in Resource Names, add a row with the id capacity, and write, for example, crew[3],digger there."]),
 ]
 # verdicts of `plan check` on feasible start times
 VERDICTS = [

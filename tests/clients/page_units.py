@@ -444,6 +444,10 @@ def try_projects(modules, draw):
     ])
     cases = [([0, 0], [1, 1], 0), ([2, 1], [4, 2], 1), ([1, 1], [2, 1], 2), ([0, 3], [0, 3], 2),
              ([3, 3], [3, 3], 1), ([1, 2, 2], [4, 4, 4], 2)]
+    arcs = [{"from": at, "to": to, "lag": 0} for at, to in ((0, 1), (1, 3), (3, 2), (2, 4))]
+    model = {"durations": [0, 2, 1, 3, 0], "arcs": arcs, "ids": {"map": [[2, "A"], [3, "B"], [4, "wait+0"]]}}
+    same("the arcs over a wait of 3", modules.values([["project", "arcsOverWaits", [model]]])[0],
+         [{"from": 0, "to": 1, "lag": 0}, {"from": 1, "to": 2, "lag": 3}, {"from": 2, "to": 4, "lag": 0}])
     found = modules.values([["project", "mostNeeded", [needs, caps]] for needs, caps, _ in cases])
     same("the resources needed most", found, [place for *_, place in cases])
 
@@ -456,11 +460,12 @@ def try_messages(modules, draw):
     a blank in the place of a number."""
     rows = {line: modules.values([["cells", "rowWords", [page_messages.LIST, line]]])[0] for line in (1, 3, 4, 9)}
     same("the rows of a list", rows, {1: "", 3: "B Walls, north (line 3)", 4: "7 (line 4)", 9: ""})
+    german = {line: modules.values([["cells", "rowWords", [page_messages.GERMAN, line]]])[0] for line in (2, 3)}
     cases = [(page_messages.PROJECTS, page_messages.LABELS), (page_messages.SHOPS, page_messages.SHOP),
-             (page_messages.LISTS, {"rows": rows})]
+             (page_messages.LISTS, {"rows": rows}), (page_messages.GERMANS, {"rows": german})]
     calls = [["messages", "sentencesOf", [line, labels]] for lines, labels in cases for line, _ in lines]
     cases += [(page_messages.VERDICTS, page_messages.LABELS), (page_messages.SHOP_VERDICTS, page_messages.SHOP)]
-    calls += [["messages", "verdictWords", [line, labels]] for lines, labels in cases[3:] for line, _ in lines]
+    calls += [["messages", "verdictWords", [line, labels]] for lines, labels in cases[4:] for line, _ in lines]
     wanted = [case for lines, _ in cases for case in lines]
     for (line, first), found in zip(wanted, modules.values(calls)):
         same(f"what to do about {line}", found[0], first)
@@ -484,6 +489,9 @@ def try_messages(modules, draw):
         first += re.findall(r"meaning(?:: | = )\[[\"`](\w+)", text)
         same(f"verbs of {os.path.basename(path)}", [word for word in first if word not in page_messages.VERBS
              and word != "G4"], [])
+    notes = [["messages", "ignoredWords", [note]] for note, _ in page_messages.IGNORED]
+    for (note, wanted), found in zip(page_messages.IGNORED, modules.values(notes)):
+        same(f"what to do about {note}", found, wanted)
     same("a line without a code", modules.values([["messages", "sentencesOf", ["C1 unknown code"]]]), [[]])
 
 
@@ -547,13 +555,13 @@ def try_sorting(modules, draw):
 
 
 def try_shown(modules, draw):
-    """The activities that are shown are those that the program prints, so a wait for a lag with an id can be
-    left out. An overuse is in the legend."""
+    """The rows that are handed in are those that the program prints, with waits for lags or without them. An
+    overuse is in the legend."""
     ids = {"2": "A", "3": "B", "4": "wait+0"}
-    found = modules.values([["view", "isShown", [{"described": described, "labels": {"ids": ids}}, number]]
+    found = modules.values([["view", "isPrinted", [{"described": described, "labels": {"ids": ids}}, number]]
                             for described in ({"map": [[2, {}], [3, {}]]}, {"map": [[2, {}], [3, {}], [4, {}]]}, None)
                             for number in range(1, 6)])
-    same("what is shown", [found[at:at + 5] for at in (0, 5, 10)], [
+    same("what is printed", [found[at:at + 5] for at in (0, 5, 10)], [
         [False, True, True, False, False], [False, True, True, True, False], [False, True, True, True, False]])
     view = lambda over: {"bars": [], "slack": None, "plan": {"kind": "project"}, "drawings": over}
     legends = modules.values([["view", "legendOf", [view(over)]] for over in (

@@ -57,7 +57,7 @@ fails late entries file text rows new fault same read whole unwritten = (
   rows,
   ap rows_read (sym same) ∙ read,
   subst (λ (xs : List Row). IsUnwritten (text_with file (utf8_of file) xs) xs fault) whole
-  (subst (λ (t : List ℕ). IsUnwritten (text_with file t new) new fault) same unwritten),
+      (subst (λ (t : List ℕ). IsUnwritten (text_with file t new) new fault) same unwritten),
 )
 
 -- the error of the text
@@ -74,8 +74,8 @@ no_back late entries file text d rows all new faults.Changed has is read full pl
 -- the line of the error
 pub back_told : (late : Bool) (entries : List Entry) (file : List ℕ) (fault : ListBackFault) (e : CliFault) → IsNoBack late entries file fault
     → Refuses (TellsBack fault) e → Refuses (TellsNoBack late entries file) e
-back_told late entries file fault e no told =
-    refuses_as (TellsBack fault) (TellsNoBack late entries file) e (λ line tells. (fault, no, tells)) told
+back_told late entries file fault e unmade told =
+    refuses_as (TellsBack fault) (TellsNoBack late entries file) e (λ line tells. (fault, unmade, tells)) told
 
 -- ---- the meaning
 

@@ -137,8 +137,8 @@ lists a b =
 
 -- lists that pass the test are the same
 pub same : (a b : ListedWeek) (r : Bool) → r ≡ same_list a b → r ≡ true → IsSameList a b
-same a b r is yes = (lists a b).0 (sym is ∙ yes)
+same a b r is holds = (lists a b).0 (sym is ∙ holds)
 
 -- others aren't
 pub other : (a b : ListedWeek) (r : Bool) → r ≡ same_list a b → r ≡ false → IsSameList a b → ⊥
-other a b r is no = not_from_Decides (same_list a b) (lists a b) (sym is ∙ no)
+other a b r is fails = not_from_Decides (same_list a b) (lists a b) (sym is ∙ fails)

@@ -142,7 +142,7 @@ TellsNoList order reading calendar text listed plan file line =
     TellsNoTexts calendar order.today text listed plan line
     ⊎ TellsNoPlanColumns order reading calendar text listed plan file line
 
--- a plan for the goal of an order has no list: a day is too late, or the list can't have the columns
+-- a plan for the goal of an order has no list: a day is too late, or the columns cannot be added
 abbrev pub TellsNoListOf : WeekOrder → WeekReading → Option Workdays → List ℕ → List ℕ → List ℕ
     → Type 0
 TellsNoListOf order reading calendar text file line =

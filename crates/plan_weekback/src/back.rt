@@ -22,7 +22,7 @@ use plan_weeklist::ListedWeek;
 use std::alloc::Global;
 
 // Returns the list of a file with the columns of a plan.
-#[tactic(auto, using(crate::proofs::BackLemmas::back, crate::proofs::BackLemmas::no_rows, crate::proofs::BackLemmas::no_back))]
+#[tactic(auto, using(crate::proofs::BackLemmas::back, crate::proofs::BackLemmas::no_back))]
 fn with_texts(
     alloc: Global,
     late: bool,
@@ -67,7 +67,7 @@ pub fn list_with(
 
 /// Checks that a file is read as the table and the week of another list. Errors: `T1` (its reading
 /// says that a text is too long), `T4` (it isn't read so).
-#[tactic(auto, using(crate::proofs::BackLemmas::means, crate::proofs::BackLemmas::another_told, crate::proofs::BackLemmas::unread_told))]
+#[tactic(auto, using(crate::proofs::BackLemmas::unread_told))]
 pub fn check_same(
     alloc: Global,
     order: &WeekOrder<'_>,

@@ -50,8 +50,8 @@ fn is_long(why: &str) -> bool
     why == "T1 too long"
 }
 
-/// Returns the error of a list that can't be read with the columns. `why` is the line of the error of
-/// its reading.
+/// Returns the error of a list that can't be read with the columns. `why` is the line of the error
+/// of its reading.
 #[tactic(auto, using(crate::proofs::BackLemmas::long_change, crate::proofs::BackLemmas::meaning_change))]
 pub fn change_refusal(alloc: Global, why: &str) -> CliFault
     ensures { Refuses (spec.TellsChange why.now) result }

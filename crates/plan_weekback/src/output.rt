@@ -34,7 +34,7 @@ fn days_refusal(alloc: Global, fault: DaysFault) -> CliFault
 }
 
 // Returns the texts of a plan of the week that a list says.
-#[tactic(auto, using(crate::proofs::OutputLemmas::dates_told, crate::proofs::OutputLemmas::late_told))]
+#[tactic(auto, using(crate::proofs::OutputLemmas::dates_told))]
 fn texts_of(
     alloc: Global,
     today: Option<u32>,
@@ -61,7 +61,7 @@ fn texts_of(
 
 // Returns the list of a file with the columns of a plan of its week. `text` is read in place of the
 // file.
-#[tactic(auto, using(crate::proofs::OutputLemmas::texts_untold, crate::proofs::OutputLemmas::columns_untold, crate::proofs::OutputLemmas::meaning_untold, crate::proofs::OutputLemmas::plan_shown))]
+#[tactic(auto, using(crate::proofs::OutputLemmas::texts_untold))]
 fn list_for(
     alloc: Global,
     order: &WeekOrder<'_>,

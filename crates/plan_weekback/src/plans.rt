@@ -26,7 +26,7 @@ fn at(list: &[u32], place: usize) -> u32
     if place < list.len() { list[place] } else { 0 }
 }
 
-// Returns the instant at which an activity begins or began in a plan with its start, if it is known.
+// Returns the instant at which an activity begins or began in a plan with its start, if known.
 fn begin_of(state: State, start: u32) -> Option<u32>
     ensures { result ≡ week_days.begin_of state start }
 {
@@ -78,7 +78,7 @@ fn began_at(rows: &[DatedRow], k: usize) -> Option<u32>
     }
 }
 
-// Returns the instant at which activity `k` began, if its row has it. It has an id if `own` is true.
+// Returns the instant at which activity `k` began, if its row has it. If `own`, it has an id.
 fn began_of(own: bool, rows: &[DatedRow], k: usize, id: &[u8]) -> Option<u32>
     ensures { result ≡ spec.began_if (spec.row_for own (map dated_of rows.now) k id.now) }
 {

@@ -318,7 +318,7 @@ fn compared(a: &ListedWeek, b: &ListedWeek) -> bool
 }
 
 /// Whether two lists have the same table and the same week.
-#[tactic(auto, using(crate::proofs::SamenessLemmas::same, crate::proofs::SamenessLemmas::other))]
+#[tactic(auto, using(crate::proofs::SamenessLemmas::same))]
 pub fn same_list(a: &ListedWeek, b: &ListedWeek) -> bool
     ensures yes { IsTrue result → spec.IsSameList a.now b.now }
     ensures no { IsFalse result → spec.IsSameList a.now b.now → ⊥ }

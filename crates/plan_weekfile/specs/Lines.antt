@@ -51,7 +51,7 @@ TellsDates f line = line ≡ dates_line f
 abbrev pub number_sentence : List ℕ → List ℕ
 number_sentence word =
     codes "\"" ++ quoted word
-    ++ codes "\" isn't a number from 0 to 10000000 or, with --start, a date"
+    ++ codes "\" isn't a number from 0 to 10000000 or, with --start, a date such as 2027-05-11"
 
 -- the sentence that quotes a cell, unless it is empty
 abbrev pub quoted_cell : List ℕ → Option (List ℕ)

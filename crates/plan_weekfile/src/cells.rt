@@ -65,7 +65,7 @@ fn number_sentence(alloc: Global, word: &str) -> Result<String, AllocError>
     let mut text = String::new(alloc);
     write!(
         text,
-        "\"{word}\" isn't a number from 0 to 10000000 or, with --start, a date"
+        "\"{word}\" isn't a number from 0 to 10000000 or, with --start, a date such as 2027-05-11"
     )?;
     Ok(text)
 }

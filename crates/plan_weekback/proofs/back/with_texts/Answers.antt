@@ -1,0 +1,13 @@
+use Rattle.std.proofs.Common.{map, subst}
+use Rattle.plan_table.specs.Listing.{rows_read}
+use Rattle.plan_table.specs.Reading.{Fails, fault_of}
+use Rattle.plan_table.specs.declared.fault.ReadError.{ReadError}
+use Rattle.plan_weekback.specs.Entries.{entry_of}
+use Rattle.plan_weekback.proofs.BackLemmas.{no_rows}
+use Rattle.plan_weekback.proofs.back.with_texts.Goals as goal
+
+pub returns-in-Err-Fault-clause-refused : goal.returns-in-Err-Fault-clause-refused
+returns-in-Err-Fault-clause-refused c =
+    no_rows c.args.late (map entry_of c.args.entries.now) c.args.file.now c.utf8-text.result.now c.in_ok-decoded.decoded
+    (fault_of c.in-Err-Fault.field-0-0) c.utf8-text.ensures c.in_ok-decoded.ensures.text
+    (subst (λ (e : ReadError). Fails e (rows_read c.utf8-text.result.now)) c.in-Err-Fault.field-0-is c.in-Err-Fault.ensures)
