@@ -15,10 +15,12 @@ import { drawingNode } from "./svg.js";
 import { paperTable } from "./table.js";
 import { legendOf, linksOf, nameOf, namesIn } from "./view.js";
 
-// heights in a drawing: of the labels of its axis, of a line, and of the image of a resource
+// heights in a drawing: of the labels of its axis, of a line, and of the image of a resource; and of
+// a sentence on paper
 const AXIS = 19;
 const LINE = 20;
 const USE = 93;
+const WORDS = 30;
 // the room behind the axis on the screen
 const RIGHT = 26;
 // the width of a drawing, and how much larger its letters are than those on the screen
@@ -338,7 +340,7 @@ function onSheets(uses, room) {
   const parts = [[]];
   let free = room;
   for (const use of uses) {
-    const height = USE + (use.over ? 1.5 * LINE : 0);
+    const height = USE + (use.over ? WORDS : 0);
     if (height > free) {
       parts.push([]);
       free = LINE * SHEET_LINES;
@@ -359,8 +361,10 @@ function sheetsOf(view) {
   if (!length) return [];
   const sheet = (at, count, ...nodes) => make("section", { class: "sheet" },
     headNode(view, at, count), ...nodes, say(captionOf(view), { class: "hint" }));
-  const [below, ...others] = onSheets(usesOf(view), LINE * (SHEET_LINES - charts.at(-1).count));
-  const rest = [...otherWrong(view), ...useNodes(view, below, DRAWN.width)];
+  const wrong = otherWrong(view);
+  const room = LINE * (SHEET_LINES - charts.at(-1).count) - WORDS * wrong.length;
+  const [below, ...others] = onSheets(usesOf(view), room);
+  const rest = [...wrong, ...useNodes(view, below, DRAWN.width)];
   return [
     ...charts.map(({ chart }, at) => sheet(at + 1, length, chart,
       make("ul", { class: "legend" }, ...legendNodes(view)), ...(at < length - 1 ? [] : rest))),
