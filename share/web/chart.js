@@ -20,7 +20,7 @@ import { legendOf, linksOf, nameOf, namesIn } from "./view.js";
 const AXIS = 19;
 const LINE = 20;
 const USE = 93;
-const WORDS = 30;
+const SENTENCE = 30;
 // the room behind the axis on the screen
 const RIGHT = 26;
 // the width of a drawing, and how much larger its letters are than those on the screen
@@ -340,7 +340,7 @@ function onSheets(uses, room) {
   const parts = [[]];
   let free = room;
   for (const use of uses) {
-    const height = USE + (use.over ? WORDS : 0);
+    const height = USE + (use.over ? SENTENCE : 0);
     if (height > free) {
       parts.push([]);
       free = LINE * SHEET_LINES;
@@ -362,7 +362,7 @@ function sheetsOf(view) {
   const sheet = (at, count, ...nodes) => make("section", { class: "sheet" },
     headNode(view, at, count), ...nodes, say(captionOf(view), { class: "hint" }));
   const wrong = otherWrong(view);
-  const room = LINE * (SHEET_LINES - charts.at(-1).count) - WORDS * wrong.length;
+  const room = LINE * (SHEET_LINES - charts.at(-1).count) - SENTENCE * wrong.length;
   const [below, ...others] = onSheets(usesOf(view), room);
   const rest = [...wrong, ...useNodes(view, below, DRAWN.width)];
   return [
