@@ -79,6 +79,9 @@ enum Form {
     /// The same two options, which require `--solve`.
     SolvedNow,
     SolvedGoal,
+    /// Options with the calendar of a list of activities, which require `--solve`.
+    SolvedStart,
+    SolvedDays,
     /// An option with the capacity of a resource, any number of times.
     Capacity,
     /// The same for a command that also takes job shops, which have no such resources.
@@ -301,6 +304,25 @@ const SOLVED_GOAL: Argument = Argument {
     name: "goal",
     form: Form::SolvedGoal,
     help: "with --solve, for a list of activities: makespan or tardiness, as for plan solve",
+};
+
+// The calendar of a list of activities, whose output has no days.
+const SOLVED_START: Argument = Argument {
+    name: "start",
+    form: Form::SolvedStart,
+    help: "with --solve, for a list of activities: read the dates in its cells, as for plan solve",
+};
+
+const SOLVED_DAYS: Argument = Argument {
+    name: "days",
+    form: Form::SolvedDays,
+    help: "the working days, as for plan days",
+};
+
+const SOLVED_HOLIDAYS: Argument = Argument {
+    name: "holidays",
+    form: Form::ReportHolidays,
+    help: "skip the days in this file, or - for standard input",
 };
 
 // The options of commands that read lists.
@@ -741,6 +763,7 @@ const SCHEDULE_COMMANDS: [Entry; 5] = [
             plan chart lft examples/house.sm\n  \
             plan chart mwkr examples/shops.txt ft06\n  \
             plan chart --solve examples/house.sm\n  \
+            plan chart --solve --now 8 examples/week.csv\n  \
             plan chart --starts examples/starts.txt examples/six.sm\n  \
             plan chart --svg lft examples/house.sm",
         arguments: &[
@@ -750,6 +773,11 @@ const SCHEDULE_COMMANDS: [Entry; 5] = [
             STARTS,
             SOLVE,
             SOLVE_SECONDS,
+            SOLVED_NOW,
+            SOLVED_GOAL,
+            SOLVED_START,
+            SOLVED_DAYS,
+            SOLVED_HOLIDAYS,
             CAPACITY_IF_PROJECT,
             MAP,
             IGNORE,
@@ -771,6 +799,8 @@ const SCHEDULE_COMMANDS: [Entry; 5] = [
             plan days --starts examples/starts.txt 2024-03-01 1111100 examples/six.sm\n  \
             plan days --holidays examples/holidays.txt lft 2024-03-01 mon-fri examples/house.sm\n  \
             plan days --format ics lft 2024-03-01 mon-fri examples/house.sm\n  \
+            plan days --format ics --solve --now 2027-05-11 2027-05-03 mon-fri \
+            examples/site.csv\n  \
             plan days --format ics --only crew --sequence 2 lft 2024-03-01 mon-fri \
             examples/house.csv",
         arguments: &[
@@ -815,6 +845,8 @@ const SCHEDULE_COMMANDS: [Entry; 5] = [
             plan report examples/house.sm\n  \
             plan report --rule slk --start 2024-03-01 --days mon-fri examples/house.sm\n  \
             plan report --solve --seconds 60 examples/house.sm\n  \
+            plan report --solve --now 2027-05-11 --start 2027-05-03 --days mon-fri \
+            examples/site.csv\n  \
             plan report --starts examples/starts.txt examples/six.sm\n  \
             plan report --by job --title Printing examples/shops.txt printing",
         arguments: &[
@@ -833,6 +865,8 @@ const SCHEDULE_COMMANDS: [Entry; 5] = [
             },
             REPORT_SOLVE,
             SOLVE_SECONDS,
+            SOLVED_NOW,
+            SOLVED_GOAL,
             Argument {
                 name: "start",
                 form: Form::ReportStart,
@@ -1088,6 +1122,16 @@ fn arg_of<'a>(alloc: Global, argument: &Argument) -> Result<Arg<'a>, AllocError>
             .value_parser(GOALS)
             .requires_arg("solve")?
             .conflicts_with("INSTANCE")?,
+        Form::SolvedStart => arg
+            .long(argument.name)
+            .value_name("DATE")
+            .requires_arg("days")?
+            .requires_arg("solve")?,
+        Form::SolvedDays => arg
+            .long(argument.name)
+            .value_name("MARKS")
+            .requires_arg("start")?
+            .requires_arg("solve")?,
         Form::Capacity => arg
             .long(argument.name)
             .value_name("NAME=N")

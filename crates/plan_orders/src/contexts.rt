@@ -59,14 +59,24 @@ fn task_context<'a>(task: Task<'a>, file: &'a str) -> Context<'a> {
     }
 }
 
-// Returns a context with the dates and the holidays of a list with dates.
+// Returns a context with the dates and the holidays of a list with dates, if they are given.
 fn week_context<'a>(context: Context<'a>, week: &WeekWords<'a>) -> Context<'a> {
-    let context = Context {
-        holidays: week.holidays,
-        ..context
-    };
     match week.dates {
-        Some(dates) => with_dates(context, dates),
+        Some(dates) => with_dates(
+            Context {
+                holidays: week.holidays,
+                ..context
+            },
+            dates,
+        ),
+        None => context,
+    }
+}
+
+// Returns a context with the options of a list with dates, if there are some.
+fn with_week<'a>(context: Context<'a>, week: Option<WeekWords<'a>>) -> Context<'a> {
+    match week {
+        Some(week) => week_context(context, &week),
         None => context,
     }
 }
@@ -159,7 +169,7 @@ impl<'a> FileOrder<'a> {
     fn rule_or_search(&self) -> Option<&'a str> {
         match *self {
             FileOrder::Texts { task, .. } => replaceable_rule(task),
-            FileOrder::Print(print, _) => match print.origin {
+            FileOrder::Print(print, _, _) => match print.origin {
                 NamedOrigin::Rule(rule) => Some(rule),
                 NamedOrigin::Default | NamedOrigin::Starts(_) | NamedOrigin::Solved { .. } => None,
             },
@@ -192,8 +202,9 @@ impl<'a> FileOrder<'a> {
                 task,
                 file,
                 texts,
+                week,
                 ..
-            } => texts_context(task, file, texts),
+            } => with_week(texts_context(task, file, texts), week),
             FileOrder::Check {
                 file,
                 starts,
@@ -204,7 +215,7 @@ impl<'a> FileOrder<'a> {
                 log: Some(log),
                 ..file_context(file)
             },
-            FileOrder::Print(print, _) => print_context(print),
+            FileOrder::Print(print, _, week) => with_week(print_context(print), week),
             FileOrder::New(_) | FileOrder::Explain(_) => Context::NONE,
         }
     }

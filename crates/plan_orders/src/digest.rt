@@ -2,4 +2,4 @@
 
 /// The digest of all sources of the program but this file, in hexadecimal digits, as
 /// `./release --digest` prints it.
-pub(crate) const SOURCES: &str = "1af7bd1fb84cb0de695b6fd960865b68f333cf74f092c611a353c085cac8ca36";
+pub(crate) const SOURCES: &str = "5e5163813fc78be84e9c0c0785b5ff2103c16e8351be96609ba03757b391ded5";

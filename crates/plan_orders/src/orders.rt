@@ -29,9 +29,9 @@ pub struct WeekWords<'a> {
     pub now: Option<Now<'a>>,
     /// The goal, if it is given.
     pub goal: Option<Goal>,
-    /// The dates of the calendar of `solve` or `check`, without holidays, if they are given.
+    /// The dates of the calendar of `solve`, `chart` or `check`, without holidays, if they are given.
     pub dates: Option<Dates<'a>>,
-    /// The name of the file of holidays of `solve` or `check`, if it is given.
+    /// The name of the file of holidays of this calendar, if it is given.
     pub holidays: Option<&'a str>,
 }
 
@@ -59,7 +59,7 @@ pub enum FileOrder<'a> {
         texts: &'a [NamedText<'a>],
         /// The time limit of a search for the schedule, in seconds.
         seconds: Option<u32>,
-        /// The options of a list with dates, if the task prints working days of the best schedule.
+        /// The options of a list with dates, if the task shows the best schedule.
         week: Option<WeekWords<'a>>,
     },
     /// A check of the starts in a file.
@@ -79,8 +79,9 @@ pub enum FileOrder<'a> {
         log: &'a str,
         instance: Option<&'a str>,
     },
-    /// A sheet to print, with the time limit of a search for the schedule, in seconds.
-    Print(Print<'a>, Option<u32>),
+    /// A sheet to print, with the time limit of a search for the schedule, in seconds, and the
+    /// options of a list with dates, if the sheet shows the best schedule.
+    Print(Print<'a>, Option<u32>, Option<WeekWords<'a>>),
     /// A table to start from.
     New(Template),
     /// The meaning of an error line, which is given as one argument or as several.
@@ -120,6 +121,15 @@ fn texts_input(file: &str, texts: &[NamedText<'_>]) -> Option<(&'static str, &'s
     None
 }
 
+// Returns the names of two arguments that are standard input, if FILE and the holidays of a
+// calendar of `solve` or `chart` are.
+fn week_input(file: &str, week: WeekWords<'_>) -> Option<(&'static str, &'static str)> {
+    match (file, week.holidays) {
+        ("-", Some("-")) => Some(("FILE", "HOLIDAYS")),
+        _ => None,
+    }
+}
+
 // Returns the names of two arguments that are standard input, if there are two of the file, the starts
 // and the holidays.
 fn named_input(
@@ -148,16 +158,24 @@ impl<'a> FileOrder<'a> {
     /// Returns the names of two arguments that are standard input, if there are two.
     pub fn shared_input(&self) -> Option<(&'static str, &'static str)> {
         match *self {
-            FileOrder::Print(print, _) => print_input(&print),
-            FileOrder::Texts { file, texts, .. } => texts_input(file, texts),
-            FileOrder::Solve {
-                file: "-",
-                week: WeekWords {
-                    holidays: Some("-"),
+            FileOrder::Print(
+                Print {
+                    sheet: Sheet::Chart(_),
+                    file,
                     ..
                 },
+                _,
+                Some(week),
+            )
+            | FileOrder::Texts {
+                task: Task::Chart { .. },
+                file,
+                week: Some(week),
                 ..
-            } => Some(("FILE", "HOLIDAYS")),
+            }
+            | FileOrder::Solve { file, week, .. } => week_input(file, week),
+            FileOrder::Print(print, _, _) => print_input(&print),
+            FileOrder::Texts { file, texts, .. } => texts_input(file, texts),
             FileOrder::Check {
                 file,
                 starts,
@@ -394,8 +412,8 @@ fn goal_of(name: &str) -> Option<Goal> {
     }
 }
 
-// Returns the options of a list with dates, of which `dates` are those of the calendar of `solve` or
-// `check`.
+// Returns the options of a list with dates, of which `dates` are those of the calendar of `solve`,
+// `chart` or `check`.
 fn week_words<'a>(arguments: &'a ArgMatches<'_>, dates: Option<Dates<'a>>) -> WeekWords<'a> {
     WeekWords {
         now: arguments.get_str("now").and_then(now_of),
@@ -408,7 +426,7 @@ fn week_words<'a>(arguments: &'a ArgMatches<'_>, dates: Option<Dates<'a>>) -> We
     }
 }
 
-// Returns the dates of `solve` or `check`, without holidays.
+// Returns the dates of `solve`, `chart` or `check`, without holidays.
 fn calendar_dates<'a>(arguments: &'a ArgMatches<'_>) -> Option<Dates<'a>> {
     Some(dates_of(arguments.get_str("start")?, arguments.get_str("days")?))
 }
@@ -679,6 +697,18 @@ fn searched_order<'a>(
     }
 }
 
+// Returns the options of a list with dates, if the arguments ask for the best schedule. `dates` are
+// those of the calendar of `chart`.
+fn solved_week<'a>(
+    arguments: &'a ArgMatches<'_>,
+    dates: Option<Dates<'a>>,
+) -> Option<WeekWords<'a>> {
+    if arguments.get_flag("solve") {
+        return Some(week_words(arguments, dates));
+    }
+    None
+}
+
 // Returns the order of `chart`.
 fn chart_order<'a>(arguments: &'a ArgMatches<'_>, lists: Lists<'a>) -> Option<FileOrder<'a>> {
     let words = schedule_words(arguments, "RULE")?;
@@ -686,7 +716,8 @@ fn chart_order<'a>(arguments: &'a ArgMatches<'_>, lists: Lists<'a>) -> Option<Fi
         origin: origin_of(words.origin),
         subject: subject_of(words.instance, lists.capacities),
     };
-    Some(searched_order(arguments, task, words.file, lists.texts, None))
+    let week = solved_week(arguments, calendar_dates(arguments));
+    Some(searched_order(arguments, task, words.file, lists.texts, week))
 }
 
 // Returns dates without holidays.
@@ -733,20 +764,11 @@ fn days_task<'a>(
     })
 }
 
-// Returns the options of a list with dates, if the arguments of `days` ask for a table or a list of
-// the best schedule.
-fn days_week<'a>(arguments: &'a ArgMatches<'_>) -> Option<WeekWords<'a>> {
-    if arguments.get_flag("solve") {
-        return Some(week_words(arguments, None));
-    }
-    None
-}
-
 // Returns the order of `days` for a table or a list.
 fn days_order<'a>(arguments: &'a ArgMatches<'_>, lists: Lists<'a>) -> Option<FileOrder<'a>> {
     let words = schedule_words(arguments, "MARKS")?;
     let task = days_task(arguments, words, lists)?;
-    let week = days_week(arguments);
+    let week = solved_week(arguments, None);
     Some(searched_order(arguments, task, words.file, lists.texts, week))
 }
 
@@ -936,6 +958,14 @@ fn print_order<'a>(
     }
 }
 
+// Returns the options of a list with dates of a command that prints a sheet.
+fn print_week<'a>(name: &str, arguments: &'a ArgMatches<'_>) -> Option<WeekWords<'a>> {
+    match name {
+        "chart" => solved_week(arguments, calendar_dates(arguments)),
+        _ => solved_week(arguments, None),
+    }
+}
+
 // Returns the order of a command with a task on one file.
 fn plain_order<'a>(
     name: &str,
@@ -953,7 +983,8 @@ fn file_order<'a>(
     lists: Lists<'a>,
 ) -> Option<FileOrder<'a>> {
     if let Some(print) = print_order(name, arguments, lists) {
-        return Some(FileOrder::Print(print, limit_of(arguments)));
+        let week = print_week(name, arguments);
+        return Some(FileOrder::Print(print, limit_of(arguments), week));
     }
     match name {
         "import" => import_order(arguments, lists.overrides),

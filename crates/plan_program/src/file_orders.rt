@@ -8,6 +8,7 @@ use crate::status::Status;
 use crate::verification::do_verify;
 use crate::week_check::do_check_file;
 use crate::week_days::do_days_file;
+use crate::week_drawings::{do_chart_file, do_print_file};
 use crate::weeks::do_solve_file;
 use plan_cli::{
     CliFault, NamedText, Options, Rows, Task, Unlogged, explain_run, explain_run_in, run_on_file,
@@ -15,7 +16,7 @@ use plan_cli::{
 };
 use plan_io::{Sink, StdSink};
 use plan_orders::{FileOrder, WeekWords};
-use plan_print::print_on_files;
+use plan_print::{Print, print_on_files};
 use std::alloc::Global;
 use std::io;
 
@@ -99,9 +100,31 @@ fn do_texts(
                 rt, options, task, dates, rows, words, &mut line, texts, path,
             )?
         }
+        (Some(words), Task::Chart { .. }) => {
+            do_chart_file(rt, options, task, rows, words, &mut line, path)?
+        }
         _ => {
             let mut writer = StdSink::new(io::writer(rt));
             run_on_files(rt, options, task, rows, &mut line, texts, path, &mut writer)?
+        }
+    }
+    line.print_notes();
+    Ok(())
+}
+
+// Prints a sheet to standard output.
+fn do_print(
+    rt: &HostRuntime,
+    print: Print<'_>,
+    seconds: Option<u32>,
+    week: Option<WeekWords<'_>>,
+) -> Result<(), FileFault> {
+    let mut line = ProgressLine::within(rt, seconds);
+    match week {
+        Some(words) => do_print_file(rt, print, words, &mut line)?,
+        None => {
+            let mut writer = StdSink::new(io::writer(rt));
+            print_on_files(rt, print, &mut line, &mut writer)?
         }
     }
     line.print_notes();
@@ -148,11 +171,7 @@ fn do_file_order(
             log,
             instance,
         } => do_verify(rt, file, instance, log)?,
-        FileOrder::Print(print, seconds) => {
-            let mut line = ProgressLine::within(rt, seconds);
-            print_on_files(rt, print, &mut line, &mut writer)?;
-            line.print_notes();
-        }
+        FileOrder::Print(print, seconds, week) => do_print(rt, print, seconds, week)?,
         FileOrder::New(template) => template_run(template, &mut writer)?,
         FileOrder::Explain(words) => {
             let line = words.join(rt.alloc(), " ")?;

@@ -9,12 +9,14 @@ mod file_orders;
 mod hints;
 mod instants;
 mod misuse;
+mod plain_inputs;
 mod progress;
 mod read_input;
 mod status;
 mod verification;
 mod week_check;
 mod week_days;
+mod week_drawings;
 mod weeks;
 
 pub use command_line::{Offices, run_program};

@@ -3,7 +3,8 @@
 use crate::errors::FileFault;
 use crate::instants::{instants_in, today_in};
 use crate::progress::ProgressLine;
-use crate::weeks::{do_plain, do_week_list, keep_note, list_options, usage, week_in, week_order};
+use crate::week_drawings::{check_hours, draw_task, list_calendar};
+use crate::weeks::{do_plain, do_week_list, keep_note, list_options, week_in, week_order};
 use plan_cli::{
     Dates, NamedText, Options, Origin, Role, Rows, SystemInputs, Task, Unlogged, read_named,
 };
@@ -82,6 +83,17 @@ fn days_order<'a>(
     }
 }
 
+// Whether a time unit of a task of `days` is an hour.
+fn has_hours(task: Task<'_>) -> bool {
+    match task {
+        Task::Days {
+            style: Some(style),
+            ..
+        } => style.hours.is_some(),
+        _ => false,
+    }
+}
+
 // Prints the working days of a plan of a list with dates.
 fn do_week_days(
     rt: &HostRuntime,
@@ -109,13 +121,14 @@ fn do_read(
     task: Task<'_>,
     rows: Rows,
     order: &WeekOrder<'_>,
+    words: WeekWords<'_>,
     calendar: &InstantCalendar,
     line: &mut ProgressLine<'_>,
     file: &[u8],
 ) -> Result<(), FileFault> {
     let reading = WeekReading {
         options: list_options(task, options),
-        calendar: Some(calendar),
+        calendar: list_calendar(has_hours(task), Some(calendar)),
     };
     let Some(read) = week_in(rt, order, &reading, file)? else {
         return Ok(do_plain(rt, options, task, rows, line, &mut Unlogged, file)?);
@@ -128,10 +141,10 @@ fn do_read(
             let days = Some(calendar.calendar());
             Ok(do_week_list(rt, order, &reading, days, &read, line, file)?)
         }
-        _ => Err(usage(
-            rt,
-            "--weekdays, --per-day and --opens don't support lists with dates",
-        )?),
+        _ => {
+            check_hours(rt, words, has_hours(task))?;
+            Ok(draw_task(rt, order, task, rows, &read, line, file)?)
+        }
     }
 }
 
@@ -176,7 +189,9 @@ fn do_dated(
     };
     let today = today_in(rt, words.now, Some(&calendar))?;
     match days_order(task, rows, words, today) {
-        Some(order) => do_read(rt, options, task, rows, &order, &calendar, line, file),
+        Some(order) => do_read(
+            rt, options, task, rows, &order, words, &calendar, line, file,
+        ),
         None => Ok(do_plain(rt, options, task, rows, line, &mut Unlogged, file)?),
     }
 }

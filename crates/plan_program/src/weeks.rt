@@ -168,7 +168,8 @@ fn do_week_task(
     }
 }
 
-/// Returns the calendar of `solve` or `check`, if dates are given. The holidays are read first.
+/// Returns the calendar of `solve`, `chart` or `check`, if dates are given. The holidays are read
+/// first.
 pub(crate) fn calendar_in(
     rt: &HostRuntime,
     words: WeekWords<'_>,

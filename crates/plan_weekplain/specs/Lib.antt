@@ -1,0 +1,7 @@
+pub mod Lines
+pub mod Remaining
+pub mod RowsToday
+pub mod ListsToday
+pub mod StartsToday
+pub mod Schedules
+pub mod PlainWeeks
