@@ -522,7 +522,7 @@ impl Code {
                 "Line N isn't UTF-8, or a name or a predecessor in it contains a control character."
             }
             Code::NoDurations => {
-                "No column has the header duration (in a list of orders: order, machine or time); or the table is empty."
+                "No column has the header duration, or the table is empty. In a list of orders: the columns aren't order, then pairs of machine and time, and nothing else."
             }
             Code::ColumnTwice => {
                 "Two columns have the same header, or two words for one column: name and task, or predecessors, after and depends on."
@@ -681,7 +681,7 @@ impl Code {
             Code::TooLong => "Delete comments and blank lines, or split the project.",
             Code::NotText => "Save it as plain text (UTF-8 or ASCII, not UTF-16).",
             Code::MissingHead => {
-                "Add the line before the first section title, for example jobs : 6."
+                "Add the line before the first section title, for example jobs : 6. If the file is a list, give it a column duration, or columns order and machine; the option --map reads another header as one of these."
             }
             Code::Unsupported => "Declare 1 project, and 0 resources of both kinds.",
             Code::MissingSection => "Add the section. Its title starts a line, in capitals.",
@@ -700,10 +700,11 @@ impl Code {
             Code::BadMachine => "Correct the number.",
             Code::LongTable => "Delete rows, or split the project.",
             Code::NoTableText => "Save the table as CSV UTF-8, and delete line breaks in names.",
-            Code::NoDurations => "Add a header line with this column.",
+            Code::NoDurations =>
+                "Add a header line with this column, or read another header as this one with --map. In a list of orders, delete all other columns.",
             Code::ColumnTwice => "Rename or delete one.",
             Code::BadDuration => {
-                "Correct the duration. For fractions use a finer time unit, for example hours."
+                "Correct the duration. For fractions use a finer time unit, for example hours, or the option --unit. A row of capacities has the id capacity."
             }
             Code::BadId => "Shorten the id, or replace its blanks.",
             Code::IdTwice => "Give each row its own id.",

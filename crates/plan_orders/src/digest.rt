@@ -2,4 +2,4 @@
 
 /// The digest of all sources of the program but this file, in hexadecimal digits, as
 /// `./release --digest` prints it.
-pub(crate) const SOURCES: &str = "5e5163813fc78be84e9c0c0785b5ff2103c16e8351be96609ba03757b391ded5";
+pub(crate) const SOURCES: &str = "8e29868b20046aced55a9d623662b7a831c3735c6a6a53964016bce95302cf74";
