@@ -2,4 +2,4 @@
 
 /// The digest of all sources of the program but this file, in hexadecimal digits, as
 /// `./release --digest` prints it.
-pub(crate) const SOURCES: &str = "8e29868b20046aced55a9d623662b7a831c3735c6a6a53964016bce95302cf74";
+pub(crate) const SOURCES: &str = "bda58f706a3e6f27f8a00aeb7db367c47cfbcc7bb2b75f91539fdd61b6213c43";

@@ -11,13 +11,12 @@ use crate::week_days::do_days_file;
 use crate::week_drawings::{do_chart_file, do_print_file};
 use crate::weeks::do_solve_file;
 use plan_cli::{
-    CliFault, NamedText, Options, Rows, Task, Unlogged, explain_run, explain_run_in, run_on_file,
-    run_on_files, template_run,
+    CliFault, Dates, NamedText, Options, Rows, Task, Template, Unlogged, explain_run,
+    explain_run_in, run_on_file, run_on_files, template_run,
 };
-use plan_io::{Sink, StdSink};
+use plan_io::StdSink;
 use plan_orders::{FileOrder, WeekWords};
 use plan_print::{Print, print_on_files};
-use std::alloc::Global;
 use std::io;
 
 // Runs a task on a file, and writes to standard output.
@@ -44,12 +43,19 @@ fn do_task(
     Ok(())
 }
 
-// Writes the explanation of an error line.
-fn explain<W: Sink>(alloc: Global, line: &str, rows: Rows, writer: &mut W) -> Result<(), CliFault> {
+// Writes the explanation of an error line to standard output.
+fn do_explain(rt: &HostRuntime, words: &[&str], rows: Rows) -> Result<(), CliFault> {
+    let line = words.join(rt.alloc(), " ")?;
+    let mut writer = StdSink::new(io::writer(rt));
     match rows {
-        Rows::In(format) => explain_run_in(alloc, line, format, writer),
-        Rows::Plain | Rows::Named => explain_run(alloc, line, writer),
+        Rows::In(format) => explain_run_in(rt.alloc(), line.as_str(), format, &mut writer),
+        Rows::Plain | Rows::Named => explain_run(rt.alloc(), line.as_str(), &mut writer),
     }
+}
+
+// Writes a template to standard output.
+fn do_new(rt: &HostRuntime, template: Template) -> Result<(), CliFault> {
+    template_run(template, &mut StdSink::new(io::writer(rt)))
 }
 
 // Runs a task of `solve`, and writes to standard output and to a log. If only the output can't be
@@ -75,6 +81,50 @@ fn do_solve(
     Ok(())
 }
 
+// Returns the dates of the working days that a task prints, if it prints some.
+fn dates_in<'a>(task: Task<'a>) -> Option<Dates<'a>> {
+    match task {
+        Task::Days { dates, .. } => Some(dates),
+        Task::List { dates, .. } => dates,
+        _ => None,
+    }
+}
+
+// Runs a task on a file without a week and on texts in other files, and writes to standard output.
+fn do_plain_texts(
+    rt: &HostRuntime,
+    options: Option<Options<'_>>,
+    task: Task<'_>,
+    rows: Rows,
+    line: &mut ProgressLine<'_>,
+    texts: &[NamedText<'_>],
+    path: &str,
+) -> Result<(), CliFault> {
+    let mut writer = StdSink::new(io::writer(rt));
+    run_on_files(rt, options, task, rows, line, texts, path, &mut writer)
+}
+
+// Runs a task that shows the best schedule of a file, which may be a list with dates, and writes to
+// standard output.
+fn do_best(
+    rt: &HostRuntime,
+    options: Option<Options<'_>>,
+    task: Task<'_>,
+    rows: Rows,
+    words: WeekWords<'_>,
+    line: &mut ProgressLine<'_>,
+    texts: &[NamedText<'_>],
+    path: &str,
+) -> Result<(), FileFault> {
+    match (task, dates_in(task)) {
+        (Task::Chart { .. }, _) => do_chart_file(rt, options, task, rows, words, line, path),
+        (_, Some(dates)) => {
+            do_days_file(rt, options, task, dates, rows, words, line, texts, path)
+        }
+        _ => Ok(do_plain_texts(rt, options, task, rows, line, texts, path)?),
+    }
+}
+
 // Runs a task on a file and on texts in other files, and writes to standard output.
 fn do_texts(
     rt: &HostRuntime,
@@ -87,32 +137,25 @@ fn do_texts(
     path: &str,
 ) -> Result<(), FileFault> {
     let mut line = ProgressLine::within(rt, seconds);
-    match (week, task) {
-        (
-            Some(words),
-            Task::Days { dates, .. }
-            | Task::List {
-                dates: Some(dates),
-                ..
-            },
-        ) => {
-            do_days_file(
-                rt, options, task, dates, rows, words, &mut line, texts, path,
-            )?
-        }
-        (Some(words), Task::Chart { .. }) => {
-            do_chart_file(rt, options, task, rows, words, &mut line, path)?
-        }
-        _ => {
-            let mut writer = StdSink::new(io::writer(rt));
-            run_on_files(rt, options, task, rows, &mut line, texts, path, &mut writer)?
-        }
+    match week {
+        Some(words) => do_best(rt, options, task, rows, words, &mut line, texts, path)?,
+        None => do_plain_texts(rt, options, task, rows, &mut line, texts, path)?,
     }
     line.print_notes();
     Ok(())
 }
 
-// Prints a sheet to standard output.
+// Prints a sheet of a file without a week to standard output.
+fn do_plain_print(
+    rt: &HostRuntime,
+    print: Print<'_>,
+    line: &mut ProgressLine<'_>,
+) -> Result<(), CliFault> {
+    let mut writer = StdSink::new(io::writer(rt));
+    print_on_files(rt, print, line, &mut writer)
+}
+
+// Prints a sheet of a file to standard output.
 fn do_print(
     rt: &HostRuntime,
     print: Print<'_>,
@@ -122,10 +165,7 @@ fn do_print(
     let mut line = ProgressLine::within(rt, seconds);
     match week {
         Some(words) => do_print_file(rt, print, words, &mut line)?,
-        None => {
-            let mut writer = StdSink::new(io::writer(rt));
-            print_on_files(rt, print, &mut line, &mut writer)?
-        }
+        None => do_plain_print(rt, print, &mut line)?,
     }
     line.print_notes();
     Ok(())
@@ -138,7 +178,6 @@ fn do_file_order(
     rows: Rows,
     options: Option<Options<'_>>,
 ) -> Result<Status, FileFault> {
-    let mut writer = StdSink::new(io::writer(rt));
     match order {
         FileOrder::Task(task, path) | FileOrder::Watched(task, path) => {
             do_task(rt, options, task, rows, path)?
@@ -172,11 +211,8 @@ fn do_file_order(
             instance,
         } => do_verify(rt, file, instance, log)?,
         FileOrder::Print(print, seconds, week) => do_print(rt, print, seconds, week)?,
-        FileOrder::New(template) => template_run(template, &mut writer)?,
-        FileOrder::Explain(words) => {
-            let line = words.join(rt.alloc(), " ")?;
-            explain(rt.alloc(), line.as_str(), rows, &mut writer)?;
-        }
+        FileOrder::New(template) => do_new(rt, template)?,
+        FileOrder::Explain(words) => do_explain(rt, words, rows)?,
     }
     Ok(Status::Done)
 }
