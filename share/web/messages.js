@@ -6,7 +6,7 @@ import { activityLabel, machineLabel, resourceLabel } from "./labels.js";
 const CELL = "A number has one to nine digits, without a sign, a fraction or a unit.";
 
 // the columns of dates, which `plan solve` reads and the page doesn't
-const DATES = /^(?:earliest|fixed|begun|remaining|done|due)$/i;
+const DATES = /^(?:earliest|fixed|begun|remaining|done|due|late)$/i;
 
 export const isOfDates = (header) => DATES.test(header);
 

@@ -394,7 +394,7 @@ remedy_of code.MachineClosed = codes "Publish a capacity of 1 or more for the co
 remedy_of code.TooLarge = codes "Use plan solve, or plan schedule for the project, plan shop for the shop."
 remedy_of code.BadBudget = codes "Give a budget of at most 200000."
 remedy_of code.BadNodes = codes "Start with 1000000, which takes some seconds."
-remedy_of code.NoResource = codes "Name a resource by its number in the file, for example R2=4 for the second."
+remedy_of code.NoResource = codes "Name a resource by its number in the file, for example R2=4 for the second. For a list without a row of capacities, give the capacities to plan import."
 remedy_of code.LateEnd = codes "Start the activities earlier, or use larger time units."
 remedy_of code.Infeasible = codes "Correct the start times. Check them with plan check."
 remedy_of code.Overload = codes "Write interrupted in the column begun of one of these activities, or move an appointment."

@@ -534,8 +534,9 @@ impl Code {
                 "The id in line N is empty, has more than 32 characters, or contains a blank, a comma, a semicolon or a control character. In a list of orders: the name of an order or a machine is empty."
             }
             Code::IdTwice => "The id in line N is the id of an earlier row.",
-            Code::NoPredecessor =>
-                "A predecessor in line N is neither the id of a row nor such an id with a lag in days, for example A+2.",
+            Code::NoPredecessor => {
+                "A predecessor in line N is neither the id of a row nor such an id with a lag in days, for example A+2."
+            }
             Code::BadNeed => {
                 "The need of this resource in line N, or its capacity, isn't a number: one to nine digits, no sign, no fraction."
             }
@@ -700,16 +701,18 @@ impl Code {
             Code::BadMachine => "Correct the number.",
             Code::LongTable => "Delete rows, or split the project.",
             Code::NoTableText => "Save the table as CSV UTF-8, and delete line breaks in names.",
-            Code::NoDurations =>
-                "Add a header line with this column, or read another header as this one with --map. In a list of orders, delete all other columns.",
+            Code::NoDurations => {
+                "Add a header line with this column, or read another header as this one with --map. In a list of orders, delete all other columns."
+            }
             Code::ColumnTwice => "Rename or delete one.",
             Code::BadDuration => {
                 "Correct the duration. For fractions use a finer time unit, for example hours, or the option --unit. A row of capacities has the id capacity."
             }
             Code::BadId => "Shorten the id, or replace its blanks.",
             Code::IdTwice => "Give each row its own id.",
-            Code::NoPredecessor =>
-                "Correct the predecessor, or add its row. A lag is a number of days. Links such as A+2SS aren't supported.",
+            Code::NoPredecessor => {
+                "Correct the predecessor, or add its row. A lag is a number of days. Links such as A+2SS aren't supported."
+            }
             Code::BadNeed => {
                 "Correct the cell. If the column isn't a resource, delete it or its header."
             }
@@ -748,7 +751,7 @@ impl Code {
             Code::BadBudget => "Give a budget of at most 200000.",
             Code::BadNodes => "Start with 1000000, which takes some seconds.",
             Code::NoResource => {
-                "Name a resource by its number in the file, for example R2=4 for the second."
+                "Name a resource by its number in the file, for example R2=4 for the second. For a list without a row of capacities, give the capacities to plan import."
             }
             Code::LateEnd => "Start the activities earlier, or use larger time units.",
             Code::Infeasible => "Correct the start times. Check them with plan check.",

@@ -2,4 +2,4 @@
 
 /// The digest of all sources of the program but this file, in hexadecimal digits, as
 /// `./release --digest` prints it.
-pub(crate) const SOURCES: &str = "bda58f706a3e6f27f8a00aeb7db367c47cfbcc7bb2b75f91539fdd61b6213c43";
+pub(crate) const SOURCES: &str = "3e08bde7eb337ab9acc6f25fe2114a9333b50b35d797209df8d101e495e9858c";
