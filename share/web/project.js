@@ -112,7 +112,7 @@ export const isWait = (id) => /^wait\+\d+$/.test(id ?? "");
 /** Returns the arcs of a project with the lags of its list in the place of waits. */
 export function arcsOverWaits({ arcs, durations, ids }) {
   const isGap = (at) => isWait(ids?.get(at + 1));
-  const before = (at) => arcs.find(({ to }) => to === at).from;
+  const before = (at) => arcs.find(({ to }) => to === at)?.from ?? 0;
   return arcs.filter(({ to }) => !isGap(to)).map((arc) => (isGap(arc.from)
     ? { ...arc, from: before(arc.from), lag: durations[arc.from] } : arc));
 }

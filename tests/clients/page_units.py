@@ -465,6 +465,10 @@ def try_projects(modules, draw):
     model = {"durations": [0, 2, 1, 3, 0], "arcs": arcs, "ids": {"map": [[2, "A"], [3, "B"], [4, "wait+0"]]}}
     same("the arcs over a wait of 3", modules.values([["project", "arcsOverWaits", [model]]])[0],
          [{"from": 0, "to": 1, "lag": 0}, {"from": 1, "to": 2, "lag": 3}, {"from": 2, "to": 4, "lag": 0}])
+    # a file may have such an id by itself, on an activity without a predecessor
+    alone = {"durations": [0, 2, 0], "arcs": [{"from": 1, "to": 2, "lag": 0}], "ids": {"map": [[2, "wait+0"]]}}
+    same("a wait behind nothing", modules.values([["project", "arcsOverWaits", [alone]]])[0],
+         [{"from": 0, "to": 2, "lag": 2}])
     found = modules.values([["project", "mostNeeded", [needs, caps]] for needs, caps, _ in cases])
     same("the resources needed most", found, [place for *_, place in cases])
 
