@@ -6,10 +6,14 @@ named instances, and damages that make a line false.
     tests/trials/run damaged_logs      damaged ones
 """
 
+import collections
 import os
 import random
 import re
+import resource
+import signal
 import sys
+import time
 
 sys.path.append(os.path.join(os.path.dirname(os.path.abspath(__file__)), "..", "..", "bench"))
 import checker
@@ -19,7 +23,29 @@ from exchanges import file_of
 from programs import Wrong, plan, same
 
 PROJECTS, SHOPS, DAMAGED = 12, 6, 25
+# For how many seconds a search or a check may last.
+PATIENCE = 120
+# The processor time of the searches and of both checkers, in seconds.
+SPENT = collections.Counter()
 REFUSAL, VERDICT = re.compile(rb"V[12] line (\d+)\n"), re.compile(rb"verified (at least )?\d+\n")
+
+
+class TooLong(Exception):
+    """A search that the limit of the length of files has ended."""
+
+
+def time_of_children():
+    """The processor time of the programs that have run, in seconds."""
+    used = resource.getrusage(resource.RUSAGE_CHILDREN)
+    return used.ru_utime + used.ru_stime
+
+
+def timed_plan(command, *words):
+    """What a command gives; its processor time is added to SPENT."""
+    before = time_of_children()
+    told = plan(command, *words, patience=PATIENCE)
+    SPENT[command] += time_of_children() - before
+    return told
 
 
 def drawn_project(seed):
@@ -49,7 +75,9 @@ def put(room, name, content):
 def solved(room, text, instance, *limits):
     """The path of a file, what `plan solve` prints first, and its log."""
     path, log = put(room, "drawn", text.encode()), os.path.join(room, "log")
-    status, out, err = plan("solve", "--log", log, *limits, path, *instance)
+    status, out, err = timed_plan("solve", "--log", log, *limits, path, *instance)
+    if status == -signal.SIGXFSZ:
+        raise TooLong
     same("a search with a log", (status, err), (0, b""))
     with open(log, "rb") as file:
         return path, out.decode().split("\n")[0].split(), file.read()
@@ -171,17 +199,20 @@ DAMAGES += (greater_bound, refuted_at_once)
 
 def by_checker(text, instance, log):
     """What share/plan-check-log shows: a line, or None if it refuses the log."""
+    before = time.process_time()
     try:
         if instance:
             return checker.shown_of_shop(text, *instance, log.decode("latin-1"))
         return checker.shown(text, log.decode("latin-1"))
     except checker.Refused:
         return None
+    finally:
+        SPENT["plan-check-log"] += time.process_time() - before
 
 
 def by_program(room, path, instance, log):
     """What `plan verify` shows: a line, or None and the code of its refusal."""
-    status, out, err = plan("verify", path, put(room, "judged", log), *instance)
+    status, out, err = timed_plan("verify", path, put(room, "judged", log), *instance)
     if status == 1 and out == b"" and REFUSAL.fullmatch(err):
         return None, err[:2]
     if status or err or not VERDICT.fullmatch(out):
