@@ -4,6 +4,7 @@ named instances, and damages that make a line false.
 
     tests/trials/run verdicts          logs that are whole
     tests/trials/run damaged_logs      damaged ones
+    tests/trials/run check_log_lines   the errors of share/plan-check-log, each one line
 """
 
 import collections
@@ -12,6 +13,7 @@ import random
 import re
 import resource
 import signal
+import subprocess
 import sys
 import time
 
@@ -260,3 +262,57 @@ def try_damaged_logs(room):
             judge_damaged(room, path, text, instance, int(words[1]), log, draw)
         judge_damaged(room, path, text, instance, int(words[1]), other, draw)
         other = log
+
+
+# ---- the errors of share/plan-check-log
+
+UNREAD = "{}: no project (.sm) and no job shop of this name; for a list, run plan import first"
+# What it prints about these files, instances and logs of examples/.
+UNREADABLE = [
+    ("house.csv log", UNREAD.format("house.csv")),
+    ("shop.csv shop log", UNREAD.format("shop.csv")),
+    ("shops.txt la99 log", UNREAD.format("shops.txt")),
+    ("shops.txt log", UNREAD.format("shops.txt")),
+    ("kitchen.sm ft06 log", UNREAD.format("kitchen.sm")),
+    ("missing.sm log", "missing.sm: No such file or directory"),
+    ("kitchen.sm missing.log", "missing.log: No such file or directory"),
+    (". log", ".: Is a directory"),
+]
+NO_SENSE = "a word is wrong or missing, or names nothing that is there"
+# Logs of the kitchen, whose longest activity takes 3, and what it prints of them.
+WRONG_LOGS = [
+    (b"lower 3\nlower 4\n", "line 2: the lower bound is more than what is known"),
+    (b"schedule 5 0 0 2 2 5\n", "line 1: the schedule isn't feasible"),
+    (b"schedule 7 0 0 2 5 8\n", "line 1: the makespan is another"),
+    (b"lower three\n", f"line 1: {NO_SENSE}"),
+    (b"lower\n", f"line 1: {NO_SENSE}"),
+    (b"lower 3 3\n", f"line 1: {NO_SENSE}"),
+    (b"drop 1\n", f"line 1: {NO_SENSE}"),
+    (b"resolve 1>= arc 1 2 0\n", f"line 1: {NO_SENSE}"),
+    (b"begin kept 1\n", f"line 1: {NO_SENSE}"),
+    (b"begin arc 1 5 0\n", "line 1: there is no such arc"),
+    (b"lower 3\norder 3 4\n", "line 2: an order comes late"),
+    (b"lower 3", "line 1: there is no such line"),
+    (b"\xff\x00\n", "line 1: there is no such line"),
+    (b"\n", "line 1: there is no such line"),
+]
+
+
+def told_by_script(folder, *words):
+    """What the script gives, run in a folder: its status and both outputs."""
+    command = [sys.executable, checker.CHECKER, *words]
+    done = subprocess.run(command, cwd=folder, capture_output=True, text=True, timeout=120)
+    return done.returncode, done.stdout, done.stderr
+
+
+def try_check_log_lines(room):
+    """The script prints one line about a list, a file that can't be read, and a wrong log."""
+    for name in ("house.csv", "shop.csv", "shops.txt", "kitchen.sm"):
+        put(room, name, file_of(f"examples/{name}"))
+    put(room, "log", b"lower 3\n")
+    same("a true log", told_by_script(room, "kitchen.sm", "log"), (0, "verified at least 3\n", ""))
+    for words, line in UNREADABLE:
+        same(f"plan-check-log {words}", told_by_script(room, *words.split()), (1, "", line + "\n"))
+    for log, line in WRONG_LOGS:
+        put(room, "log", log)
+        same(f"the log {log}", told_by_script(room, "kitchen.sm", "log"), (1, "", line + "\n"))
