@@ -311,6 +311,9 @@ def try_check_log_lines(room):
         put(room, name, file_of(f"examples/{name}"))
     put(room, "log", b"lower 3\n")
     same("a true log", told_by_script(room, "kitchen.sm", "log"), (0, "verified at least 3\n", ""))
+    put(room, "log", b"lower\t3\x1a\n")
+    same("other blanks", told_by_script(room, "kitchen.sm", "log"), (0, "verified at least 3\n", ""))
+    same("other blanks", plan("verify", "kitchen.sm", "log", cwd=room), (0, b"verified at least 3\n", b""))
     for words, line in UNREADABLE:
         same(f"plan-check-log {words}", told_by_script(room, *words.split()), (1, "", line + "\n"))
     for log, line in WRONG_LOGS:
