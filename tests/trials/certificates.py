@@ -7,14 +7,14 @@ search that both confirm, never from a damaged log.
                                      each searched to the end and stopped early
     tests/trials/run refused_logs    500 damaged logs; each kind of damage makes a line false
 
-    tests/trials/certificates.py [--shops [NAME ..]] [--projects N] [--drawn N] [--damaged N]
-                                 [--conflicts N] [--seed K]
+    tests/trials/certificates.py [--shops [NAME ..]] [--as-projects NAME ..] [--projects N]
+                                 [--drawn N] [--damaged N] [--conflicts N] [--seed K]
 
-tries more: job shops of bench/shops.txt (all of them if none is named), N projects like J30, N
-drawn projects and shops, and N damaged logs of each of the two sorts (those here, and those of
-verdicts.py). It prints one line a part, with the processor time of its searches and of both
-checkers, and ends with status 1 if something is wrong. A search whose log gets longer than 300 MB
-is stopped and named.
+tries more: job shops of bench/shops.txt (all of them if none is named), job shops as projects, N
+projects like J30, N drawn projects and shops, and N damaged logs of each of the two sorts (those
+here, and those of verdicts.py). It prints one line a part, with the processor time of its searches
+and of both checkers, and ends with status 1 if something is wrong. A search whose log gets longer
+than 300 MB is stopped and named.
 """
 
 import argparse
@@ -35,6 +35,7 @@ HERE = os.path.dirname(os.path.abspath(__file__))
 BENCH = os.path.join(HERE, "..", "..", "bench")
 sys.path += [HERE, os.path.join(HERE, "..", "clients"), BENCH]
 import files
+import others
 import progen
 import verdicts
 from exchanges import file_of
@@ -76,6 +77,23 @@ def shops(names=None):
     least, every = published()
     text = file_of("bench/shops.txt").decode()
     return [Case(name, text, [name], least.get(name)) for name in names or every]
+
+
+def as_project(name):
+    """The text of a job shop of the literature as a project: each machine is a resource of capacity 1."""
+    jobs = others.rows_of(os.path.join(BENCH, "shops.txt"), name)
+    steps, machines = list(itertools.chain(*jobs)), len(jobs[0])
+    firsts, end = list(range(2, len(steps) + 2, machines)), len(steps) + 2
+    nexts = [[number + 1 if number + 1 not in firsts else end] for number in range(2, end)]
+    needs = [[int(machine == k) for k in range(machines)] for machine, _ in steps]
+    none = [[0] * machines]
+    return files.project([0, *(time for _, time in steps), 0], [firsts, *nexts, []], none + needs + none, [1] * machines)
+
+
+def shops_as_projects(names):
+    """Job shops of the literature as projects, whose logs prove all that the search prints."""
+    least, _ = published()
+    return [Case(name, as_project(name), [], least.get(name)) for name in names]
 
 
 def projects(count=None, every=1):
@@ -432,6 +450,7 @@ def damage_all(cases, room, count, seed):
 def spoken():
     parser = argparse.ArgumentParser(prog="tests/trials/certificates.py")
     parser.add_argument("--shops", nargs="*", metavar="NAME", help="job shops of bench/shops.txt")
+    parser.add_argument("--as-projects", nargs="+", metavar="NAME", help="the same as projects")
     parser.add_argument("--projects", type=int, default=0, help="so many projects like J30")
     parser.add_argument("--drawn", type=int, default=0, help="so many drawn projects and shops")
     parser.add_argument("--damaged", type=int, default=0, help="so many damaged logs of each sort")
@@ -443,6 +462,8 @@ def spoken():
 def larger_run(said, room):
     if said.shops is not None:
         confirm(shops(said.shops), room, said.conflicts, "job shops")
+    if said.as_projects:
+        confirm(shops_as_projects(said.as_projects), room, said.conflicts, "job shops as projects")
     if said.projects:
         confirm(projects(said.projects), room, said.conflicts, "projects like J30")
     if said.drawn:
