@@ -7,12 +7,14 @@ search that both confirm, never from a damaged log.
                                      each searched to the end and stopped early
     tests/trials/run refused_logs    500 damaged logs; each kind of damage makes a line false
 
-    tests/trials/certificates.py [--shops] [--projects N] [--drawn N] [--damaged N] [--conflicts N]
-                                 [--seed K]
+    tests/trials/certificates.py [--shops [NAME ..]] [--as-projects NAME ..] [--projects N]
+                                 [--drawn N] [--damaged N] [--conflicts N] [--seed K]
 
-tries more: all job shops of bench/shops.txt, N projects like J30, N drawn projects and shops, and N
-damaged logs of each of the two sorts (those here, and those of verdicts.py). It prints one line a
-part, and ends with status 1 if something is wrong.
+tries more: job shops of bench/shops.txt (all of them if none is named), job shops as projects, N
+projects like J30, N drawn projects and shops, and N damaged logs of each of the two sorts (those
+here, and those of verdicts.py). It prints one line a part, with the processor time of its searches
+and of both checkers, and ends with status 1 if something is wrong. A search whose log gets longer
+than 300 MB is stopped and named.
 """
 
 import argparse
@@ -23,6 +25,7 @@ import itertools
 import os
 import random
 import re
+import resource
 import sys
 import tempfile
 import typing
@@ -32,6 +35,7 @@ HERE = os.path.dirname(os.path.abspath(__file__))
 BENCH = os.path.join(HERE, "..", "..", "bench")
 sys.path += [HERE, os.path.join(HERE, "..", "clients"), BENCH]
 import files
+import others
 import progen
 import verdicts
 from exchanges import file_of
@@ -47,6 +51,8 @@ DRAWN_LISTS, DRAWN_ORDERS = 10, 4
 # The limits of conflicts of a whole search and of one that is stopped early.
 WHOLE, FEW = "3000", "2"
 REFUSED, LONGEST = 500, 20000
+# The limits of a larger run: the seconds of a search or a check, and the bytes of a log.
+PATIENCE, MOST_BYTES = 86400, 300_000_000
 
 
 class Case(typing.NamedTuple):
@@ -71,6 +77,23 @@ def shops(names=None):
     least, every = published()
     text = file_of("bench/shops.txt").decode()
     return [Case(name, text, [name], least.get(name)) for name in names or every]
+
+
+def as_project(name):
+    """The text of a job shop of the literature as a project: each machine is a resource of capacity 1."""
+    jobs = others.rows_of(os.path.join(BENCH, "shops.txt"), name)
+    steps, machines = list(itertools.chain(*jobs)), len(jobs[0])
+    firsts, end = list(range(2, len(steps) + 2, machines)), len(steps) + 2
+    nexts = [[number + 1 if number + 1 not in firsts else end] for number in range(2, end)]
+    needs = [[int(machine == k) for k in range(machines)] for machine, _ in steps]
+    none = [[0] * machines]
+    return files.project([0, *(time for _, time in steps), 0], [firsts, *nexts, []], none + needs + none, [1] * machines)
+
+
+def shops_as_projects(names):
+    """Job shops of the literature as projects, whose logs prove all that the search prints."""
+    least, _ = published()
+    return [Case(name, as_project(name), [], least.get(name)) for name in names]
 
 
 def projects(count=None, every=1):
@@ -373,6 +396,11 @@ def try_refused_logs(room):
 # ---- more of them
 
 
+def seconds(spent):
+    """The processor time of the searches and of both checkers, as words."""
+    return ", ".join(f"{name} {spent[name]:.2f} s" for name in ("solve", "verify", "plan-check-log"))
+
+
 def drawn(count, seed):
     """Drawn projects of 14 to 20 activities, and every fourth time a job shop."""
     for number in range(seed, seed + count):
@@ -386,12 +414,21 @@ def drawn(count, seed):
 
 def confirm(cases, room, conflicts, label):
     """Confirms the logs of cases, and prints what they show."""
-    exact = known = total = 0
-    for case in cases:
-        line, least, _, log = judge_whole(case, room, conflicts)
-        exact, known, total = exact + ("least" not in line), known + (least is not None), total + 1
-        print(f"  {case.name}: {line}, {len(log)} bytes", file=sys.stderr, flush=True)
-    print(f"{label}: {total} logs accepted, {exact} verified the least makespan, {known} compared")
+    exact, known, spent, longer = 0, 0, collections.Counter(), []
+    for total, case in enumerate(cases, 1):
+        verdicts.SPENT.clear()
+        try:
+            line, least, _, log = judge_whole(case, room, conflicts)
+        except verdicts.TooLong:
+            longer.append(case.name)
+            continue
+        exact, known = exact + ("least" not in line), known + (least is not None)
+        spent += verdicts.SPENT
+        print(f"  {case.name}: {line}, {len(log)} bytes, {seconds(verdicts.SPENT)}", file=sys.stderr, flush=True)
+    accepted = f"{total - len(longer)} logs accepted, {exact} verified the least makespan"
+    print(f"{label}: {accepted}, {known} compared; {seconds(spent)}", flush=True)
+    if longer:
+        print(f"  stopped, since the log was too long: {', '.join(longer)}", flush=True)
 
 
 def damage_all(cases, room, count, seed):
@@ -412,7 +449,8 @@ def damage_all(cases, room, count, seed):
 
 def spoken():
     parser = argparse.ArgumentParser(prog="tests/trials/certificates.py")
-    parser.add_argument("--shops", action="store_true", help="all job shops of bench/shops.txt")
+    parser.add_argument("--shops", nargs="*", metavar="NAME", help="job shops of bench/shops.txt")
+    parser.add_argument("--as-projects", nargs="+", metavar="NAME", help="the same as projects")
     parser.add_argument("--projects", type=int, default=0, help="so many projects like J30")
     parser.add_argument("--drawn", type=int, default=0, help="so many drawn projects and shops")
     parser.add_argument("--damaged", type=int, default=0, help="so many damaged logs of each sort")
@@ -422,8 +460,10 @@ def spoken():
 
 
 def larger_run(said, room):
-    if said.shops:
-        confirm(shops(), room, said.conflicts, "job shops")
+    if said.shops is not None:
+        confirm(shops(said.shops), room, said.conflicts, "job shops")
+    if said.as_projects:
+        confirm(shops_as_projects(said.as_projects), room, said.conflicts, "job shops as projects")
     if said.projects:
         confirm(projects(said.projects), room, said.conflicts, "projects like J30")
     if said.drawn:
@@ -437,8 +477,9 @@ def larger_run(said, room):
 
 
 def main():
-    memory = "/dev/shm" if os.path.isdir("/dev/shm") else None
-    with tempfile.TemporaryDirectory(dir=memory) as room:
+    verdicts.PATIENCE = PATIENCE
+    resource.setrlimit(resource.RLIMIT_FSIZE, (MOST_BYTES, MOST_BYTES))
+    with tempfile.TemporaryDirectory() as room:
         try:
             larger_run(spoken(), room)
         except Wrong as error:

@@ -4,12 +4,18 @@ named instances, and damages that make a line false.
 
     tests/trials/run verdicts          logs that are whole
     tests/trials/run damaged_logs      damaged ones
+    tests/trials/run check_log_lines   the errors of share/plan-check-log, each one line
 """
 
+import collections
 import os
 import random
 import re
+import resource
+import signal
+import subprocess
 import sys
+import time
 
 sys.path.append(os.path.join(os.path.dirname(os.path.abspath(__file__)), "..", "..", "bench"))
 import checker
@@ -19,7 +25,29 @@ from exchanges import file_of
 from programs import Wrong, plan, same
 
 PROJECTS, SHOPS, DAMAGED = 12, 6, 25
+# For how many seconds a search or a check may last.
+PATIENCE = 120
+# The processor time of the searches and of both checkers, in seconds.
+SPENT = collections.Counter()
 REFUSAL, VERDICT = re.compile(rb"V[12] line (\d+)\n"), re.compile(rb"verified (at least )?\d+\n")
+
+
+class TooLong(Exception):
+    """A search that the limit of the length of files has ended."""
+
+
+def time_of_children():
+    """The processor time of the programs that have run, in seconds."""
+    used = resource.getrusage(resource.RUSAGE_CHILDREN)
+    return used.ru_utime + used.ru_stime
+
+
+def timed_plan(command, *words):
+    """What a command gives; its processor time is added to SPENT."""
+    before = time_of_children()
+    told = plan(command, *words, patience=PATIENCE)
+    SPENT[command] += time_of_children() - before
+    return told
 
 
 def drawn_project(seed):
@@ -49,7 +77,9 @@ def put(room, name, content):
 def solved(room, text, instance, *limits):
     """The path of a file, what `plan solve` prints first, and its log."""
     path, log = put(room, "drawn", text.encode()), os.path.join(room, "log")
-    status, out, err = plan("solve", "--log", log, *limits, path, *instance)
+    status, out, err = timed_plan("solve", "--log", log, *limits, path, *instance)
+    if status == -signal.SIGXFSZ:
+        raise TooLong
     same("a search with a log", (status, err), (0, b""))
     with open(log, "rb") as file:
         return path, out.decode().split("\n")[0].split(), file.read()
@@ -171,17 +201,20 @@ DAMAGES += (greater_bound, refuted_at_once)
 
 def by_checker(text, instance, log):
     """What share/plan-check-log shows: a line, or None if it refuses the log."""
+    before = time.process_time()
     try:
         if instance:
             return checker.shown_of_shop(text, *instance, log.decode("latin-1"))
         return checker.shown(text, log.decode("latin-1"))
     except checker.Refused:
         return None
+    finally:
+        SPENT["plan-check-log"] += time.process_time() - before
 
 
 def by_program(room, path, instance, log):
     """What `plan verify` shows: a line, or None and the code of its refusal."""
-    status, out, err = plan("verify", path, put(room, "judged", log), *instance)
+    status, out, err = timed_plan("verify", path, put(room, "judged", log), *instance)
     if status == 1 and out == b"" and REFUSAL.fullmatch(err):
         return None, err[:2]
     if status or err or not VERDICT.fullmatch(out):
@@ -229,3 +262,60 @@ def try_damaged_logs(room):
             judge_damaged(room, path, text, instance, int(words[1]), log, draw)
         judge_damaged(room, path, text, instance, int(words[1]), other, draw)
         other = log
+
+
+# ---- the errors of share/plan-check-log
+
+UNREAD = "{}: no project (.sm) and no job shop of this name; for a list, run plan import first"
+# What it prints about these files, instances and logs of examples/.
+UNREADABLE = [
+    ("house.csv log", UNREAD.format("house.csv")),
+    ("shop.csv shop log", UNREAD.format("shop.csv")),
+    ("shops.txt la99 log", UNREAD.format("shops.txt")),
+    ("shops.txt log", UNREAD.format("shops.txt")),
+    ("kitchen.sm ft06 log", UNREAD.format("kitchen.sm")),
+    ("missing.sm log", "missing.sm: No such file or directory"),
+    ("kitchen.sm missing.log", "missing.log: No such file or directory"),
+    (". log", ".: Is a directory"),
+]
+NO_SENSE = "a word is wrong or missing, or names nothing that is there"
+# Logs of the kitchen, whose longest activity takes 3, and what it prints of them.
+WRONG_LOGS = [
+    (b"lower 3\nlower 4\n", "line 2: the lower bound is more than what is known"),
+    (b"schedule 5 0 0 2 2 5\n", "line 1: the schedule isn't feasible"),
+    (b"schedule 7 0 0 2 5 8\n", "line 1: the makespan is another"),
+    (b"lower three\n", f"line 1: {NO_SENSE}"),
+    (b"lower\n", f"line 1: {NO_SENSE}"),
+    (b"lower 3 3\n", f"line 1: {NO_SENSE}"),
+    (b"drop 1\n", f"line 1: {NO_SENSE}"),
+    (b"resolve 1>= arc 1 2 0\n", f"line 1: {NO_SENSE}"),
+    (b"begin kept 1\n", f"line 1: {NO_SENSE}"),
+    (b"begin arc 1 5 0\n", "line 1: there is no such arc"),
+    (b"lower 3\norder 3 4\n", "line 2: an order comes late"),
+    (b"lower 3", "line 1: there is no such line"),
+    (b"\xff\x00\n", "line 1: there is no such line"),
+    (b"\n", "line 1: there is no such line"),
+]
+
+
+def told_by_script(folder, *words):
+    """What the script gives, run in a folder: its status and both outputs."""
+    command = [sys.executable, checker.CHECKER, *words]
+    done = subprocess.run(command, cwd=folder, capture_output=True, text=True, timeout=120)
+    return done.returncode, done.stdout, done.stderr
+
+
+def try_check_log_lines(room):
+    """The script prints one line about a list, a file that can't be read, and a wrong log."""
+    for name in ("house.csv", "shop.csv", "shops.txt", "kitchen.sm"):
+        put(room, name, file_of(f"examples/{name}"))
+    put(room, "log", b"lower 3\n")
+    same("a true log", told_by_script(room, "kitchen.sm", "log"), (0, "verified at least 3\n", ""))
+    put(room, "log", b"lower\t3\x1a\n")
+    same("other blanks", told_by_script(room, "kitchen.sm", "log"), (0, "verified at least 3\n", ""))
+    same("other blanks", plan("verify", "kitchen.sm", "log", cwd=room), (0, b"verified at least 3\n", b""))
+    for words, line in UNREADABLE:
+        same(f"plan-check-log {words}", told_by_script(room, *words.split()), (1, "", line + "\n"))
+    for log, line in WRONG_LOGS:
+        put(room, "log", log)
+        same(f"the log {log}", told_by_script(room, "kitchen.sm", "log"), (1, "", line + "\n"))
