@@ -197,6 +197,21 @@ def asked(port, process, sent):
 # ---- the kinds
 
 
+def work_on(kept, killer, kind, ask, following, what):
+    """Sends commands until one isn't answered; the rows after that one, None if all were answered."""
+    for _ in range(min(MOST_ASKED, len(kept.plans()))):
+        exchange = following(kept)
+        found = ask(exchange.request())
+        if found[:10] != b"HTTP/1.1 2":
+            same(f"{what}: no other response", found[9:10], b"")
+            last = copy.deepcopy(kept.tables)
+            last.apply(exchange)
+            return last
+        kept.tables.apply(exchange)
+        killer.tally[f"{kind} answered"] += 1
+    return None
+
+
 def server_within(kind, following):
     """The kills of a server within commands of one kind."""
 
@@ -204,21 +219,13 @@ def server_within(kind, following):
         kept.with_plans(LEAST_PLANS, MOST_PLANS)
         port = free_port()
         process, end = killer.begin(kind, [PROGRAM, "serve", kept.database, str(port), ALL])
-        answered, last = 0, None
-        for _ in range(min(MOST_ASKED, len(kept.plans()))):
-            exchange = following(kept)
-            found = asked(port, process, exchange.request())
-            if found[:10] != b"HTTP/1.1 2":
-                same(f"{what}: no other response", found[9:10], b"")
-                last = copy.deepcopy(kept.tables)
-                last.apply(exchange)
-                break
-            kept.tables.apply(exchange)
-            answered += 1
-        killer.tally[f"{kind} {'killed' if end(False) else 'ended before'}"] += 1
+        try:
+            last = work_on(kept, killer, kind, lambda sent: asked(port, process, sent), following, what)
+        finally:
+            is_killed = end(False)
+        killer.tally[f"{kind} {'killed' if is_killed else 'ended before'}"] += 1
         known = kept.tables
         is_there = kept.compare(what, [last] if last else []) is not known
-        killer.tally[f"{kind} answered"] += answered
         killer.tally[f"{kind} unanswered {'there' if is_there else 'gone'}"] += last is not None
 
     return kill
