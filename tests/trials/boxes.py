@@ -13,10 +13,13 @@ WIDTH, EM = 1390, 9.6
 USE_HEIGHT, USE_MARKS = 112, 89
 MOST_LINES, USE_ROOM = 40, 27
 DISTANCES = [n * 10**k for k in range(7) for n in (1, 5)][:-1]
+MOST_DISTANCE = 10**9
 WEEKS = (1, 2, 4, 8, 13, 26, 52, 104, 260, 520, 1040, 2600, 5200)
 # A label of a week is between these places.
 LEAST_PLACE, GREATEST_PLACE = 436, 1291
 MOST_SHADED, MOST_NAMED = 2000, 366
+# Above this makespan there is no image of resource use.
+MOST_USED = 100000
 
 
 # ---- what is wanted
@@ -54,7 +57,8 @@ class Axis:
         """Whether an instant has a label: the first one, and the first one of each labelled week."""
         if t == 0:
             return True
-        distance = next(weeks for weeks in WEEKS if self.span + self.span // 3 <= 12 * 7 * weeks)
+        days = self.span + self.span // 3
+        distance = next((weeks for weeks in WEEKS if days <= 12 * 7 * weeks), MOST_DISTANCE // 7)
         has_room = LEAST_PLACE <= self.from_place(t) <= GREATEST_PLACE
         return has_room and self.starts_week(t) and (self.week(t) - self.week(0)) % distance == 0
 
@@ -67,7 +71,7 @@ class Axis:
         if self.days:
             labelled = [t for t in range(len(self.days)) if self.is_labelled(t)]
             return [(self.from_place(t), self.day_label(t)) for t in labelled]
-        distance = next(units for units in DISTANCES if self.span <= 12 * units)
+        distance = next((units for units in DISTANCES if self.span <= 12 * units), MOST_DISTANCE)
         return [(place(self.span, at), str(at)) for at in range(0, self.span + 1, distance)]
 
     def shaded(self):

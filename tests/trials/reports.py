@@ -309,7 +309,8 @@ def compare_images(what, images, schedule, crews, marks):
     charts = [image for image in images if image.findall(SVG + "g")]
     boxes.check_chart(what, charts, axis)
     uses = images[len(charts) :]
-    capacities = [] if schedule.is_shop else schedule.capacities
+    has_uses = not schedule.is_shop and schedule.makespan <= boxes.MOST_USED
+    capacities = schedule.capacities if has_uses else []
     same(f"{what}: the images of resources", len(uses), len(capacities))
     for k, (image, capacity) in enumerate(zip(uses, capacities)):
         used = [(row["start"], row["end"], schedule.needs[row["act"]][k]) for row in schedule.rows]
