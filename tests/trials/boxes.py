@@ -4,6 +4,7 @@ box is as long as its label has columns of 0.6 em; no two boxes of a row overlap
 image or its own part of it."""
 
 import datetime
+import functools
 
 from answers import Wrong, same
 from images import SVG, columns, cut, place
@@ -18,6 +19,8 @@ WEEKS = (1, 2, 4, 8, 13, 26, 52, 104, 260, 520, 1040, 2600, 5200)
 # A label of a week is between these places.
 LEAST_PLACE, GREATEST_PLACE = 436, 1291
 MOST_SHADED, MOST_NAMED = 2000, 366
+# The last number of an axis leaves the image from here on.
+LEAST_LONG = 100000
 # Above this makespan there is no image of resource use.
 MOST_USED = 100000
 
@@ -57,20 +60,27 @@ class Axis:
         """Whether an instant has a label: the first one, and the first one of each labelled week."""
         if t == 0:
             return True
+        if not self.starts_week(t):
+            return False
         days = self.span + self.span // 3
         distance = next((weeks for weeks in WEEKS if days <= 12 * 7 * weeks), MOST_DISTANCE // 7)
         has_room = LEAST_PLACE <= self.from_place(t) <= GREATEST_PLACE
-        return has_room and self.starts_week(t) and (self.week(t) - self.week(0)) % distance == 0
+        return has_room and (self.week(t) - self.week(0)) % distance == 0
 
     def day_label(self, t):
         day = datetime.date.fromordinal(self.days[t])
         return day.isoformat() if self.span > MOST_NAMED else f"{day:%a} {day.day} {day:%b}"
 
+    @functools.cached_property
+    def labelled(self):
+        """The instants that have a label."""
+        return [t for t in range(len(self.days)) if self.is_labelled(t)]
+
+    @functools.cached_property
     def labels(self):
         """The places and the texts of the labels."""
         if self.days:
-            labelled = [t for t in range(len(self.days)) if self.is_labelled(t)]
-            return [(self.from_place(t), self.day_label(t)) for t in labelled]
+            return [(self.from_place(t), self.day_label(t)) for t in self.labelled]
         distance = next((units for units in DISTANCES if self.span <= 12 * units), MOST_DISTANCE)
         return [(place(self.span, at), str(at)) for at in range(0, self.span + 1, distance)]
 
@@ -126,10 +136,10 @@ def check_marks(what, image, axis, height):
     paths = [path.get("d") for kind in ("off", "week") for path in children(image, "path", kind)]
     same(f"{what}: the days and weeks", paths, [axis.off(marks), axis.weeks()] if axis.days else [])
     ticks = [path.get("d") for path in children(image, "path", "tick")]
-    same(f"{what}: the marks", ticks, [f"M{x} 19v{marks}" for x, _ in axis.labels()])
+    same(f"{what}: the marks", ticks, [f"M{x} 19v{marks}" for x, _ in axis.labels])
     texts = [text for text in children(image, "text") if text.get("class") is None]
     found = [(*given(text, "x", "y", "dx"), text_of(text)) for text in texts]
-    same(f"{what}: the labels", found, [(str(x), "14", "3", label) for x, label in axis.labels()])
+    same(f"{what}: the labels", found, [(str(x), "14", "3", label) for x, label in axis.labels])
 
 
 def check_line(what, group, k):
@@ -197,24 +207,28 @@ def rows_of(image):
     return rows
 
 
-def check_boxes(what, image, is_known):
-    """Whether labels overlap as `is_known` permits; no others do, and none leaves its room."""
+class Known:
+    """The faults that docs/known-gaps.md names: a day's label that holidays have moved behind the first
+    marked weekday of its week may overlap the next one, and a last number from 100,000 on leaves the
+    image. `marks` are seven digits, from Monday on."""
+
+    def __init__(self, axis, marks):
+        days = [(axis.days[t], axis.day_label(t)) for t in axis.labelled]
+        self.moved = {label for day, label in days if (day - 1) % 7 != marks.index("1")}
+        self.last = set() if axis.days else {str(axis.span)} if axis.span >= LEAST_LONG else set()
+
+
+def check_boxes(what, image, known):
+    """Whether labels have a known fault; no others overlap, and none leaves its room."""
     found = False
     for row in rows_of(image):
         row.sort(key=lambda box: (box.left, box.right))
         for box in row:
-            if not box.is_within:
+            if not box.is_within and box.text not in known.last:
                 raise Wrong(f"{what}: the label {box.text!r} leaves its room, to {box.right:.1f}")
+            found |= not box.is_within
         for one, other in zip(row, row[1:]):
-            if one.right > other.left and not is_known(one.text):
+            if one.right > other.left and one.text not in known.moved:
                 raise Wrong(f"{what}: {one.text!r} ends at {one.right:.1f}, {other.text!r} begins at {other.left:.1f}")
             found |= one.right > other.left
     return found
-
-
-def known_overlap(axis, marks):
-    """The overlaps that docs/known-gaps.md names: of a day's label that holidays have moved behind the
-    first marked weekday of its week. `marks` are seven digits, from Monday on."""
-    days = [(axis.days[t], axis.day_label(t)) for t in range(len(axis.days)) if axis.is_labelled(t)]
-    moved = {label for day, label in days if (day - 1) % 7 != marks.index("1")}
-    return lambda text: text in moved

@@ -3,7 +3,7 @@
 of 1 to 90 activities with ids: html.parser reads the page, xml.etree each of its images. Title, note,
 bars and the table are compared with the results of other commands as JSON (`schedule`, `shop`,
 `days`, `cpm`), with the slacks of the model, and with what was drawn; the places and heights of the
-images with boxes.py. No labels overlap, but for the dates that docs/known-gaps.md names. A report of
+images with boxes.py. All labels have room, but for those that docs/known-gaps.md names. A report of
 `--solve` is the one of its starts.
 
     tests/trials/reports.py               1,000 files; prints nothing on success
@@ -68,6 +68,8 @@ LIST_NAMES += ("e\u0301" * 60, "' ^ \\n", "W" * 29, "W" * 30, "W" * 31, "名" * 
 CREWS = ("crew", "Kran süd", "b<i>&c", "職人" * 7, "r" * 25, "r" * 26)
 # The search closes lists of so many rows at once.
 MOST_SOLVED = 8
+# The numbers of long activities, and their calendars.
+LONG = ((10, []), (11, []), (100, []), (3, ["2024-03-01", "1111100"]), (11, ["2000-01-01", "1000000"]))
 FIGURE = re.compile(r"(?s)<figure>\n(<svg.*?</svg>)\n</figure>")
 
 
@@ -105,6 +107,58 @@ class Page(html.parser.HTMLParser):
             self.rows[-1][-1] += data
         elif self.open and self.open[-1] in ("title", "h1", "h2", "p") and "svg" not in self.open:
             self.texts[self.open[-1]][-1] += data
+
+
+# ---- what is drawn
+
+
+class RowList:
+    """A list: of each row id, name, duration, predecessors by their places and needs; the names and the
+    capacities of its crews."""
+
+    def __init__(self, crews, rows):
+        self.crews, self.rows = crews, rows
+
+    def names(self):
+        return {k: row[1].encode() for k, row in enumerate(self.rows, 2)}
+
+    def crew_names(self):
+        return {k: name.encode() for k, name in enumerate(self.crews, 1)}
+
+    def text(self):
+        file = io.StringIO()
+        table = csv.writer(file, lineterminator="\n")
+        table.writerow(["id", "name", "duration", "predecessors", *self.crews])
+        for own, name, duration, before, needs in self.rows:
+            table.writerow([own, name, duration, " ".join(self.rows[k][0] for k in before), *needs])
+        if self.crews:
+            table.writerow(["capacity", "", "", "", *self.crews.values()])
+        return file.getvalue().encode()
+
+    def links(self, k):
+        """The cells of the resources and of the predecessors of a row."""
+        _, _, _, before, needs = self.rows[k]
+        used = [f"{crew} {need}" for crew, need in zip(self.crews, needs) if need]
+        return [", ".join(used), ", ".join(self.rows[i][0] for i in before)]
+
+
+def drawn_list(draw):
+    """A list of up to 90 rows; a report has 40 in an image."""
+    count = draw.pick((1, 3, draw.number(1, 8), draw.number(9, 38), draw.number(39, 42), draw.number(43, 90)))
+    crews = {name: draw.pick((1, 2, 3, 7, 10000)) for name in draw.random.sample(CREWS, draw.number(0, 3))}
+    return RowList(crews, [drawn_row(draw, k, crews) for k in range(count)])
+
+
+def drawn_row(draw, k, crews):
+    own = f"{draw.pick(('a', 'B-', 'ü', '名'))}{k}"
+    before = draw.random.sample(range(max(0, k - 6), k), min(k, draw.number(0, 2)))
+    needs = [draw.number(0, most) if draw.chance(0.6) else 0 for most in crews.values()]
+    return own, draw.pick(LIST_NAMES), draw.pick((0, 1, 2, 5, 12, 40)), sorted(before), needs
+
+
+def long_list(count):
+    """A list of so many activities of the longest duration, one after another."""
+    return RowList({"crew": 2}, [(f"a{k}", "", 10000, [k - 1] if k else [], [k % 3]) for k in range(count)])
 
 
 # ---- what is wanted
@@ -191,45 +245,6 @@ class Listed(Schedule):
         return f"{self.ids[number]} {name}" if name else self.ids[number]
 
 
-class DrawnList:
-    """A list: of each row id, name, duration, predecessors and needs; the names and the capacities of
-    its crews."""
-
-    def __init__(self, draw):
-        count = draw.pick((1, 3, draw.number(1, 8), draw.number(9, 38), draw.number(39, 42), draw.number(43, 90)))
-        self.crews = {name: draw.pick((1, 2, 3, 7, 10000)) for name in draw.random.sample(CREWS, draw.number(0, 3))}
-        self.rows = [self.row(draw, k) for k in range(count)]
-
-    def row(self, draw, k):
-        front = draw.pick(("a", "B-", "ü", "名"))
-        own = f"{front}{k}"
-        before = draw.random.sample(range(max(0, k - 6), k), min(k, draw.number(0, 2)))
-        needs = [draw.number(0, most) if draw.chance(0.6) else 0 for most in self.crews.values()]
-        return own, draw.pick(LIST_NAMES), draw.pick((0, 1, 2, 5, 12, 40)), sorted(before), needs
-
-    def names(self):
-        return {k: row[1].encode() for k, row in enumerate(self.rows, 2)}
-
-    def crew_names(self):
-        return {k: name.encode() for k, name in enumerate(self.crews, 1)}
-
-    def text(self):
-        file = io.StringIO()
-        table = csv.writer(file, lineterminator="\n")
-        table.writerow(["id", "name", "duration", "predecessors", *self.crews])
-        for own, name, duration, before, needs in self.rows:
-            table.writerow([own, name, duration, " ".join(self.rows[k][0] for k in before), *needs])
-        if self.crews:
-            table.writerow(["capacity", "", "", "", *self.crews.values()])
-        return file.getvalue().encode()
-
-    def links(self, k):
-        """The cells of the resources and of the predecessors of a row."""
-        _, _, _, before, needs = self.rows[k]
-        used = [f"{crew} {need}" for crew, need in zip(self.crews, needs) if need]
-        return [", ".join(used), ", ".join(self.rows[i][0] for i in before)]
-
-
 def number_of(day):
     return datetime.date.fromisoformat(day).toordinal()
 
@@ -304,7 +319,7 @@ def wanted_tails(schedule):
 
 def compare_images(what, images, schedule, crews, marks):
     """Compares the sizes and the marks of all images, the use of resources, and the boxes of labels.
-    Returns whether there is a known overlap."""
+    Returns whether there is a known fault."""
     axis = schedule.axis
     charts = [image for image in images if image.findall(SVG + "g")]
     boxes.check_chart(what, charts, axis)
@@ -316,13 +331,13 @@ def compare_images(what, images, schedule, crews, marks):
         used = [(row["start"], row["end"], schedule.needs[row["act"]][k]) for row in schedule.rows]
         path = boxes.use_path(axis, schedule.makespan, capacity, used)
         boxes.check_use(what, image, axis, schedule.crew(k + 1, crews), capacity, path)
-    is_known = boxes.known_overlap(axis, digits_of(marks)) if axis.days else lambda text: False
-    return any([boxes.check_boxes(what, image, is_known) for image in images])
+    known = boxes.Known(axis, digits_of(marks) if marks else "")
+    return any([boxes.check_boxes(what, image, known) for image in images])
 
 
 def compare(what, text, schedule, by_job, title, names, machines, marks=None):
     """Compares a page with a schedule. `machines` are the names of machines, or of the resources of a
-    project, `marks` the working days. Returns whether there is a known overlap."""
+    project, `marks` the working days. Returns whether labels have a known fault."""
     page = Page(text)
     same(f"{what}: the titles", (page.texts["title"], page.texts["h1"]), ([title], [title]))
     note = f"Makespan {schedule.makespan}"
@@ -388,12 +403,12 @@ def try_file(draw, folder):
         same(f"{what}, by starts", again, answer)
     if own == ("mwkr" if is_shop else "lft"):
         same(f"{what}, by the default rule", plan(folder, "report", *options, file, *instance), answer)
-    return "known overlap" if is_known else "fine"
+    return "known fault of labels" if is_known else "fine"
 
 
 def try_list(draw, folder):
     """One list with ids: its report by a rule, and at times the one of a search."""
-    drawn = DrawnList(draw)
+    drawn = drawn_list(draw)
     own, file = draw.pick(PROJECT_RULES), written(folder, "list.csv", drawn.text())
     written(folder, "list.sm", plan(folder, "import", file)[1])
     dates, holidays, options = [], b"", []
@@ -413,7 +428,7 @@ def try_list(draw, folder):
     is_known = compare(what, answer[1].decode(), schedule, False, "list.csv", names, crews, *dates[1:])
     if len(drawn.rows) <= MOST_SOLVED:
         try_solved(what, folder, file, options)
-    return "known overlap" if is_known else "fine list"
+    return "known fault of labels" if is_known else "fine list"
 
 
 def try_solved(what, folder, file, options):
@@ -441,10 +456,25 @@ def try_points(folder):
     compare("a report of makespan 0", text.decode(), schedule, False, "points", {}, {}, MARKS[0])
 
 
+def try_long(folder):
+    """Reports with a long axis: with and without images of resource use, and without shades of weeks."""
+    for count, dates in LONG:
+        drawn = long_list(count)
+        written(folder, "list.csv", drawn.text())
+        written(folder, "list.sm", plan(folder, "import", "list.csv")[1])
+        options = ["--start", dates[0], "--days", dates[1]] if dates else []
+        status, text, errors = plan(folder, "report", *options, "list.csv")
+        what = f"a report of {count} long activities {dates}"
+        same(what, (status, errors), (0, b""))
+        schedule = Listed(folder, drawn, "lft", dates, b"")
+        compare(what, text.decode(), schedule, False, "list.csv", {}, drawn.crew_names(), *dates[1:])
+
+
 def try_reports(cases=1000, seed=1, is_verbose=False):
     draw, tally = Draw(Random(seed)), collections.Counter()
     with tempfile.TemporaryDirectory() as folder:
         try_points(folder)
+        try_long(folder)
         for _ in range(cases):
             trial = try_list if draw.chance(0.4) else try_file
             tally[trial(draw, folder)] += 1
