@@ -218,10 +218,6 @@ class Schedule:
     def label(self, number, names):
         return label(number, names)
 
-    def crew(self, k, names):
-        """The label of a resource."""
-        return label(k, names)
-
 
 class Listed(Schedule):
     """The same of a list, whose rows have ids, resources and predecessors."""
@@ -330,7 +326,7 @@ def compare_images(what, images, schedule, crews, marks):
     for k, (image, capacity) in enumerate(zip(uses, capacities)):
         used = [(row["start"], row["end"], schedule.needs[row["act"]][k]) for row in schedule.rows]
         path = boxes.use_path(axis, schedule.makespan, capacity, used)
-        boxes.check_use(what, image, axis, schedule.crew(k + 1, crews), capacity, path)
+        boxes.check_use(what, image, axis, label(k + 1, crews), capacity, path)
     known = boxes.Known(axis, digits_of(marks) if marks else "")
     return any([boxes.check_boxes(what, image, known) for image in images])
 
