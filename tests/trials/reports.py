@@ -68,6 +68,7 @@ LIST_NAMES += ("e\u0301" * 60, "' ^ \\n", "W" * 29, "W" * 30, "W" * 31, "名" * 
 CREWS = ("crew", "Kran süd", "b<i>&c", "職人" * 7, "r" * 25, "r" * 26)
 # The search closes lists of so many rows at once.
 MOST_SOLVED = 8
+HOLIDAYS = b"2025-12-24..2026-01-01\n"
 # The numbers of long activities, and their calendars.
 LONG = ((10, []), (11, []), (100, []), (3, ["2024-03-01", "1111100"]), (11, ["2000-01-01", "1000000"]))
 FIGURE = re.compile(r"(?s)<figure>\n(<svg.*?</svg>)\n</figure>")
@@ -466,11 +467,25 @@ def try_long(folder):
         compare(what, text.decode(), schedule, False, "list.csv", {}, drawn.crew_names(), *dates[1:])
 
 
+def try_moved(folder):
+    """A report in which holidays move the first day of a labelled week (docs/known-gaps.md)."""
+    drawn, dates, holidays = RowList({"crew": 1}, [("A", "Dig", 30, [], [1])]), ["2025-12-01", "mon-fri"], HOLIDAYS
+    written(folder, "list.csv", drawn.text())
+    written(folder, "list.sm", plan(folder, "import", "list.csv")[1])
+    options = ["--start", dates[0], "--days", dates[1], "--holidays", written(folder, "holidays", holidays)]
+    status, text, errors = plan(folder, "report", *options, "list.csv")
+    same("a report with holidays", (status, errors), (0, b""))
+    schedule = Listed(folder, drawn, "lft", dates, holidays)
+    names = drawn.names(), drawn.crew_names()
+    return compare("a report with holidays", text.decode(), schedule, False, "list.csv", *names, dates[1])
+
+
 def try_reports(cases=1000, seed=1, is_verbose=False):
     draw, tally = Draw(Random(seed)), collections.Counter()
     with tempfile.TemporaryDirectory() as folder:
         try_points(folder)
         try_long(folder)
+        try_moved(folder)
         for _ in range(cases):
             trial = try_list if draw.chance(0.4) else try_file
             tally[trial(draw, folder)] += 1
