@@ -138,6 +138,21 @@ def projects(longest=10, all_later=False):
     return project(durations, successors, needs, available)
 
 
+def activity_list():
+    """A list of 500 activities, the greatest number, on 4 crews; each follows up to 3 others."""
+    durations, successors, needs, available = made(502, 12345, 10, 8, 12, 20)
+    before = {j: [] for j in range(1, 503)}
+    for j, nexts in enumerate(successors, 1):
+        for i in nexts:
+            before[i].append(f"a{j}")
+    crews = [f"crew{k}" for k in range(1, 5)]
+    lines = [["id", "name", "duration", "predecessors", *crews], ["capacity", "", "", "", *available]]
+    for j in range(2, 502):
+        own = " ".join(name for name in before[j] if name != "a1")
+        lines.append([f"a{j}", f"Activity {j}", durations[j - 1], own, *needs[j - 1]])
+    return "".join(",".join(map(str, line)) + "\n" for line in lines)
+
+
 def random_project():
     """30 activities on 4 resources, which need up to 5 of 10 each."""
     return project(*made(30, 77, 10, 6, 9, 10))
@@ -155,9 +170,15 @@ def random_shop():
     return shop([random_job(states) for _ in range(10)])
 
 
-def random_job(states):
-    """The steps of a job, once on each of 10 machines."""
-    machines, steps = list(range(10)), []
+def wide_shop():
+    """A shop of 50 jobs on 20 machines, drawn in the same way."""
+    states = numbers(2024)
+    return shop([random_job(states, 20) for _ in range(50)])
+
+
+def random_job(states, count=10):
+    """The steps of a job, once on each of so many machines."""
+    machines, steps = list(range(count)), []
     while machines:
         state = next(states)
         machine = machines.pop((state >> 8) % len(machines))

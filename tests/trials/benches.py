@@ -23,6 +23,10 @@ def try_benches(room):
         path = services.office(PROGRAM, room, count, body())
         found = statuses(replayed(path, request_file(room, text)))
         same(f"the statuses of {name}", found, [status] * 2)
+    for name, body, lags, text, status, _ in services.TIMES:
+        path = services.office(PROGRAM, room, 1, body(), lags)
+        found = statuses(replayed(path, request_file(room, text)))
+        same(f"the statuses of {name}", found, [status] * 2)
     path = growth.office(PROGRAM, room, 10)
     for name, (text, status) in growth.REQUESTS.items():
         output = replayed(path, request_file(room, text % growth.KEY))

@@ -82,10 +82,10 @@ def least_makespan(durations, successors, needs, available, lags=None):
     return trying.least
 
 
-def drawn(draw):
-    """Durations, successors, needs and capacities of a small project: some durations and needs are 0,
-    capacities are 0 to 3."""
-    count, kinds = draw.randint(2, MOST_ACTIVITIES), draw.randint(1, 3)
+def drawn(draw, count=None):
+    """Durations, successors, needs and capacities of a project of so many activities, by default of a
+    small one: some durations and needs are 0, capacities are 0 to 3."""
+    count, kinds = count or draw.randint(2, MOST_ACTIVITIES), draw.randint(1, 3)
     durations = [draw.choice((0, 1, 1, 2, 3, 4, 5)) for _ in range(count)]
     available = [draw.randint(0, 3) for _ in range(kinds)]
     needs = [

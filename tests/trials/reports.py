@@ -1,8 +1,10 @@
 #!/usr/bin/env python3
-"""Reads the pages of `plan report` back, over drawn projects and job shops with names: html.parser
-reads the page, xml.etree each of its images. Title, note, bars and the table are compared with the
-results of other commands as JSON (`schedule`, `shop`, `days`, `cpm`), with the slacks of the model,
-and with the drawn names.
+"""Reads the pages of `plan report` back, over drawn projects and job shops with names, and over lists
+of 1 to 90 activities with ids: html.parser reads the page, xml.etree each of its images. Title, note,
+bars and the table are compared with the results of other commands as JSON (`schedule`, `shop`,
+`days`, `cpm`), with the slacks of the model, and with what was drawn; the places and heights of the
+images with boxes.py. All labels have room, but for those that docs/known-gaps.md names. A report of
+`--solve` is the one of its starts.
 
     tests/trials/reports.py               1,000 files; prints nothing on success
     tests/trials/reports.py CASES SEED    so many, drawn from this seed
@@ -11,8 +13,10 @@ The program is the one that ./plan runs, or the one that PLAN_PROGRAM names.
 """
 
 import collections
+import csv
 import datetime
 import html.parser
+import io
 import json
 import os
 import re
@@ -24,12 +28,14 @@ from random import Random
 sys.dont_write_bytecode = True
 sys.path.insert(0, os.path.dirname(os.path.abspath(__file__)))
 
+import boxes
 from answers import plan, same, written
 from drawing import Draw
-from drawing.words import rule
+from drawing.words import PROJECT_RULES, rule
 from events import NAMES, named_lines, shown_name, with_names
-from holidays import MARKS, STARTS, small_file
-from images import SVG, cut, is_drawn, label, lines_of, place
+from holidays import FIRST, MARKS, STARTS, Calendar, holiday_text, small_file
+from images import SVG, cut, is_drawn, label, lines_of
+from model.holidays import digits_of, read_holidays
 from model.projects import read_project
 from model.verdicts import slack
 
@@ -56,6 +62,15 @@ RESOURCEAVAILABILITIES:
 R 1
 1
 """
+# Names of a list, and of its crews: hostile, wide and long ones, and those that just have room.
+LIST_NAMES = ("", "Roof", 'The "big" one', "<b>&amp;</b>", "a, b; c", "x" * 200, "名前" * 30, "🏗" * 40)
+LIST_NAMES += ("e\u0301" * 60, "' ^ \\n", "W" * 29, "W" * 30, "W" * 31, "名" * 14, "名" * 15, "名" * 16)
+CREWS = ("crew", "Kran süd", "b<i>&c", "職人" * 7, "r" * 25, "r" * 26)
+# The search closes lists of so many rows at once.
+MOST_SOLVED = 8
+HOLIDAYS = b"2025-12-24..2026-01-01\n"
+# The numbers of long activities, and their calendars.
+LONG = ((10, []), (11, []), (100, []), (3, ["2024-03-01", "1111100"]), (11, ["2000-01-01", "1000000"]))
 FIGURE = re.compile(r"(?s)<figure>\n(<svg.*?</svg>)\n</figure>")
 
 
@@ -95,6 +110,58 @@ class Page(html.parser.HTMLParser):
             self.texts[self.open[-1]][-1] += data
 
 
+# ---- what is drawn
+
+
+class RowList:
+    """A list: of each row id, name, duration, predecessors by their places and needs; the names and the
+    capacities of its crews."""
+
+    def __init__(self, crews, rows):
+        self.crews, self.rows = crews, rows
+
+    def names(self):
+        return {k: row[1].encode() for k, row in enumerate(self.rows, 2)}
+
+    def crew_names(self):
+        return {k: name.encode() for k, name in enumerate(self.crews, 1)}
+
+    def text(self):
+        file = io.StringIO()
+        table = csv.writer(file, lineterminator="\n")
+        table.writerow(["id", "name", "duration", "predecessors", *self.crews])
+        for own, name, duration, before, needs in self.rows:
+            table.writerow([own, name, duration, " ".join(self.rows[k][0] for k in before), *needs])
+        if self.crews:
+            table.writerow(["capacity", "", "", "", *self.crews.values()])
+        return file.getvalue().encode()
+
+    def links(self, k):
+        """The cells of the resources and of the predecessors of a row."""
+        _, _, _, before, needs = self.rows[k]
+        used = [f"{crew} {need}" for crew, need in zip(self.crews, needs) if need]
+        return [", ".join(used), ", ".join(self.rows[i][0] for i in before)]
+
+
+def drawn_list(draw):
+    """A list of up to 90 rows; a report has 40 in an image."""
+    count = draw.pick((1, 3, draw.number(1, 8), draw.number(9, 38), draw.number(39, 42), draw.number(43, 90)))
+    crews = {name: draw.pick((1, 2, 3, 7, 10000)) for name in draw.random.sample(CREWS, draw.number(0, 3))}
+    return RowList(crews, [drawn_row(draw, k, crews) for k in range(count)])
+
+
+def drawn_row(draw, k, crews):
+    own = f"{draw.pick(('a', 'B-', 'ü', '名'))}{k}"
+    before = draw.random.sample(range(max(0, k - 6), k), min(k, draw.number(0, 2)))
+    needs = [draw.number(0, most) if draw.chance(0.6) else 0 for most in crews.values()]
+    return own, draw.pick(LIST_NAMES), draw.pick((0, 1, 2, 5, 12, 40)), sorted(before), needs
+
+
+def long_list(count):
+    """A list of so many activities of the longest duration, one after another."""
+    return RowList({"crew": 2}, [(f"a{k}", "", 10000, [k - 1] if k else [], [k % 3]) for k in range(count)])
+
+
 # ---- what is wanted
 
 
@@ -102,7 +169,9 @@ class Schedule:
     """What other commands and the model say of a schedule: its rows, the days of each row, floats and
     slacks."""
 
-    def __init__(self, folder, text, words, dates):
+    ids = None
+
+    def __init__(self, folder, text, words, dates, holidays=()):
         self.is_shop = len(words) > 2
         own, rest = words[0], words[1:]
         command = "shop" if self.is_shop else "schedule"
@@ -111,19 +180,34 @@ class Schedule:
         self.makespan = max(row["end"] for row in self.rows)
         self.days, self.floats, self.slacks = None, None, None
         if dates:
-            days = json.loads(plan(folder, "days", "--format", "json", own, *dates, *rest)[1])["rows"]
+            given = ["--holidays", "holidays"] if holidays else []
+            days = json.loads(plan(folder, "days", *given, "--format", "json", own, *dates, *rest)[1])["rows"]
             self.days = [(row["first"] or "-", row["last"] or "-") for row in days]
+        self.axis = boxes.Axis(self.makespan, self.instants(dates, holidays))
         if not self.is_shop:
+            self.needs, self.capacities = self.uses_of(text)
             self.floats = [row["TF"] for row in json.loads(plan(folder, "cpm", "--format", "json", *rest)[1])["rows"]]
-            self.slacks = self.counted_slacks(read_project(text))
+            self.slacks = self.counted_slacks(text)
             if self.slacks is None:
                 starts = written(folder, "schedule", self.table[1])
                 lines = plan(folder, "slack", *rest, starts)[1].decode().splitlines()[1:-1]
-                self.slacks = [int(line.split()[4]) for line in lines]
+                self.slacks = [int(lines[row["act"] - 1].split()[4]) for row in self.rows]
 
-    def counted_slacks(self, project):
+    def instants(self, dates, holidays):
+        """The ordinals of the working days of all instants, by the model."""
+        if not dates:
+            return []
+        calendar = Calendar(dates[0], digits_of(dates[1]), read_holidays(holidays) if holidays else set())
+        return [number_of(calendar.working_day(t)) for t in range(self.makespan)]
+
+    def uses_of(self, text):
+        """The needs of each activity by its number, and the capacities."""
+        project = read_project(text)
+        return project.needs, project.capacities
+
+    def counted_slacks(self, text):
         """The slacks, or None if there are too many delays to try."""
-        starts = {row["act"]: row["start"] for row in self.rows}
+        project, starts = read_project(text), {row["act"]: row["start"] for row in self.rows}
         return [slack(project, starts, j) for j in starts] if self.makespan <= LONGEST else None
 
     def first_day(self):
@@ -131,6 +215,31 @@ class Schedule:
 
     def last_day(self):
         return max(last for _, last in self.days if last != "-")
+
+    def label(self, number, names):
+        return label(number, names)
+
+
+class Listed(Schedule):
+    """The same of a list, whose rows have ids, resources and predecessors."""
+
+    def __init__(self, folder, drawn, own, dates, holidays):
+        self.drawn, self.ids = drawn, {k: row[0] for k, row in enumerate(drawn.rows, 2)}
+        super().__init__(folder, None, [own, "list.sm"], dates, holidays)
+        same("the ids of the rows", [row["id"] for row in self.rows], [row[0] for row in drawn.rows])
+
+    def uses_of(self, text):
+        """A list without resources is a project with one that nothing needs."""
+        needs = {k: row[4] or [0] for k, row in enumerate(self.drawn.rows, 2)}
+        return needs, list(self.drawn.crews.values()) or [0]
+
+    def counted_slacks(self, text):
+        """None: `plan slack` counts the slacks of lists."""
+        return None
+
+    def label(self, number, names):
+        name = shown_name(names.get(number, b""))
+        return f"{self.ids[number]} {name}" if name else self.ids[number]
 
 
 def number_of(day):
@@ -141,39 +250,32 @@ def cells_of(schedule, k, row, names, machines):
     """The cells of a row of the table."""
     number = row.get("act", row.get("job"))
     step = f".{row['step']}" if schedule.is_shop else ""
-    cells = [f"{number}{step}", shown_name(names.get(number, b""))]
+    first = schedule.ids[number] if schedule.ids else f"{number}{step}"
+    cells = [first, shown_name(names.get(number, b""))]
     if schedule.is_shop:
         cells.append(label(row["mach"], machines))
     cells += [str(row["end"] - row["start"]), str(row["start"]), str(row["end"])]
     cells += schedule.days[k] if schedule.days else ()
     if not schedule.is_shop:
-        cells += [str(schedule.floats[k]), str(schedule.slacks[k])]
-    return cells
+        unit = " d" if schedule.ids and schedule.days else ""
+        cells += [f"{schedule.floats[k]}{unit}", f"{schedule.slacks[k]}{unit}"]
+    return cells + (schedule.drawn.links(k) if schedule.ids else [])
 
 
 def heads_of(schedule):
-    found = ["No.", "Name", *(["Machine"] if schedule.is_shop else []), "Duration", "Start", "End"]
-    found += ["First day", "Last day"] if schedule.days else []
-    return found + (["Float", "Slack"] if not schedule.is_shop else [])
+    found = ["Id" if schedule.ids else "No.", "Name", *(["Machine"] if schedule.is_shop else [])]
+    found += ["Duration", "Start", "End"] + (["First day", "Last day"] if schedule.days else [])
+    found += ["Float", "Slack"] if not schedule.is_shop else []
+    return found + (["Resources", "Predecessors"] if schedule.ids else [])
 
 
-def ends_of(schedule, k, row):
-    """Where a bar begins and ends on the axis, and the length of the axis."""
-    if not schedule.days:
-        return place(schedule.makespan, row["start"]), place(schedule.makespan, row["end"])
-    origin = number_of(schedule.first_day())
-    span = number_of(schedule.last_day()) - origin + 1
-    first, last = schedule.days[k]
-    return place(span, number_of(first) - origin), place(span, number_of(last) - origin + 1)
-
-
-def wanted_bar(schedule, k, row, names):
+def wanted_bar(schedule, row, names):
     number = row.get("act", row.get("job"))
     step = f", step {row['step']}" if schedule.is_shop else ""
-    tip = f"{label(number, names)}{step}, {row['start']} to {row['end']}"
+    tip = f"{schedule.label(number, names)}{step}, {row['start']} to {row['end']}"
     if row["start"] == row["end"]:
-        return "path", None, None, tip
-    left, right = ends_of(schedule, k, row)
+        return "path", schedule.axis.to_place(row["end"]), None, tip
+    left, right = schedule.axis.from_place(row["start"]), schedule.axis.to_place(row["end"])
     return "rect", left, max(right - left, 3), tip
 
 
@@ -182,13 +284,13 @@ def wanted_lines(schedule, by_job, names, machines):
     key = ("job" if by_job else "mach") if schedule.is_shop else "act"
     titles = machines if key == "mach" else names
     found = {}
-    for k, row in enumerate(schedule.rows):
+    for row in schedule.rows:
         own = found.setdefault(row[key], [])
         if is_drawn(row.get("step", 0), row["start"], row["end"]):
-            own.append(wanted_bar(schedule, k, row, names))
+            own.append(wanted_bar(schedule, row, names))
     # A job has as many steps as there are machines, some of which may have none.
     numbers = range(max(row["step"] for row in schedule.rows)) if key == "mach" else sorted(found)
-    return [(cut(label(number, titles)), found.get(number, [])) for number in numbers]
+    return [(cut(schedule.label(number, titles)), found.get(number, [])) for number in numbers]
 
 
 # ---- the trial
@@ -207,19 +309,32 @@ def tails_of(image):
 
 
 def wanted_tails(schedule):
-    """The same, of the schedule of a project without days."""
+    """The same, of the schedule of a project."""
     rows = [(row["end"], slack) for row, slack in zip(schedule.rows, schedule.slacks) if row["start"] < row["end"]]
-    span = schedule.makespan
-    return [(place(span, end), place(span, end + slack)) for end, slack in rows if slack]
+    return [(schedule.axis.to_place(end), schedule.axis.to_place(end + slack)) for end, slack in rows if slack]
 
 
-def without_places(lines):
-    """Lines in which a milestone has no place; a page has it where the instant ends."""
-    return [(name, [bar if bar[0] == "rect" else ("path", None, None, bar[3]) for bar in bars]) for name, bars in lines]
+def compare_images(what, images, schedule, crews, marks):
+    """Compares the sizes and the marks of all images, the use of resources, and the boxes of labels.
+    Returns whether there is a known fault."""
+    axis = schedule.axis
+    charts = [image for image in images if image.findall(SVG + "g")]
+    boxes.check_chart(what, charts, axis)
+    uses = images[len(charts) :]
+    has_uses = not schedule.is_shop and schedule.makespan <= boxes.MOST_USED
+    capacities = schedule.capacities if has_uses else []
+    same(f"{what}: the images of resources", len(uses), len(capacities))
+    for k, (image, capacity) in enumerate(zip(uses, capacities)):
+        used = [(row["start"], row["end"], schedule.needs[row["act"]][k]) for row in schedule.rows]
+        path = boxes.use_path(axis, schedule.makespan, capacity, used)
+        boxes.check_use(what, image, axis, label(k + 1, crews), capacity, path)
+    known = boxes.Known(axis, digits_of(marks) if marks else "")
+    return any([boxes.check_boxes(what, image, known) for image in images])
 
 
-def compare(what, text, schedule, by_job, title, names, machines):
-    """Compares a page with a schedule."""
+def compare(what, text, schedule, by_job, title, names, machines, marks=None):
+    """Compares a page with a schedule. `machines` are the names of machines, or of the resources of a
+    project, `marks` the working days. Returns whether labels have a known fault."""
     page = Page(text)
     same(f"{what}: the titles", (page.texts["title"], page.texts["h1"]), ([title], [title]))
     note = f"Makespan {schedule.makespan}"
@@ -229,16 +344,26 @@ def compare(what, text, schedule, by_job, title, names, machines):
     images = [ElementTree.fromstring(image) for image in FIGURE.findall(text)]
     charts = [image for image in images if image.findall(SVG + "g")]
     found = sum((lines_of(image) for image in charts), [])
-    same(f"{what}: the lines", without_places(found), wanted_lines(schedule, by_job, names, machines))
+    same(f"{what}: the lines", found, wanted_lines(schedule, by_job, names, machines))
     tights = sum((tights_of(image) for image in charts), [])
     slacks = schedule.slacks or [None] * len(schedule.rows)
     drawn = [slack == 0 for row, slack in zip(schedule.rows, slacks) if row["start"] < row["end"]]
     same(f"{what}: the bars without slack", sorted(tights), sorted(drawn))
-    if schedule.slacks is not None and not schedule.days:
+    if schedule.slacks is not None:
         tails = sum((tails_of(image) for image in charts), [])
         same(f"{what}: the tails", tails, wanted_tails(schedule))
     rows = [cells_of(schedule, k, row, names, machines) for k, row in enumerate(schedule.rows)]
     same(f"{what}: the table", page.rows, [heads_of(schedule), *rows])
+    return compare_images(what, images, schedule, machines, marks)
+
+
+def drawn_dates(draw, folder, start, marks):
+    """The words of a calendar, the bytes of its holidays, and the words of both for `report`."""
+    holidays = holiday_text(draw) if draw.chance(0.5) else b""
+    options = ["--start", start, "--days", marks]
+    if holidays:
+        options += ["--holidays", written(folder, "holidays", holidays)]
+    return [start, marks], holidays, options
 
 
 def try_file(draw, folder):
@@ -250,26 +375,72 @@ def try_file(draw, folder):
     if is_shop:
         text, machines = named_lines(draw, text, instance, b"+ machine ", range(0, 4))
     own, file = rule(draw, is_shop), written(folder, "drawn", text)
-    dates = [draw.pick(STARTS), draw.pick(MARKS)] if draw.chance(0.5) else []
+    dates, holidays, options = [], b"", []
+    if draw.chance(0.5):
+        dates, holidays, options = drawn_dates(draw, folder, draw.pick(STARTS), draw.pick(MARKS))
     by_job = is_shop and draw.chance(0.5)
     title = shown_name(draw.pick(NAMES)) if draw.chance(0.5) else None
-    options = [*(["--start", dates[0], "--days", dates[1]] if dates else []), *(["--by", "job"] if by_job else [])]
+    options += ["--by", "job"] if by_job else []
     options += [f"--title={title}"] if title else []
-    what = f"{text!r}"[:3000] + f": report {own} {options} {instance}"
+    what = f"{text!r} with {holidays!r}"[:3000] + f": report {own} {options} {instance}"
     answer = plan(folder, "report", "--rule", own, *options, file, *instance)
-    other = plan(folder, *(["days", own, *dates] if dates else ["chart", own]), file, *instance)
+    given = ["--holidays", "holidays"] if holidays else []
+    other = plan(folder, *(["days", *given, own, *dates] if dates else ["chart", own]), file, *instance)
     if other[0]:
         same(what, answer, other)
         return other[2].split(b" ")[0].decode()
     same(f"{what}: the status and the errors", (answer[0], answer[2]), (0, b""))
-    schedule = Schedule(folder, text, [own, file, *instance], dates)
+    schedule = Schedule(folder, text, [own, file, *instance], dates, holidays)
     default = instance[0] if is_shop and instance[0] != "-" else "drawn"
-    compare(what, answer[1].decode(), schedule, by_job, title or default, names, machines)
+    page = answer[1].decode()
+    is_known = compare(what, page, schedule, by_job, title or default, names, machines, *dates[1:])
     if draw.chance(0.5):
         listed = written(folder, "starts", schedule.table[1])
         again = plan(folder, "report", "--starts", listed, *options, file, *instance)
         same(f"{what}, by starts", again, answer)
-    return "fine"
+    if own == ("mwkr" if is_shop else "lft"):
+        same(f"{what}, by the default rule", plan(folder, "report", *options, file, *instance), answer)
+    return "known fault of labels" if is_known else "fine"
+
+
+def try_list(draw, folder):
+    """One list with ids: its report by a rule, and at times the one of a search."""
+    drawn = drawn_list(draw)
+    own, file = draw.pick(PROJECT_RULES), written(folder, "list.csv", drawn.text())
+    written(folder, "list.sm", plan(folder, "import", file)[1])
+    dates, holidays, options = [], b"", []
+    if draw.chance(0.7):
+        start = datetime.date.fromordinal(draw.number(FIRST, FIRST + 30)).isoformat()
+        dates, holidays, options = drawn_dates(draw, folder, start, draw.pick(MARKS))
+    what = f"{drawn.text().decode()} with {holidays!r}"[:3000] + f": report {own} {options}"
+    answer = plan(folder, "report", "--rule", own, *options, file)
+    given = ["--holidays", "holidays"] if holidays else []
+    other = plan(folder, *(["days", *given, own, *dates] if dates else ["chart", own]), file)
+    if other[0]:
+        same(what, answer, other)
+        return other[2].split(b" ")[0].decode()
+    same(f"{what}: the status and the errors", (answer[0], answer[2]), (0, b""))
+    schedule = Listed(folder, drawn, own, dates, holidays)
+    names, crews = drawn.names(), drawn.crew_names()
+    is_known = compare(what, answer[1].decode(), schedule, False, "list.csv", names, crews, *dates[1:])
+    if len(drawn.rows) <= MOST_SOLVED:
+        try_solved(what, folder, file, options)
+    return "known fault of labels" if is_known else "fine list"
+
+
+def try_solved(what, folder, file, options):
+    """The report of a search: that of the starts in its table, and a least makespan in its note."""
+    status, text, errors = plan(folder, "report", "--solve", *options, file)
+    same(f"{what}: a search", (status, errors), (0, b""))
+    starts = [row[3] for row in Page(text.decode()).rows[1:]]
+    ends = max(int(row[4]) for row in Page(text.decode()).rows[1:])
+    listed = written(folder, "starts", " ".join(["0", *starts, str(ends)]).encode())
+    by_starts = plan(folder, "report", "--starts", listed, *options, file)
+    shown = text.replace(b", optimal %d</p>" % ends, b"</p>")
+    same(f"{what}: a search and its starts", (0, shown, b""), by_starts)
+    first = plan(folder, "solve", "--conflicts", "1000000", file)[1].split(b"\n")[0]
+    same(f"{what}: the least makespan", first, b"optimal %d" % ends)
+    same(f"{what}: the note", len(text) - len(shown), len(", optimal ") + len(str(ends)))
 
 
 def try_points(folder):
@@ -279,15 +450,45 @@ def try_points(folder):
     status, text, errors = plan(folder, *words)
     same("a report of makespan 0", (status, errors), (0, b""))
     schedule = Schedule(folder, POINTS, ["lft", file], dates)
-    compare("a report of makespan 0", text.decode(), schedule, False, "points", {}, {})
+    compare("a report of makespan 0", text.decode(), schedule, False, "points", {}, {}, MARKS[0])
+
+
+def try_long(folder):
+    """Reports with a long axis: with and without images of resource use, and without shades of weeks."""
+    for count, dates in LONG:
+        drawn = long_list(count)
+        written(folder, "list.csv", drawn.text())
+        written(folder, "list.sm", plan(folder, "import", "list.csv")[1])
+        options = ["--start", dates[0], "--days", dates[1]] if dates else []
+        status, text, errors = plan(folder, "report", *options, "list.csv")
+        what = f"a report of {count} long activities {dates}"
+        same(what, (status, errors), (0, b""))
+        schedule = Listed(folder, drawn, "lft", dates, b"")
+        compare(what, text.decode(), schedule, False, "list.csv", {}, drawn.crew_names(), *dates[1:])
+
+
+def try_moved(folder):
+    """A report in which holidays move the first day of a labelled week (docs/known-gaps.md)."""
+    drawn, dates, holidays = RowList({"crew": 1}, [("A", "Dig", 30, [], [1])]), ["2025-12-01", "mon-fri"], HOLIDAYS
+    written(folder, "list.csv", drawn.text())
+    written(folder, "list.sm", plan(folder, "import", "list.csv")[1])
+    options = ["--start", dates[0], "--days", dates[1], "--holidays", written(folder, "holidays", holidays)]
+    status, text, errors = plan(folder, "report", *options, "list.csv")
+    same("a report with holidays", (status, errors), (0, b""))
+    schedule = Listed(folder, drawn, "lft", dates, holidays)
+    names = drawn.names(), drawn.crew_names()
+    return compare("a report with holidays", text.decode(), schedule, False, "list.csv", *names, dates[1])
 
 
 def try_reports(cases=1000, seed=1, is_verbose=False):
     draw, tally = Draw(Random(seed)), collections.Counter()
     with tempfile.TemporaryDirectory() as folder:
         try_points(folder)
+        try_long(folder)
+        try_moved(folder)
         for _ in range(cases):
-            tally[try_file(draw, folder)] += 1
+            trial = try_list if draw.chance(0.4) else try_file
+            tally[trial(draw, folder)] += 1
     if is_verbose:
         print(f"{cases} reports by seed {seed}: {dict(tally)}")
 

@@ -2,8 +2,11 @@
 """Random projects of up to nine activities, with durations, needs and capacities of 0, and random job
 shops. The optimum of `plan solve` is that of all serial schedules (least_makespans.py) and of
 `plan best-project`, for a job shop that of `plan best`. With 1 to 50 conflicts it lies within the
-bounds. The schedules are checked here: they are feasible, and no activity of a project can start
-earlier by itself. A shop of the literature takes several turns of both searches.
+bounds. With one conflict it is no longer than the schedule of any priority rule, and its lower bound
+is at least the longest path and the work of each resource over its capacity, for a job shop the
+longest job and the busiest machine: for these projects and shops and for larger ones. The schedules
+are checked here: they are feasible, and no activity of a project can start earlier by itself. A shop
+of the literature takes several turns of both searches.
 
     tests/trials/solutions.py               1,000 projects and shops; prints nothing on success
     tests/trials/solutions.py CASES SEED    CASES of each, drawn from this seed
@@ -22,6 +25,14 @@ import proofs
 from answers import Wrong, plan, same, written
 
 ENOUGH = "1000000"
+
+# The priority rules of projects and of job shops.
+PROJECT_RULES = ("lft", "slk", "mts", "spt", "num")
+SHOP_RULES = ("spt", "mwkr", "fcfs")
+
+# The activities of a larger project, and the jobs and machines of a larger shop.
+MANY = 30
+MANY_JOBS, MANY_MACHINES = 8, 5
 
 # 10 jobs on 10 machines (Fisher and Thompson 1963).
 TEN = """\
@@ -66,6 +77,82 @@ def judge(what, parts, table):
     return max(line[3] for line in table)
 
 
+def longest_path(durations, successors):
+    """The greatest sum of the durations of a chain of activities; successors have greater numbers."""
+    ends = list(durations)
+    for j, nexts in enumerate(successors):
+        for i in nexts:
+            ends[i - 1] = max(ends[i - 1], ends[j] + durations[i - 1])
+    return max(ends)
+
+
+def simple_bound(parts):
+    """The longest path of a project, or the work of a resource over its capacity if that is more."""
+    durations, successors, needs, available = parts
+    work = [sum(d * row[k] for d, row in zip(durations, needs)) for k in range(len(available))]
+    over = [-(-units // most) for units, most in zip(work, available) if most > 0]
+    return max([longest_path(durations, successors), *over])
+
+
+def simple_shop_bound(rows):
+    """The longest job of a shop, or its busiest machine if that takes more."""
+    steps = [step for row in rows for step in row]
+    machines = {machine for machine, _ in steps}
+    loads = [sum(time for at, time in steps if at == machine) for machine in machines]
+    return max([sum(time for _, time in row) for row in rows] + loads)
+
+
+def of_rules(what, folder, command, rules, *words):
+    """The makespan of the schedule of each rule."""
+    found = {}
+    for rule in rules:
+        status, text, _ = plan(folder, command, rule, *words)
+        same(f"{what}: {command} {rule}", status, 0)
+        found[rule] = int(text.decode().split()[-1])
+    return found
+
+
+def at_once(what, folder, bound, rules, *words):
+    """The makespan and the table of a search of one conflict, no worse than the rules and a bound."""
+    found, table = proofs.answer_of(what, plan(folder, "solve", "--conflicts", "1", *words))
+    least_one, makespan = int(found[1]), int(found[-1])
+    for rule, other in rules.items():
+        if makespan > other:
+            raise Wrong(f"{what}: one conflict leaves {makespan}, {rule} gives {other}")
+    if least_one < bound:
+        raise Wrong(f"{what}: one conflict shows {least_one}, and {bound} is a lower bound")
+    return makespan, table
+
+
+def try_simple_project(what, parts, folder, file):
+    """A project by a search of one conflict, beside its rules and its simple bound."""
+    rules = of_rules(what, folder, "schedule", PROJECT_RULES, file)
+    makespan, table = at_once(what, folder, simple_bound(parts), rules, file)
+    same(f"{what}: one conflict", judge(what, parts, table), makespan)
+
+
+def try_simple_shop(what, rows, folder, shop):
+    """A shop by a search of one conflict, beside its rules and its simple bound."""
+    rules = of_rules(what, folder, "shop", SHOP_RULES, shop, "-")
+    makespan, table = at_once(what, folder, simple_shop_bound(rows), rules, shop, "-")
+    same(f"{what}: one conflict", proofs.judge(what, rows, table), makespan)
+
+
+def try_large_project(draw, folder):
+    """A project of 30 activities, of which one conflict hides less."""
+    parts = least.drawn(draw, MANY)
+    what = least.files.project(*parts)
+    try_simple_project(what, parts, folder, written(folder, "large.sm", what.encode()))
+
+
+def try_large_shop(draw, folder):
+    """A shop of eight jobs on five machines, of which one conflict hides less."""
+    orders = [draw.sample(range(MANY_MACHINES), MANY_MACHINES) for _ in range(MANY_JOBS)]
+    rows = [[(machine, draw.randint(0, 20)) for machine in order] for order in orders]
+    what = proofs.text_of(rows)
+    try_simple_shop(what, rows, folder, written(folder, "large.txt", what.encode()))
+
+
 def try_project(draw, folder):
     """One project, by a search to its end and by one with few conflicts."""
     parts = least.drawn(draw)
@@ -86,6 +173,7 @@ def try_project(draw, folder):
     same(f"{what}: {few} conflicts", int(found[-1]), makespan)
     if not least.is_right(" ".join(found), optimum):
         raise Wrong(f"{what}: {optimum} isn't within {found}")
+    try_simple_project(what, parts, folder, file)
     return found[0]
 
 
@@ -104,6 +192,7 @@ def try_shop(draw, folder):
     same(f"{what}: {few} conflicts", int(found[-1]), makespan)
     if best[0] != "optimal" or not least.is_right(" ".join(found), int(best[1])):
         raise Wrong(f"{what}: {best} isn't within {found}")
+    try_simple_shop(what, rows, folder, shop)
     return found[0]
 
 
@@ -123,10 +212,13 @@ def try_turns(folder):
 
 
 def try_solutions(cases, seed, is_verbose=False):
-    """So many random projects, and as many job shops."""
+    """So many random projects, as many job shops, and a quarter as many larger ones of each kind."""
     draw = Random(f"solutions {seed}")
     with tempfile.TemporaryDirectory() as folder:
         try_turns(folder)
+        for _ in range(cases // 4 or 1):
+            try_large_project(draw, folder)
+            try_large_shop(draw, folder)
         for name, trial in (("projects", try_project), ("shops", try_shop)):
             kinds = [trial(draw, folder) for _ in range(cases)]
             if kinds.count("optimal") < cases // 3:
