@@ -2,6 +2,7 @@
 #![tactic(auto)]
 
 mod cell;
+mod characters;
 mod column;
 mod csv_records;
 mod day_text;
@@ -17,6 +18,7 @@ mod plain_text;
 mod table;
 
 pub use cell::{Cell, day_cell};
+pub use characters::characters;
 pub use column::{Column, Layout};
 pub use csv_records::csv_text;
 pub use format::{Format, format_table};

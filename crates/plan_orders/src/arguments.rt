@@ -871,7 +871,7 @@ const SERVER_COMMANDS: [Entry; 7] = [
             Argument {
                 name: "COUNT",
                 form: Form::Count,
-                help: "how many connections to serve, 1 to 1000000",
+                help: "how many connections to serve, 1 to 4294967295",
             },
             Argument {
                 name: "patience",
@@ -1042,8 +1042,8 @@ fn arg_of<'a>(alloc: Global, argument: &Argument) -> Result<Arg<'a>, AllocError>
         Form::Kind => arg.value_parser(KINDS),
         Form::Port => arg.value_parser(value_parser!(u16).range(1..=65535)),
         Form::Count => arg
-            .value_parser(value_parser!(u32).range(1..=1000000))
-            .default_value("1000000"),
+            .value_parser(value_parser!(u32).range(1..=4294967295))
+            .default_value("4294967295"),
         Form::Seconds => arg
             .long(argument.name)
             .value_name("SECONDS")

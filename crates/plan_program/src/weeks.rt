@@ -68,7 +68,7 @@ pub(crate) fn week_order<'a>(
         conflicts,
         format: match rows {
             Rows::In(format) => Some(format),
-            Rows::Plain | Rows::Named => None,
+            Rows::Plain | Rows::Named | Rows::Listed => None,
         },
     })
 }
