@@ -27,11 +27,11 @@ begins byte = not (leb 128 byte && ltb byte 192)
 
 -- the number of characters of a text
 abbrev pub characters : List ℕ → ℕ
-characters text = count_by begins text
+characters bytes = count_by begins bytes
 
 -- a text behind a blank, aligned right in a number of characters; a longer text isn't cut
 abbrev pub words_column : ℕ → List ℕ → List ℕ
-words_column places text = 32 ∷ replicate (places - characters text) 32 ++ text
+words_column places words = 32 ∷ replicate (places - characters words) 32 ++ words
 
 -- the column has the names behind the rows
 abbrev pub is_label : Layout → Bool

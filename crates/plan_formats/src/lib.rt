@@ -2,7 +2,6 @@
 #![tactic(auto)]
 
 mod cell;
-mod characters;
 mod column;
 mod csv_records;
 mod day_text;
@@ -16,9 +15,9 @@ mod name_columns;
 mod named_table;
 mod plain_text;
 mod table;
+mod utf8;
 
 pub use cell::{Cell, day_cell};
-pub use characters::characters;
 pub use column::{Column, Layout};
 pub use csv_records::csv_text;
 pub use format::{Format, format_table};
@@ -28,3 +27,4 @@ pub use line::Line;
 pub use named_table::{with_column, with_names};
 pub use plain_text::table_text;
 pub use table::Table;
+pub use utf8::characters;

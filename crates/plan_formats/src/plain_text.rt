@@ -9,11 +9,11 @@ ghost use Rattle.plan_formats.specs.Tables.{cells_of, rows_of, table_of};
 ghost use Rattle.plan_formats.specs.TableText as spec;
 
 use crate::cell::{Cell, is_empty};
-use crate::characters::characters;
 use crate::column::{Column, Layout};
 use crate::day_text::day_text;
 use crate::line_text::push_lines;
 use crate::table::Table;
+use crate::utf8::characters;
 use std::alloc::{AllocError, Global};
 
 // A row of the text: its characters, and its label, which is an empty cell if it has none.

@@ -1,6 +1,6 @@
 use Rattle.std.proofs.Common.{◌≡◌, take}
 use Rattle.plan_formats.specs.Columns.{characters}
-use Rattle.plan_formats.proofs.characters.characters.Given as goal
+use Rattle.plan_formats.proofs.utf8.characters.Given as goal
 
 -- the characters so far
 abbrev pub invariant-loop-byte : goal.invariant-loop-byte
