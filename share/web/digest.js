@@ -1,2 +1,2 @@
 // The SHA-256 of plan.wasm. Written by share/web/engine/make.
-export const DIGEST = "6a70bd576ce232c183fe024384226fedddbc70067aa424e46cd08c92cc4f2cd6";
+export const DIGEST = "90aba09e1dab3cce2c51f9d3b1add89f06fc3adb636ba3b5e1cdfc4e95c0b214";
