@@ -375,6 +375,11 @@ named_front : (task : Task) → HoldsByFront (ShowsTask rows.Named task)
 named_front task file text (view, is, named) =
     subst (λ (bytes : List ℕ). ShowsTask rows.Named task bytes text) (whole_front file (view_short task (take (longest_text + 1) file) view is)) (view, is, named)
 
+-- the text of a task for the front of a list is that for the list
+listed_front : (task : Task) → HoldsByFront (ShowsTask rows.Listed task)
+listed_front task file text (view, is, made) =
+    subst (λ (bytes : List ℕ). ShowsTask rows.Listed task bytes text) (whole_front file (view_short task (take (longest_text + 1) file) view is)) (view, is, made)
+
 -- the text of a task in a format for the front of a file is that for the file
 formatted_front : (task : Task) (format : Format) → HoldsByFront (ShowsTask (rows.In format) task)
 formatted_front task format file text (view, is, made) =
@@ -384,4 +389,5 @@ formatted_front task format file text (view, is, made) =
 pub shown_front : (task : Task) (names : Rows) → HoldsByFront (ShowsTask names task)
 shown_front task rows.Plain = task_front task
 shown_front task rows.Named = named_front task
+shown_front task rows.Listed = listed_front task
 shown_front task (rows.In format) = formatted_front task format

@@ -257,6 +257,32 @@ const NOW: Argument = Argument {
         date; what has begun or is done stays as it is",
 };
 
+const CHECK_NOW: Argument = Argument {
+    name: "now",
+    form: Form::Now,
+    help: "for a list of activities: check from the instant T on, 0 to 10000000 or, with --start, a \
+        date; what has begun or is done stays as it is",
+};
+
+const LIST_START: Argument = Argument {
+    name: "start",
+    form: Form::ReportStart,
+    help: "for a list of activities: read the dates in its cells; the day of instant 0, for example \
+        2027-05-03",
+};
+
+const MARKED_DAYS: Argument = Argument {
+    name: "days",
+    form: Form::ReportDays,
+    help: "the working days, as for plan days",
+};
+
+const DATED_HOLIDAYS: Argument = Argument {
+    name: "holidays",
+    form: Form::ReportHolidays,
+    help: "skip the days in this file, or - for standard input",
+};
+
 const GOAL: Argument = Argument {
     name: "goal",
     form: Form::Goal,
@@ -545,11 +571,16 @@ const PROJECT_COMMANDS: [Entry; 6] = [
         about: "Checks the start times of a schedule, and prints the first violation",
         examples: "Examples:\n  \
             plan check examples/six.sm examples/starts.txt\n  \
-            plan shop mwkr examples/shops.txt ft06 | plan check examples/shops.txt - ft06",
+            plan shop mwkr examples/shops.txt ft06 | plan check examples/shops.txt - ft06\n  \
+            plan solve --now 8 examples/week.csv | plan check --now 8 examples/week.csv -",
         arguments: &[
             FILE_OR_LIST,
             GIVEN_STARTS,
             INSTANCE_IF_SHOP,
+            CHECK_NOW,
+            LIST_START,
+            MARKED_DAYS,
+            DATED_HOLIDAYS,
             MAP,
             IGNORE,
             UNIT,
@@ -557,7 +588,8 @@ const PROJECT_COMMANDS: [Entry; 6] = [
             Argument {
                 name: "status",
                 form: Form::Flag,
-                help: "exit with status 3 if the schedule isn't active",
+                help: "exit with status 3 unless the schedule is active, or for a list with dates \
+                    feasible",
             },
         ],
     },
@@ -669,22 +701,9 @@ const SCHEDULE_COMMANDS: [Entry; 5] = [
             },
             NOW,
             GOAL,
-            Argument {
-                name: "start",
-                form: Form::ReportStart,
-                help: "for a list of activities: read the dates in its cells; the day of instant 0, \
-                    for example 2027-05-03",
-            },
-            Argument {
-                name: "days",
-                form: Form::ReportDays,
-                help: "the working days, as for plan days",
-            },
-            Argument {
-                name: "holidays",
-                form: Form::ReportHolidays,
-                help: "skip the days in this file, or - for standard input",
-            },
+            LIST_START,
+            MARKED_DAYS,
+            DATED_HOLIDAYS,
             CAPACITY_IF_PROJECT,
             MAP,
             IGNORE,
@@ -819,16 +838,8 @@ const SCHEDULE_COMMANDS: [Entry; 5] = [
                 form: Form::ReportStart,
                 help: "show days: the first date, for example 2024-03-01",
             },
-            Argument {
-                name: "days",
-                form: Form::ReportDays,
-                help: "the working days, as for plan days",
-            },
-            Argument {
-                name: "holidays",
-                form: Form::ReportHolidays,
-                help: "skip the days in this file, or - for standard input",
-            },
+            MARKED_DAYS,
+            DATED_HOLIDAYS,
             REPORT_WEEKDAYS,
             REPORT_PER_DAY,
             OPENS,
@@ -871,7 +882,7 @@ const SERVER_COMMANDS: [Entry; 7] = [
             Argument {
                 name: "COUNT",
                 form: Form::Count,
-                help: "how many connections to serve, 1 to 1000000",
+                help: "how many connections to serve, 1 to 4294967295",
             },
             Argument {
                 name: "patience",
@@ -1042,8 +1053,8 @@ fn arg_of<'a>(alloc: Global, argument: &Argument) -> Result<Arg<'a>, AllocError>
         Form::Kind => arg.value_parser(KINDS),
         Form::Port => arg.value_parser(value_parser!(u16).range(1..=65535)),
         Form::Count => arg
-            .value_parser(value_parser!(u32).range(1..=1000000))
-            .default_value("1000000"),
+            .value_parser(value_parser!(u32).range(1..=4294967295))
+            .default_value("4294967295"),
         Form::Seconds => arg
             .long(argument.name)
             .value_name("SECONDS")

@@ -59,7 +59,7 @@ fn task_context<'a>(task: Task<'a>, file: &'a str) -> Context<'a> {
     }
 }
 
-// Returns a context with the dates and the holidays of `solve`.
+// Returns a context with the dates and the holidays of a list with dates.
 fn week_context<'a>(context: Context<'a>, week: &WeekWords<'a>) -> Context<'a> {
     let context = Context {
         holidays: week.holidays,
@@ -69,6 +69,15 @@ fn week_context<'a>(context: Context<'a>, week: &WeekWords<'a>) -> Context<'a> {
         Some(dates) => with_dates(context, dates),
         None => context,
     }
+}
+
+// Returns the context of a check of the starts in a file.
+fn check_context<'a>(file: &'a str, starts: &'a str, week: &WeekWords<'a>) -> Context<'a> {
+    let context = Context {
+        starts: Some(starts),
+        ..file_context(file)
+    };
+    week_context(context, week)
 }
 
 // Returns a context with a text in a file of its own.
@@ -185,10 +194,12 @@ impl<'a> FileOrder<'a> {
                 texts,
                 ..
             } => texts_context(task, file, texts),
-            FileOrder::Check { file, starts, .. } => Context {
-                starts: Some(starts),
-                ..file_context(file)
-            },
+            FileOrder::Check {
+                file,
+                starts,
+                week,
+                ..
+            } => check_context(file, starts, &week),
             FileOrder::Verify { file, log, .. } => Context {
                 log: Some(log),
                 ..file_context(file)

@@ -2,4 +2,4 @@
 
 /// The digest of all sources of the program but this file, in hexadecimal digits, as
 /// `./release --digest` prints it.
-pub(crate) const SOURCES: &str = "3ba3efe7e61b15a60e77205bdead0540759050dd6445b42f8a4fe93e549afc48";
+pub(crate) const SOURCES: &str = "7ff512e2d88934844300fb621c681546d0ee6b73b67f9f74be587ce82fd27900";

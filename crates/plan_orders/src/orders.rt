@@ -29,9 +29,9 @@ pub struct WeekWords<'a> {
     pub now: Option<Now<'a>>,
     /// The goal, if it is given.
     pub goal: Option<Goal>,
-    /// The dates of the calendar of `solve`, without holidays, if they are given.
+    /// The dates of the calendar of `solve` or `check`, without holidays, if they are given.
     pub dates: Option<Dates<'a>>,
-    /// The name of the file of holidays of `solve`, if it is given.
+    /// The name of the file of holidays of `solve` or `check`, if it is given.
     pub holidays: Option<&'a str>,
 }
 
@@ -62,11 +62,15 @@ pub enum FileOrder<'a> {
         /// The options of a list with dates, if the task prints working days of the best schedule.
         week: Option<WeekWords<'a>>,
     },
-    /// A check of the starts in a file. The verdict decides the status.
+    /// A check of the starts in a file.
     Check {
         subject: Subject<'a>,
         file: &'a str,
         starts: &'a str,
+        /// Whether the verdict decides the status.
+        has_status: bool,
+        /// The options of a list with dates.
+        week: WeekWords<'a>,
     },
     /// A check of the log of a search. The problem is the project in a file, or an instance of a
     /// job shop file.
@@ -116,18 +120,28 @@ fn texts_input(file: &str, texts: &[NamedText<'_>]) -> Option<(&'static str, &'s
     None
 }
 
+// Returns the names of two arguments that are standard input, if there are two of the file, the starts
+// and the holidays.
+fn named_input(
+    file: &str,
+    starts: &str,
+    holidays: Option<&str>,
+) -> Option<(&'static str, &'static str)> {
+    match (file, starts, holidays) {
+        ("-", "-", _) => Some(("FILE", "STARTS")),
+        (_, "-", Some("-")) => Some(("STARTS", "HOLIDAYS")),
+        ("-", _, Some("-")) => Some(("FILE", "HOLIDAYS")),
+        _ => None,
+    }
+}
+
 // Returns the names of two arguments of a print that are standard input, if there are two.
 fn print_input(print: &Print<'_>) -> Option<(&'static str, &'static str)> {
     let starts = match print.origin {
         NamedOrigin::Starts(name) => name,
         NamedOrigin::Rule(_) | NamedOrigin::Default | NamedOrigin::Solved { .. } => "",
     };
-    match (print.file, starts, print.holidays) {
-        ("-", "-", _) => Some(("FILE", "STARTS")),
-        (_, "-", Some("-")) => Some(("STARTS", "HOLIDAYS")),
-        ("-", _, Some("-")) => Some(("FILE", "HOLIDAYS")),
-        _ => None,
-    }
+    named_input(print.file, starts, print.holidays)
 }
 
 impl<'a> FileOrder<'a> {
@@ -145,10 +159,11 @@ impl<'a> FileOrder<'a> {
                 ..
             } => Some(("FILE", "HOLIDAYS")),
             FileOrder::Check {
-                file: "-",
-                starts: "-",
+                file,
+                starts,
+                week,
                 ..
-            } => Some(("FILE", "STARTS")),
+            } => named_input(file, starts, week.holidays),
             FileOrder::Verify {
                 file: "-",
                 log: "-",
@@ -379,7 +394,8 @@ fn goal_of(name: &str) -> Option<Goal> {
     }
 }
 
-// Returns the options of a list with dates, of which `dates` are those of the calendar of `solve`.
+// Returns the options of a list with dates, of which `dates` are those of the calendar of `solve` or
+// `check`.
 fn week_words<'a>(arguments: &'a ArgMatches<'_>, dates: Option<Dates<'a>>) -> WeekWords<'a> {
     WeekWords {
         now: arguments.get_str("now").and_then(now_of),
@@ -392,8 +408,8 @@ fn week_words<'a>(arguments: &'a ArgMatches<'_>, dates: Option<Dates<'a>>) -> We
     }
 }
 
-// Returns the dates of `solve`, without holidays.
-fn solve_dates<'a>(arguments: &'a ArgMatches<'_>) -> Option<Dates<'a>> {
+// Returns the dates of `solve` or `check`, without holidays.
+fn calendar_dates<'a>(arguments: &'a ArgMatches<'_>) -> Option<Dates<'a>> {
     Some(dates_of(arguments.get_str("start")?, arguments.get_str("days")?))
 }
 
@@ -411,7 +427,7 @@ fn solve_order<'a>(arguments: &'a ArgMatches<'_>, lists: Lists<'a>) -> Option<Fi
         file: arguments.get_str("FILE")?,
         seconds: limit,
         log: arguments.get_str("log"),
-        week: week_words(arguments, solve_dates(arguments)),
+        week: week_words(arguments, calendar_dates(arguments)),
     })
 }
 
@@ -516,7 +532,7 @@ pub fn overrides_of<'a>(
 // Returns the arguments of a command with names of texts, and the roles of the texts.
 fn text_arguments(command: &str) -> &'static [(&'static str, Role)] {
     match command {
-        "check" | "slack" => &[("STARTS", Role::Starts)],
+        "slack" => &[("STARTS", Role::Starts)],
         "compare" => &[
             ("old", Role::Old),
             ("STARTS_A", Role::StartsA),
@@ -717,10 +733,10 @@ fn days_task<'a>(
     })
 }
 
-// Returns the options of a list with dates, if the arguments of `days` ask for a table of the best
-// schedule.
+// Returns the options of a list with dates, if the arguments of `days` ask for a table or a list of
+// the best schedule.
 fn days_week<'a>(arguments: &'a ArgMatches<'_>) -> Option<WeekWords<'a>> {
-    if arguments.get_flag("solve") && !prints_list(arguments) {
+    if arguments.get_flag("solve") {
         return Some(week_words(arguments, None));
     }
     None
@@ -736,18 +752,13 @@ fn days_order<'a>(arguments: &'a ArgMatches<'_>, lists: Lists<'a>) -> Option<Fil
 
 // Returns the order of `check`, which has no capacities.
 fn check_order<'a>(arguments: &'a ArgMatches<'_>, lists: Lists<'a>) -> Option<FileOrder<'a>> {
-    let subject = subject_of(arguments.get_str("INSTANCE"), lists.capacities);
-    let file = arguments.get_str("FILE")?;
-    if arguments.get_flag("status") {
-        let starts = arguments.get_str("STARTS")?;
-        return Some(FileOrder::Check {
-            subject,
-            file,
-            starts,
-        });
-    }
-    let starts: &[u8] = &[];
-    Some(texts_order(Task::Check { starts, subject }, file, lists.texts))
+    Some(FileOrder::Check {
+        subject: subject_of(arguments.get_str("INSTANCE"), lists.capacities),
+        file: arguments.get_str("FILE")?,
+        starts: arguments.get_str("STARTS")?,
+        has_status: arguments.get_flag("status"),
+        week: week_words(arguments, calendar_dates(arguments)),
+    })
 }
 
 // Returns the order of `verify`.

@@ -6,14 +6,13 @@ use crate::misuse::Misuse;
 use crate::progress::ProgressLine;
 use crate::status::Status;
 use crate::verification::do_verify;
+use crate::week_check::do_check_file;
 use crate::week_days::do_days_file;
 use crate::weeks::do_solve_file;
 use plan_cli::{
-    CliFault, Dates, NamedText, Options, Rows, Subject, SystemInputs, Task, Template, Unlogged,
-    check_text, explain_run, explain_run_in, prepare, read_named, run_on_file, run_on_files,
-    template_run,
+    CliFault, Dates, NamedText, Options, Rows, Task, Template, Unlogged, explain_run,
+    explain_run_in, run_on_file, run_on_files, template_run,
 };
-use plan_errors::{About, write_text};
 use plan_io::StdSink;
 use plan_orders::{FileOrder, WeekWords};
 use plan_print::{Print, print_on_files};
@@ -43,34 +42,13 @@ fn do_task(
     Ok(())
 }
 
-// Writes a verdict to standard output, and returns the status that it decides.
-fn do_check(
-    rt: &HostRuntime,
-    options: Option<Options<'_>>,
-    subject: Subject<'_>,
-    rows: Rows,
-    starts: &str,
-    path: &str,
-) -> Result<Status, CliFault> {
-    let inputs = SystemInputs::new(rt);
-    let starts = read_named(rt.alloc(), &inputs, About::Starts, starts)?;
-    let file = read_named(rt.alloc(), &inputs, About::Plan, path)?;
-    let list = prepare(rt.alloc(), options, &[], &file)?;
-    let checked = check_text(rt.alloc(), rows, &starts, subject, list.text(&file))?;
-    write_text(&mut StdSink::new(io::writer(rt)), &checked.text)?;
-    if let Ok(Some(line)) = list.notes(rt.alloc(), &[], &file) {
-        let _ = eprintln!(rt; "{line}");
-    }
-    Ok(Status::of(checked.verdict))
-}
-
 // Writes the explanation of an error line to standard output.
 fn do_explain(rt: &HostRuntime, words: &[&str], rows: Rows) -> Result<(), CliFault> {
     let line = words.join(rt.alloc(), " ")?;
     let mut writer = StdSink::new(io::writer(rt));
     match rows {
         Rows::In(format) => explain_run_in(rt.alloc(), line.as_str(), format, &mut writer),
-        Rows::Plain | Rows::Named => explain_run(rt.alloc(), line.as_str(), &mut writer),
+        Rows::Plain | Rows::Named | Rows::Listed => explain_run(rt.alloc(), line.as_str(), &mut writer),
     }
 }
 
@@ -106,6 +84,7 @@ fn do_solve(
 fn dates_in<'a>(task: Task<'a>) -> Option<Dates<'a>> {
     match task {
         Task::Days { dates, .. } => Some(dates),
+        Task::List { dates, .. } => dates,
         _ => None,
     }
 }
@@ -184,7 +163,11 @@ fn do_file_order(
             subject,
             file,
             starts,
-        } => return Ok(do_check(rt, options, subject, rows, starts, file)?),
+            has_status,
+            week,
+        } => {
+            return do_check_file(rt, options, subject, rows, has_status, week, starts, file);
+        }
         FileOrder::Verify {
             file,
             log,

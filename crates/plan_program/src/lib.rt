@@ -13,6 +13,7 @@ mod progress;
 mod read_input;
 mod status;
 mod verification;
+mod week_check;
 mod week_days;
 mod weeks;
 

@@ -3,13 +3,14 @@
 use crate::errors::FileFault;
 use crate::instants::{instants_in, today_in};
 use crate::progress::ProgressLine;
-use crate::weeks::{WeekText, do_plain, usage, week_in, week_order};
+use crate::weeks::{do_plain, do_week_list, keep_note, list_options, usage, week_in, week_order};
 use plan_cli::{
     Dates, NamedText, Options, Origin, Role, Rows, SystemInputs, Task, Unlogged, read_named,
 };
 use plan_errors::{About, CliFault, write_text};
 use plan_io::StdSink;
 use plan_orders::WeekWords;
+use plan_weekback::{WeekReading, WeekText};
 use plan_weekdates::InstantCalendar;
 use plan_weekfile::WeekOrder;
 use plan_weekview::days_output;
@@ -44,6 +45,17 @@ fn with_dates<'a>(task: Task<'a>, dates: Dates<'a>) -> Task<'a> {
             style,
             subject,
         },
+        Task::List {
+            origin,
+            subject,
+            options,
+            ..
+        } => Task::List {
+            origin,
+            dates: Some(dates),
+            subject,
+            options,
+        },
         _ => task,
     }
 }
@@ -57,6 +69,11 @@ fn days_order<'a>(
 ) -> Option<WeekOrder<'a>> {
     match task {
         Task::Days {
+            origin: Origin::Solved { conflicts },
+            subject,
+            ..
+        }
+        | Task::List {
             origin: Origin::Solved { conflicts },
             subject,
             ..
@@ -81,7 +98,7 @@ fn do_week_days(
         line,
         read.text(file),
     )?;
-    read.note(rt, line, order.today, file);
+    keep_note(rt, order, read, line, file);
     write_text(&mut StdSink::new(io::writer(rt)), &text)
 }
 
@@ -96,12 +113,20 @@ fn do_read(
     line: &mut ProgressLine<'_>,
     file: &[u8],
 ) -> Result<(), FileFault> {
-    let Some(read) = week_in(rt, options, order, Some(calendar), file)? else {
+    let reading = WeekReading {
+        options: list_options(task, options),
+        calendar: Some(calendar),
+    };
+    let Some(read) = week_in(rt, order, &reading, file)? else {
         return Ok(do_plain(rt, options, task, rows, line, &mut Unlogged, file)?);
     };
     match task {
         Task::Days { style: None, .. } => {
             Ok(do_week_days(rt, order, calendar, &read, line, file)?)
+        }
+        Task::List { .. } => {
+            let days = Some(calendar.calendar());
+            Ok(do_week_list(rt, order, &reading, days, &read, line, file)?)
         }
         _ => Err(usage(
             rt,
@@ -123,7 +148,11 @@ fn do_undated(
     file: &[u8],
 ) -> Result<(), FileFault> {
     if let Some(order) = days_order(task, rows, words, None) {
-        if words.now.is_some() || week_in(rt, options, &order, None, file)?.is_some() {
+        let reading = WeekReading {
+            options: list_options(task, options),
+            calendar: None,
+        };
+        if words.now.is_some() || week_in(rt, &order, &reading, file)?.is_some() {
             return Err(FileFault::Task(fault));
         }
     }
