@@ -13,7 +13,7 @@ use crate::sentences::{names_under, push_called};
 use plan_errors::Key;
 use plan_sgs::Verdict;
 use plan_shop::Shop;
-use plan_table::{NameLine, activity_ids};
+use plan_table::{NameLine, activity_ids, first_name};
 use std::alloc::{AllocError, Global};
 use std::fmt::Write;
 
