@@ -22,7 +22,7 @@ use plan_formats::{Cell, Table, format_table, table_text, with_names};
 use plan_orlib::Step;
 use plan_shop::Shop;
 use plan_table::{NameLine, first_name};
-use plan_views::{Bar, Chart, ChartRow, name_view, verdict_view, texts_column};
+use plan_views::{Bar, Chart, ChartRow, name_view, texts_column, verdict_view};
 use std::alloc::{AllocError, Global};
 
 // Reads the job shop of an instance in a file.

@@ -56,7 +56,11 @@ pub(crate) fn id_label(
 }
 
 /// Appends an activity by its label, or else by its number.
-pub(crate) fn push_activity(text: &mut String, n: u32, label: &Option<String>) -> Result<(), AllocError>
+pub(crate) fn push_activity(
+    text: &mut String,
+    n: u32,
+    label: &Option<String>,
+) -> Result<(), AllocError>
     ensures { OnOk result (string_bytes text.new ≡ string_bytes text.old
         ++ spec.activity_called n (option_map string_bytes label.now)) }
 {

@@ -48,7 +48,11 @@ fn do_explain(rt: &HostRuntime, words: &[&str], rows: Rows) -> Result<(), CliFau
     let mut writer = StdSink::new(io::writer(rt));
     match rows {
         Rows::In(format) => explain_run_in(rt.alloc(), line.as_str(), format, &mut writer),
-        Rows::Plain | Rows::Named | Rows::Listed => explain_run(rt.alloc(), line.as_str(), &mut writer),
+        Rows::Plain | Rows::Named | Rows::Listed => explain_run(
+            rt.alloc(),
+            line.as_str(),
+            &mut writer,
+        ),
     }
 }
 
