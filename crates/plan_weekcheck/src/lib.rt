@@ -10,3 +10,4 @@ mod reading;
 mod sentences;
 
 pub use output::{CheckedWeek, checked_week};
+pub use reading::read_open_starts;

@@ -77,7 +77,7 @@ fn read_open(
 /// Reads the starts of the activities that are open, one after another. If none is open, the text
 /// isn't read. Errors: `T12` (a limit), and those of a text of starts.
 #[tactic(auto, using(crate::proofs::StartLemmas::says_some, crate::proofs::StartLemmas::says_none, crate::proofs::StartLemmas::tells_some))]
-pub(crate) fn read_open_starts(
+pub fn read_open_starts(
     alloc: Global,
     listed: &ListedWeek,
     text: &[u8],
