@@ -39,11 +39,12 @@ def sentence(case, starts, verdict):
     if kind == "over":
         return f"at time {about[0]} more of {case.crews[about[1]]} is needed than there is"
     i, other = about
+    if kind == "broken":
+        return f"{called(case, i)} starts before {called(case, other)} ends"
     told = {
         "past": f"starts before --now {other}",
         "early": f"starts before its earliest start {other}",
         "moved": f"starts at {starts[i]}, not at its appointment {other}",
-        "broken": f"starts before {called(case, other)} ends",
     }
     return f"{called(case, i)} {told[kind]}"
 
