@@ -1,5 +1,5 @@
 -- Texts that are lists.
-use Rattle.std.proofs.Common.{◌≡◌, ℕ, List, [], Ok, Err, true, inl, inr, refl, tt}
+use Rattle.std.proofs.Common.{◌≡◌, ℕ, List, [], Ok, Err, true, inl, inr, refl}
 use Rattle.plan_table.specs.declared.fault.ReadError.TheVariants as errors
 use Rattle.plan_table.specs.declared.fault.TableFault.{TableFault}
 use Rattle.plan_table.specs.Listing.{table_read}
