@@ -99,6 +99,9 @@ enum Form {
     Starts,
     /// An option with the name of an old list or project file, which a job shop doesn't have.
     Old,
+    /// An option of the comparison with an old list: the instant, and the first date.
+    OldNow,
+    OldStart,
     /// An option without a value that asks for a search, in place of a rule.
     Solve,
     /// The same for a report, whose rule is an option.
@@ -281,6 +284,21 @@ const DATED_HOLIDAYS: Argument = Argument {
     name: "holidays",
     form: Form::ReportHolidays,
     help: "skip the days in this file, or - for standard input",
+};
+
+// The same, for a comparison with an old list.
+const OLD_NOW: Argument = Argument {
+    name: "now",
+    form: Form::OldNow,
+    help: "with --old, for two lists of activities: read both from the instant T on, 0 to 10000000 \
+        or, with --start, a date",
+};
+
+const OLD_START: Argument = Argument {
+    name: "start",
+    form: Form::OldStart,
+    help: "with --old, for two lists of activities: read the dates in their cells; the day of \
+        instant 0, for example 2027-05-03",
 };
 
 const GOAL: Argument = Argument {
@@ -623,6 +641,10 @@ const PROJECT_COMMANDS: [Entry; 6] = [
             STARTS_B,
             INSTANCE_IF_SHOP,
             OLD,
+            OLD_NOW,
+            OLD_START,
+            MARKED_DAYS,
+            DATED_HOLIDAYS,
             CAPACITY_IF_PROJECT,
             MAP,
             IGNORE,
@@ -815,6 +837,7 @@ const SCHEDULE_COMMANDS: [Entry; 5] = [
             plan report examples/house.sm\n  \
             plan report --rule slk --start 2024-03-01 --days mon-fri examples/house.sm\n  \
             plan report --solve --seconds 60 examples/house.sm\n  \
+            plan report --solve --now 8 examples/week.csv\n  \
             plan report --starts examples/starts.txt examples/six.sm\n  \
             plan report --by job --title Printing examples/shops.txt printing",
         arguments: &[
@@ -833,6 +856,8 @@ const SCHEDULE_COMMANDS: [Entry; 5] = [
             },
             REPORT_SOLVE,
             SOLVE_SECONDS,
+            SOLVED_NOW,
+            SOLVED_GOAL,
             Argument {
                 name: "start",
                 form: Form::ReportStart,
@@ -1116,6 +1141,12 @@ fn arg_of<'a>(alloc: Global, argument: &Argument) -> Result<Arg<'a>, AllocError>
             .conflicts_with("map")?
             .conflicts_with("ignore")?
             .conflicts_with("unit")?,
+        Form::OldNow => arg.long(argument.name).value_name("T").requires_arg("old")?,
+        Form::OldStart => arg
+            .long(argument.name)
+            .value_name("DATE")
+            .requires_arg("days")?
+            .requires_arg("old")?,
         Form::Solve => arg
             .long(argument.name)
             .action(ArgAction::SetTrue)

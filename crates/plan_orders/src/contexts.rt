@@ -113,6 +113,19 @@ fn texts_context<'a>(task: Task<'a>, file: &'a str, texts: &'a [NamedText<'a>]) 
     context
 }
 
+// Returns a context with the dates of two lists with dates, if there are some.
+fn with_week<'a>(context: Context<'a>, week: Option<WeekWords<'a>>) -> Context<'a> {
+    match week {
+        Some(
+            WeekWords {
+                dates: Some(dates),
+                ..
+            },
+        ) => with_dates(context, dates),
+        _ => context,
+    }
+}
+
 // Returns the context of a print.
 fn print_context<'a>(print: Print<'a>) -> Context<'a> {
     let mut context = file_context(print.file);
@@ -159,7 +172,7 @@ impl<'a> FileOrder<'a> {
     fn rule_or_search(&self) -> Option<&'a str> {
         match *self {
             FileOrder::Texts { task, .. } => replaceable_rule(task),
-            FileOrder::Print(print, _) => match print.origin {
+            FileOrder::Print(print, ..) => match print.origin {
                 NamedOrigin::Rule(rule) => Some(rule),
                 NamedOrigin::Default | NamedOrigin::Starts(_) | NamedOrigin::Solved { .. } => None,
             },
@@ -192,8 +205,9 @@ impl<'a> FileOrder<'a> {
                 task,
                 file,
                 texts,
+                week,
                 ..
-            } => texts_context(task, file, texts),
+            } => with_week(texts_context(task, file, texts), week),
             FileOrder::Check {
                 file,
                 starts,
@@ -204,7 +218,7 @@ impl<'a> FileOrder<'a> {
                 log: Some(log),
                 ..file_context(file)
             },
-            FileOrder::Print(print, _) => print_context(print),
+            FileOrder::Print(print, ..) => print_context(print),
             FileOrder::New(_) | FileOrder::Explain(_) => Context::NONE,
         }
     }

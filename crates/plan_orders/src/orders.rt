@@ -29,9 +29,10 @@ pub struct WeekWords<'a> {
     pub now: Option<Now<'a>>,
     /// The goal, if it is given.
     pub goal: Option<Goal>,
-    /// The dates of the calendar of `solve` or `check`, without holidays, if they are given.
+    /// The dates of the calendar of `solve`, `check` or `compare`, without holidays, if they are
+    /// given.
     pub dates: Option<Dates<'a>>,
-    /// The name of the file of holidays of `solve` or `check`, if it is given.
+    /// The name of the file of holidays of these commands, if it is given.
     pub holidays: Option<&'a str>,
 }
 
@@ -59,7 +60,8 @@ pub enum FileOrder<'a> {
         texts: &'a [NamedText<'a>],
         /// The time limit of a search for the schedule, in seconds.
         seconds: Option<u32>,
-        /// The options of a list with dates, if the task prints working days of the best schedule.
+        /// The options of lists with dates, if the task prints working days of the best schedule, or
+        /// compares schedules of two lists.
         week: Option<WeekWords<'a>>,
     },
     /// A check of the starts in a file.
@@ -79,8 +81,9 @@ pub enum FileOrder<'a> {
         log: &'a str,
         instance: Option<&'a str>,
     },
-    /// A sheet to print, with the time limit of a search for the schedule, in seconds.
-    Print(Print<'a>, Option<u32>),
+    /// A sheet to print, with the time limit of a search for the schedule, in seconds, and with the
+    /// options of a list with dates, if it is a report of the best schedule.
+    Print(Print<'a>, Option<u32>, Option<WeekWords<'a>>),
     /// A table to start from.
     New(Template),
     /// The meaning of an error line, which is given as one argument or as several.
@@ -148,7 +151,7 @@ impl<'a> FileOrder<'a> {
     /// Returns the names of two arguments that are standard input, if there are two.
     pub fn shared_input(&self) -> Option<(&'static str, &'static str)> {
         match *self {
-            FileOrder::Print(print, _) => print_input(&print),
+            FileOrder::Print(print, ..) => print_input(&print),
             FileOrder::Texts { file, texts, .. } => texts_input(file, texts),
             FileOrder::Solve {
                 file: "-",
@@ -394,8 +397,8 @@ fn goal_of(name: &str) -> Option<Goal> {
     }
 }
 
-// Returns the options of a list with dates, of which `dates` are those of the calendar of `solve` or
-// `check`.
+// Returns the options of a list with dates, of which `dates` are those of the calendar of `solve`,
+// `check` or `compare`.
 fn week_words<'a>(arguments: &'a ArgMatches<'_>, dates: Option<Dates<'a>>) -> WeekWords<'a> {
     WeekWords {
         now: arguments.get_str("now").and_then(now_of),
@@ -408,7 +411,7 @@ fn week_words<'a>(arguments: &'a ArgMatches<'_>, dates: Option<Dates<'a>>) -> We
     }
 }
 
-// Returns the dates of `solve` or `check`, without holidays.
+// Returns the dates of `solve`, `check` or `compare`, without holidays.
 fn calendar_dates<'a>(arguments: &'a ArgMatches<'_>) -> Option<Dates<'a>> {
     Some(dates_of(arguments.get_str("start")?, arguments.get_str("days")?))
 }
@@ -534,6 +537,7 @@ fn text_arguments(command: &str) -> &'static [(&'static str, Role)] {
     match command {
         "slack" => &[("STARTS", Role::Starts)],
         "compare" => &[
+            ("holidays", Role::Holidays),
             ("old", Role::Old),
             ("STARTS_A", Role::StartsA),
             ("STARTS_B", Role::StartsB),
@@ -793,11 +797,25 @@ fn compare_task<'a>(is_by_ids: bool, subject: Subject<'a>) -> Task<'a> {
     }
 }
 
+// Returns the options of two lists with dates, if an old list is given.
+fn compare_week<'a>(is_by_ids: bool, arguments: &'a ArgMatches<'_>) -> Option<WeekWords<'a>> {
+    if is_by_ids {
+        return Some(week_words(arguments, calendar_dates(arguments)));
+    }
+    None
+}
+
 // Returns the order of `compare`.
 fn compare_order<'a>(arguments: &'a ArgMatches<'_>, lists: Lists<'a>) -> Option<FileOrder<'a>> {
     let subject = subject_of(arguments.get_str("INSTANCE"), lists.capacities);
-    let task = compare_task(arguments.get_str("old").is_some(), subject);
-    Some(texts_order(task, arguments.get_str("FILE")?, lists.texts))
+    let is_by_ids = arguments.get_str("old").is_some();
+    Some(FileOrder::Texts {
+        task: compare_task(is_by_ids, subject),
+        file: arguments.get_str("FILE")?,
+        texts: lists.texts,
+        seconds: None,
+        week: compare_week(is_by_ids, arguments),
+    })
 }
 
 // Returns the instance if one is given, else the project.
@@ -922,6 +940,14 @@ fn report_order<'a>(arguments: &'a ArgMatches<'_>, lists: Lists<'a>) -> Option<P
     })
 }
 
+// Returns the options of a list with dates, if a command prints a report of the best schedule.
+fn print_week<'a>(name: &str, arguments: &'a ArgMatches<'_>) -> Option<WeekWords<'a>> {
+    if name == "report" && arguments.get_flag("solve") {
+        return Some(week_words(arguments, None));
+    }
+    None
+}
+
 // Returns the order of a command that prints a sheet.
 fn print_order<'a>(
     name: &str,
@@ -953,7 +979,8 @@ fn file_order<'a>(
     lists: Lists<'a>,
 ) -> Option<FileOrder<'a>> {
     if let Some(print) = print_order(name, arguments, lists) {
-        return Some(FileOrder::Print(print, limit_of(arguments)));
+        let week = print_week(name, arguments);
+        return Some(FileOrder::Print(print, limit_of(arguments), week));
     }
     match name {
         "import" => import_order(arguments, lists.overrides),

@@ -7,7 +7,9 @@ use crate::progress::ProgressLine;
 use crate::status::Status;
 use crate::verification::do_verify;
 use crate::week_check::do_check_file;
+use crate::week_compare::do_compare_files;
 use crate::week_days::do_days_file;
+use crate::week_report::{Shown, do_report_file};
 use crate::weeks::do_solve_file;
 use plan_cli::{
     CliFault, Dates, NamedText, Options, Rows, Task, Template, Unlogged, explain_run,
@@ -15,7 +17,7 @@ use plan_cli::{
 };
 use plan_io::StdSink;
 use plan_orders::{FileOrder, WeekWords};
-use plan_print::{Print, print_on_files};
+use plan_print::{Print, Sheet, print_on_files};
 use std::io;
 
 // Runs a task on a file, and writes to standard output.
@@ -119,8 +121,11 @@ fn do_texts(
     path: &str,
 ) -> Result<(), FileFault> {
     let mut line = ProgressLine::within(rt, seconds);
-    match (week, dates_in(task)) {
-        (Some(words), Some(dates)) => do_days_file(
+    match (week, task, dates_in(task)) {
+        (Some(words), Task::CompareLists { subject, .. }, _) => {
+            do_compare_files(rt, subject, rows, words, &mut line, texts, path)?
+        }
+        (Some(words), _, Some(dates)) => do_days_file(
             rt, options, task, dates, rows, words, &mut line, texts, path,
         )?,
         _ => do_plain_texts(rt, options, task, rows, &mut line, texts, path)?,
@@ -129,11 +134,44 @@ fn do_texts(
     Ok(())
 }
 
-// Prints a sheet of a file to standard output.
-fn do_print(rt: &HostRuntime, print: Print<'_>, seconds: Option<u32>) -> Result<(), CliFault> {
-    let mut line = ProgressLine::within(rt, seconds);
+// Prints a sheet of a file without a week to standard output.
+fn do_plain_print(
+    rt: &HostRuntime,
+    print: Print<'_>,
+    line: &mut ProgressLine<'_>,
+) -> Result<(), CliFault> {
     let mut writer = StdSink::new(io::writer(rt));
-    print_on_files(rt, print, &mut line, &mut writer)?;
+    print_on_files(rt, print, line, &mut writer)
+}
+
+// Prints a sheet of a file to standard output.
+fn do_print(
+    rt: &HostRuntime,
+    print: Print<'_>,
+    week: Option<WeekWords<'_>>,
+    seconds: Option<u32>,
+) -> Result<(), FileFault> {
+    let mut line = ProgressLine::within(rt, seconds);
+    match (week, print.sheet) {
+        (
+            Some(words),
+            Sheet::Report {
+                title,
+                dates,
+                style,
+                by_job,
+            },
+        ) => {
+            let shown = Shown {
+                title,
+                dates,
+                style,
+                by_job,
+            };
+            do_report_file(rt, print, shown, words, &mut line)?
+        }
+        _ => do_plain_print(rt, print, &mut line)?,
+    }
     line.print_notes();
     Ok(())
 }
@@ -177,7 +215,7 @@ fn do_file_order(
             log,
             instance,
         } => do_verify(rt, file, instance, log)?,
-        FileOrder::Print(print, seconds) => do_print(rt, print, seconds)?,
+        FileOrder::Print(print, seconds, week) => do_print(rt, print, week, seconds)?,
         FileOrder::New(template) => do_new(rt, template)?,
         FileOrder::Explain(words) => do_explain(rt, words, rows)?,
     }

@@ -14,7 +14,9 @@ mod read_input;
 mod status;
 mod verification;
 mod week_check;
+mod week_compare;
 mod week_days;
+mod week_report;
 mod weeks;
 
 pub use command_line::{Offices, run_program};

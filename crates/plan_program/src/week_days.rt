@@ -16,16 +16,16 @@ use plan_weekfile::WeekOrder;
 use plan_weekview::days_output;
 use std::io;
 
-// Returns the holidays among these texts; no bytes if there are none.
-fn holidays_in(rt: &HostRuntime, texts: &[NamedText<'_>]) -> Result<Vec<u8>, CliFault> {
+/// Reads the text with this role, which an error is about; no bytes if there is none.
+pub(crate) fn text_in(
+    rt: &HostRuntime,
+    texts: &[NamedText<'_>],
+    role: Role,
+    about: About,
+) -> Result<Vec<u8>, CliFault> {
     for text in texts {
-        if text.role == Role::Holidays {
-            return read_named(
-                rt.alloc(),
-                &SystemInputs::new(rt),
-                About::Holidays,
-                text.name,
-            );
+        if text.role == role {
+            return read_named(rt.alloc(), &SystemInputs::new(rt), about, text.name);
         }
     }
     Ok(Vec::new(rt.alloc()))
@@ -195,7 +195,7 @@ pub(crate) fn do_days_file(
     texts: &[NamedText<'_>],
     path: &str,
 ) -> Result<(), FileFault> {
-    let holidays = holidays_in(rt, texts)?;
+    let holidays = text_in(rt, texts, Role::Holidays, About::Holidays)?;
     let dates = Dates {
         start: dates.start,
         marks: dates.marks,

@@ -73,8 +73,8 @@ pub(crate) fn usage(rt: &HostRuntime, words: &str) -> Result<FileFault, AllocErr
     Ok(FileFault::Usage(words.to_string(rt.alloc())?))
 }
 
-// Returns the error of an option for lists of activities on another file.
-fn no_list(rt: &HostRuntime, order: &WeekOrder<'_>) -> Result<FileFault, AllocError> {
+/// Returns the error of an option for lists of activities on another file.
+pub(crate) fn no_list(rt: &HostRuntime, order: &WeekOrder<'_>) -> Result<FileFault, AllocError> {
     match order.today {
         Some(_) => usage(rt, "--now requires a list of activities"),
         None => usage(rt, "--goal requires a list of activities"),
