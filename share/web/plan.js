@@ -156,6 +156,7 @@ function showDrawn() {
   const { plan } = page;
   view = viewOf(plan);
   const point = showChart(view);
+  byId("note").hidden = !plan.note || plan.note === view.drawings.fault?.message;
   showTable(view, `Schedule by ${nameOf(plan, plan.drawn)}`);
   showSaves(view);
   showDayNote(plan);
@@ -313,6 +314,7 @@ async function checkStarts(text) {
   const isFeasible = line === "active" || line.endsWith("can start earlier");
   schedules.set("own", {
     heads, total, isInfeasible: !isFeasible, verdict: isFeasible ? "" : " (not feasible)",
+    wrong: isFeasible ? "" : line,
     rows: rows.map((row, at) => ({ ...row, start: starts[at], end: starts[at] + row.d })),
   });
   plan.days.delete("own");

@@ -39,8 +39,9 @@ export async function keepPage() {
 async function moduleBytes() {
   const packed = inside("packed-module");
   if (!packed) {
-    const response = await fetch("plan.wasm", { redirect: "error" });
-    if (!response.ok) throw new Error(`plan.wasm: the server answers ${response.status}`);
+    const response = await fetch("plan.wasm", { redirect: "error" })
+      .catch(() => { throw new Error("plan.wasm can't be fetched"); });
+    if (!response.ok) throw new Error(`the server answers ${response.status} for plan.wasm`);
     return response.arrayBuffer();
   }
   const bytes = Uint8Array.from(atob(packed.textContent), (letter) => letter.charCodeAt(0));
@@ -52,7 +53,8 @@ let module = null;
 
 const loaded = () => (module ??= moduleBytes().then((bytes) => load(bytes, DIGEST)).catch((fault) => {
   module = null;
-  throw new Refusal(`Reload the page, or get it again: the program can't be loaded, because ${
+  const other = inside("packed-module") ? "get it again" : "tell the office";
+  throw new Refusal(`Reload the page, or ${other}: the program can't be loaded, because ${
     fault.message}.`);
 }));
 

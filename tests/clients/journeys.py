@@ -89,7 +89,7 @@ def journey_foreman(browser, office):
     wait_text(browser, "#preview", "shop.csv becomes a job shop of 3 orders on 3 machines.")
     submit(browser, "import")
     wait_plan(browser, 4)
-    same("the machines", [words.split("M")[1][2:] for words in texts(browser, "#drawing .name")],
+    same("the machines", [words[len(words) // 2 + 2:] for words in texts(browser, "#drawing .name")],
          ["saw", "press", "paint"])
     browser.run("document.querySelector('#drawing').scrollIntoView({ block: 'center' })")
     browser.point("#drawing .bar[data-line='0'] rect")

@@ -1,5 +1,5 @@
-"""Compares the modules of the browser page that need no browser (subject, use, search, layout, project,
-handin, table) with Python's datetime and csv, with plain models, and with `plan`. Needs node.
+"""Compares the modules of the browser page that need no browser (subject, search, layout, project,
+handin, table, view) with Python's datetime and csv, with plain models, and with `plan`. Needs node.
 """
 
 import csv
@@ -328,23 +328,6 @@ def try_shops(modules, draw):
             same("its slack", found, brute_slack(model, [row["start"] for row in rows]))
 
 
-def try_use(modules, draw):
-    """The use of resources is the sum of the needs at each instant."""
-    cases = []
-    for _ in range(60):
-        durations, arcs, needs, capacities = drawn_project(draw)
-        cases.append((as_model(durations, arcs, needs, capacities), [draw.randrange(6) for _ in arcs]))
-    found = modules.values([["use", "useOf", list(case)] for case in cases])
-    for steps, (model, starts) in zip(found, cases):
-        ends = [s + x for s, x in zip(starts, model["durations"])]
-        for time in range(max(ends) + 1):
-            at = max(step["time"] for step in steps if step["time"] <= time)
-            used = next(step["used"] for step in steps if step["time"] == at)
-            wanted = [sum(need[r] for need, s, e in zip(model["needs"], starts, ends) if s <= time < e)
-                      for r in range(len(model["capacities"]))]
-            same(f"the use at {time} of {starts} in {model}", used, wanted)
-
-
 # ---- the best schedule
 
 
@@ -520,21 +503,36 @@ def try_messages(modules, draw):
 
 
 def try_layout(modules, draw):
-    """Axes, free days, colours, labels and pages."""
+    """Places, colours and labels."""
     call = lambda name, *words: ["layout", name, list(words)]
-    same("round units", modules.values([call("roundUnits", 46, unit) for unit in
-                                        (50, 46, 30, 10, 1, 0.04)]), [1, 1, 2, 5, 50, 2000])
-    same("heights", modules.values([call("heightOfRows", count) for count in (1, 40, 41, 80, 81, 502)]),
-         [22, 22, 16, 16, 12, 12])
-    pages = modules.values([call("pagesOf", list(range(count))) for count in (1, 40, 41, 120)])
-    same("lines of the pages", [[len(part) for part in pages_of] for pages_of in pages],
-         [[1], [40], [40, 1], [40, 40, 40]])
-    same("the pages together", sum(pages[3], []), list(range(120)))
     labels = modules.values([call("labelFor", ["a long label", "short", "s"], width)
                              for width in (200, 60, 20, 5)])
     same("labels", labels, ["a long label", "short", "s", ""])
+    try_places(modules, draw)
     try_colours(modules, draw)
-    try_axis(modules, draw)
+
+
+def try_places(modules, draw):
+    """The axis of a drawing, from 330 to 1330, is put between two edges; labels don't overlap."""
+    call = lambda name, *words: ["layout", name, list(words)]
+    cases = [({"left": draw.randrange(40, 250), "right": draw.randrange(260, 1600)},
+              sorted(draw.sample(range(330, 1331), 6))) for _ in range(40)]
+    found = modules.values([call("placed", x, edges) for edges, places in cases for x in places])
+    found = [found[at:at + 6] for at in range(0, len(found), 6)]
+    for own, (edges, places) in zip(found, cases):
+        span = edges["right"] - edges["left"]
+        wanted = [edges["left"] + (x - 330) * span / 1000 for x in places]
+        same("places that differ", [(a, b) for a, b in zip(own, wanted) if abs(a - b) > 0.0051], [])
+    paths = modules.values([call("placedPath", f"M{a} 19H{b}v285H{a}z", edges) for edges, (a, b, *_) in cases])
+    same("the paths", paths, [f"M{a:g} 19H{b:g}v285H{a:g}z" for a, b, *_ in found])
+    same("a line along the axis", modules.values([call("placedPath", "M330 28h1000", {"left": 50, "right": 90})]),
+         ["M50 28H90"])
+    labels = [[{"x": x, "text": "Mon 30 Mar"} for x in own] for own in found]
+    roomy = modules.values([call("roomyLabels", own, edges["right"]) for own, (edges, _) in zip(labels, cases)])
+    for own, is_roomy, (edges, _) in zip(found, roomy, cases):
+        shown = [x for x, is_shown in zip(own, is_roomy) if is_shown]
+        same("labels too close", [(x, y) for x, y in zip(shown, shown[1:]) if y - x < 66], [])
+        same("the first label", own[0] in shown, own[0] + 66 <= edges["right"])
 
 
 def try_colours(modules, draw):
@@ -553,75 +551,6 @@ def try_colours(modules, draw):
                 raise Wrong(f"of {jobs} jobs two neighbours have the same colour")
 
 
-def axis_of(days, marks):
-    """The axis of a list of days, and of some behind them, in the form of axis.js."""
-    dates = [days[0] + datetime.timedelta(k) for k in range((days[-1] - days[0]).days + 20)]
-    monday = next(k for k, date in enumerate(dates) if date.weekday() == 0)
-    worked = [str(date) for date in dates if marks[date.weekday()] == "1"]
-    return {"dates": list(map(str, dates)), "monday": monday,
-            "places": {"map": [[str(date), k] for k, date in enumerate(dates)]},
-            "worked": {"map": [[date, True] for date in worked]}}
-
-
-def dated_view(draw):
-    """A view of a chain of activities with the days of a calendar, its marks, and all its working days."""
-    marks = draw.choice([format(draw.randrange(1, 128), "07b"), "1111100", "1111110"])
-    start = datetime.date(1900, 1, 1) + datetime.timedelta(draw.randrange(109000))
-    durations = [draw.choice([1, 2, 5, 60]) for _ in range(draw.randrange(1, 12))]
-    days = worked_days(start, marks, sum(durations))
-    ends = [sum(durations[:at + 1]) for at in range(len(durations))]
-    rows = [{"start": end - d, "end": end, "first": str(days[end - d]), "last": str(days[end - 1])}
-            for d, end in zip(durations, ends)]
-    return {"rows": rows, "dates": rows, "axis": axis_of(days, marks), "total": ends[-1]}, marks, days
-
-
-def scales_of(modules, views, rooms):
-    """The scales of views between two edges; a Map comes back as a list, so the axis is put in again."""
-    scales = modules.values([["layout", "scaleOf", [view, *room]] for view, room in zip(views, rooms)])
-    return [scale | {"axis": view["axis"]} for scale, view in zip(scales, views)]
-
-
-def try_axis(modules, draw):
-    """The span of an axis, its free days and the places of dates are those of datetime."""
-    cases = [dated_view(draw) for _ in range(60)]
-    widths = [draw.choice([300, 900, 1500]) for _ in cases]
-    scales = scales_of(modules, [view for view, *_ in cases], [[50, width] for width in widths])
-    free = modules.values([["layout", "freeDays", [scale]] for scale in scales])
-    for scale, runs, (_, marks, days), width in zip(scales, free, cases, widths):
-        span = (days[-1] - days[0]).days + 1
-        same("an axis", (scale["span"], scale["origin"]), (span, 0))
-        wanted = {k for k in range(span)
-                  if marks[(days[0] + datetime.timedelta(k)).weekday()] == "0"}
-        found = {run["place"] + k for run in runs for k in range(run["days"])}
-        same("free days", found, wanted if (width - 50) / span >= 1 else set())
-    scale, first = scales[0], cases[0][2][0]
-    places = [-1, 0, scale["span"], scale["span"] + 1]
-    found = modules.values([["layout", "placeOfDate", [scale, str(first + datetime.timedelta(k))]]
-                            for k in places])
-    same("places of dates", found, [None, 0, scale["span"], None])
-    try_marks(modules)
-
-
-def try_marks(modules):
-    """Mondays get lines, and their dates if there is room; of many weeks the firsts of months do;
-    without a calendar round numbers."""
-    def view(count):
-        days = worked_days(datetime.date(2024, 3, 1), "1111100", count)
-        rows = [{"start": 0, "end": count, "first": str(days[0]), "last": str(days[-1])}]
-        return {"rows": rows, "dates": rows, "axis": axis_of(days, "1111100"), "total": count}
-    plain = {"rows": [], "dates": None, "axis": None, "total": 45}
-    scales = scales_of(modules, [view(19), view(261), plain], [[0, 540], [0, 365], [0, 450]])
-    weeks, months, units = modules.values([["layout", "marksOn", [scale]] for scale in scales])
-    # Friday, and the Mondays 4, 11, 18 and 25 March; the Friday's date covers the first of them
-    same("weeks", [[mark["place"], mark["words"]] for mark in weeks],
-         [[0, "2024-03-01"], [3, ""], [10, "2024-03-11"], [17, "2024-03-18"], [24, "2024-03-25"]])
-    days = [datetime.date(2024 + (2 + k) // 12, (2 + k) % 12 + 1, 1) for k in range(13)]
-    same("months", [mark["place"] for mark in months if mark["place"] <= 364],
-         [(day - datetime.date(2024, 3, 1)).days for day in days if (day - days[0]).days <= 364])
-    same("units", [[mark["place"], mark["words"]] for mark in units],
-         [[at, str(at)] for at in range(0, 46, 5)])
-
-
 def try_sorting(modules, draw):
     """Rows are sorted by numbers as numbers, names by the alphabet, empty cells last."""
     pairs = [[2, 10], [10, 2], ["b", "a"], ["", "a"], ["a", ""], ["x", "x"]]
@@ -629,8 +558,23 @@ def try_sorting(modules, draw):
     same("orders", [(order > 0) - (order < 0) for order in found], [-1, 1, 1, 1, -1, 0])
 
 
-TRIALS = [try_slack, try_kept, try_verdicts, try_shops, try_use, try_search, try_hand_in,
-          try_projects, try_messages, try_layout, try_sorting]
+def try_shown(modules, draw):
+    """The rows that are handed in are those that the program prints, with waits for lags or without them. An
+    overuse is in the legend."""
+    ids = {"2": "A", "3": "B", "4": "wait+0"}
+    found = modules.values([["view", "isPrinted", [{"described": described, "labels": {"ids": ids}}, number]]
+                            for described in ({"map": [[2, {}], [3, {}]]}, {"map": [[2, {}], [3, {}], [4, {}]]}, None)
+                            for number in range(1, 6)])
+    same("what is printed", [found[at:at + 5] for at in (0, 5, 10)], [
+        [False, True, True, False, False], [False, True, True, True, False], [False, True, True, True, False]])
+    view = lambda over: {"bars": [], "slack": None, "plan": {"kind": "project"}, "drawings": over}
+    legends = modules.values([["view", "legendOf", [view(over)]] for over in (
+        {"over": {"map": [[0, "at time 4"]]}}, {"over": {"map": []}}, {})])
+    same("the legends", legends, [[["over", "more of a resource than there is"]], [], []])
+
+
+TRIALS = [try_slack, try_kept, try_verdicts, try_shops, try_search, try_hand_in,
+          try_projects, try_messages, try_layout, try_sorting, try_shown]
 
 
 def try_units(room, web, seed=1):
