@@ -573,8 +573,40 @@ def try_shown(modules, draw):
     same("the legends", legends, [[["over", "more of a resource than there is"]], [], []])
 
 
+# Prints which addresses the policy of program.js passes, by their names.
+POLICY = """
+const [isWhole, protocol] = JSON.parse(process.argv[1]);
+globalThis.location = { protocol };
+globalThis.document = { getElementById: (id) => (isWhole && id === "worker-text" ? { textContent: "0" } : null) };
+let rules = null;
+globalThis.trustedTypes = { createPolicy: (name, given) => { rules = given; return given; } };
+await import("./program.js");
+const passed = ["worker", "cache", "worker.js", "plan-cache.js", "constructor", ""].flatMap((name) => {
+  try {
+    return [[name, String(rules.createScriptURL(name)).split(":")[0]]];
+  } catch {
+    return [];
+  }
+});
+console.log(JSON.stringify(passed));
+"""
+
+
+def try_policy(modules, draw):
+    """The policy for addresses of scripts passes that of the worker, and what keeps plan.html if it is served."""
+    for is_whole, protocol, wanted in (
+        (False, "https:", [["worker", "worker.js"]]),
+        (True, "file:", [["worker", "blob"]]),
+        (True, "https:", [["worker", "blob"], ["cache", "plan-cache.js"]]),
+    ):
+        words = [NODE, "--input-type=module", "-e", POLICY, json.dumps([is_whole, protocol])]
+        done = subprocess.run(words, cwd=modules.room, capture_output=True, timeout=120)
+        same("node", (done.returncode, done.stderr), (0, b""))
+        same(f"the addresses for {protocol}, plan.html {is_whole}", json.loads(done.stdout), wanted)
+
+
 TRIALS = [try_slack, try_kept, try_verdicts, try_shops, try_search, try_hand_in,
-          try_projects, try_messages, try_layout, try_sorting, try_shown]
+          try_projects, try_messages, try_layout, try_sorting, try_shown, try_policy]
 
 
 def try_units(room, web, seed=1):

@@ -1688,6 +1688,26 @@ def visit_module(browser):
     same("another worker", found, "TypeError")
 
 
+def visit_policy(browser):
+    """At a desk the policy for addresses of scripts passes the worker's alone."""
+    browser.devtools("Page.addScriptToEvaluateOnNewDocument", source="""
+        const { trustedTypes: types } = window, create = types.createPolicy.bind(types);
+        types.createPolicy = (name, rules) => (window.policy = create(name, rules));
+    """)
+    browser.open(browser.run("return location.href"))
+    browser.wait("the first page", "return document.querySelector('#door fieldset:enabled')")
+    passed = browser.run("""
+        return ["worker", "cache", "plan-cache.js"].map((name) => {
+            try {
+                return String(window.policy.createScriptURL(name));
+            } catch (fault) {
+                return fault.name;
+            }
+        });
+    """)
+    same("the addresses of scripts", passed, ["worker.js", "TypeError", "TypeError"])
+
+
 def visit_quiet(browser):
     """The browser complains of nothing but the refusals that were asked for."""
     asked_for = ("the server responded with a status of", "net::ERR")
@@ -1805,5 +1825,5 @@ VISIT = [
     visit_names, visit_other,
     visit_shop, visit_colours, visit_links, visit_focus, visit_closed, visit_refused, visit_keys, visit_back, visit_delete,
     visit_lost, visit_found, visit_waiting, visit_sizes, visit_senses, visit_paper, visit_orders,
-    visit_cancel, visit_whole, visit_keep, visit_lags, visit_most, visit_quiet, visit_module, visit_pictures,
+    visit_cancel, visit_whole, visit_keep, visit_lags, visit_most, visit_quiet, visit_module, visit_pictures, visit_policy,
 ]
