@@ -14,7 +14,7 @@ from exchanges import OFFICE_KEY, TOP, file_of
 from front import WEB
 from page_units import worked_days
 from pages import (
-    drop, example, makespan_of, open_tab, printed, rows_of, seen, seen_table, set_date, submit, texts,
+    drop, example, makespan_of, open_plan, open_tab, printed, rows_of, seen, seen_table, set_date, submit, texts,
     wait_idle, wait_plan, wait_text,
 )
 from programs import plan, same
@@ -144,9 +144,8 @@ def journey_class(browser, office):
     handed = [hand_in(browser, office, desk, key, rule) for (desk, key), rule in zip(new_class(office, 3), rules)]
     # at her desk she has the exercise as plan 5
     sign_in(browser, "north", "north-key-1")
-    browser.wait("plan 5", "return document.querySelector('#plans [value=\"5\"]')")
-    browser.click("#plans [value='5']")
-    wait_plan(browser, 5)
+    wait_text(browser, "#plans button", "Plan 5")
+    open_plan(browser, 5)
     for (starts, as_json, _), rule in zip(handed, rules):
         verdict = plan("check", example("five.sm"), "-", given=starts.encode())[1].decode().strip()
         words = ["solve"] if rule == "best" else ["schedule", rule]
