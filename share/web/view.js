@@ -3,7 +3,7 @@
 
 import { Refusal } from "./api.js";
 import { byId } from "./dom.js";
-import { drawingsOf, isLinked, shownOf, todayDrawing, usualWeek } from "./drawing.js";
+import { drawingsOf, isLinked, looseDays, shownOf, todayDrawing, usualWeek } from "./drawing.js";
 import { activityLabel, named, resourceLabel } from "./labels.js";
 import { coloursOf, today } from "./layout.js";
 import { isAlone } from "./local.js";
@@ -39,7 +39,9 @@ async function learnTimes(plan, rule) {
   const isSound = plan.model && !table.isInfeasible;
   plan.slacks.set(rule, isSound ? await slackOf(plan, starts) : null);
   if (!plan.days.has(rule) && plan.calendar) {
-    plan.days.set(rule, { rows: await daysOf(plan, starts, plan.calendar).catch(() => null) });
+    const asked = table.isInfeasible ? looseDays(table.rows, plan.calendar)
+      : daysOf(plan, starts, plan.calendar);
+    plan.days.set(rule, { rows: await asked.catch(() => null) });
   }
 }
 
