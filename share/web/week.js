@@ -7,7 +7,7 @@ import { cellsOf, listText } from "./cells.js";
 import { make } from "./dom.js";
 import { isOfDates } from "./messages.js";
 import { printed, searched } from "./program.js";
-import { absenceId, arcsOverWaits, readProject } from "./project.js";
+import { absenceId, arcsOverWaits, isWait, readProject } from "./project.js";
 import { capacitiesOf, projectText } from "./subject.js";
 
 const MOST_SECONDS = 10;
@@ -76,61 +76,83 @@ function checkNow({ now, start }) {
 async function foundBy({ bytes, dates, given }, told) {
   checkNow(dates);
   const words = ["solve", "--format", "json", "--seconds", `${MOST_SECONDS}`, "--goal", dates.goal,
-    ...(dates.now ? ["--now", dates.now] : []), ...calendarOf(dates), ...capacitiesOf({ given: [...given] }), "list"];
+    ...(dates.now ? ["--now", dates.now] : []), ...calendarOf(dates),
+    ...capacitiesOf({ given: [...given] }), "list"];
   const { signal } = new AbortController();
   return JSON.parse(await searched(words, { list: bytes, holidays: dates.holidays }, told, signal));
 }
 
-// by the place in a project the first and the last instant of what is left of it from now on; null
-// for what is done and for waits
-function spansOf({ ids, durations }, { rows, makespan }, [now, ...begins]) {
-  const found = new Map(rows.map(({ id, start, end }) => [id, { start, end }]));
-  const away = new Map(begins.map((begin, number) => [absenceId(number), begin]));
-  return durations.map((duration, at) => {
-    const id = ids.get(at + 1), begin = away.get(id);
-    const { start = null, end } = away.has(id)
-      ? { start: begin, end: Math.min(begin + duration, makespan) } : found.get(id) ?? {};
-    const first = Math.max(start, now);
-    return start === null || end < first || (away.has(id) && end === first) ? null : { first, end };
+const OTHER = "Save this list, and plan it with plan solve: the page can't draw it.";
+
+// by their places in a project the rows of a schedule of it, which has no waits and no absences
+function rowsBy({ ids, durations }, rows, away) {
+  const places = [...durations.keys()].slice(1, -1).filter((at) => {
+    const id = ids.get(at + 1);
+    return !isWait(id) && !away.has(id);
   });
+  const isSame = places.length === rows.length
+    && rows.every(({ id }, place) => (ids.get(places[place] + 1) ?? id) === id);
+  if (!isSame) throw new Refusal(OTHER);
+  return new Map(rows.map((row, place) => [places[place], row]));
+}
+
+// by the place in a project the id, and the first and the last instant of what is left of it from now
+// on; null for what is done and for waits
+function spansOf(project, { rows, makespan }, [now, ...begins]) {
+  const away = new Map(begins.map((begin, number) => [absenceId(number), begin]));
+  const found = rowsBy(project, rows, away);
+  return project.durations.map((duration, at) => {
+    const own = project.ids.get(at + 1), begin = away.get(own);
+    const { id = own, start = null, end } = away.has(own)
+      ? { start: begin, end: Math.min(begin + duration, makespan) } : found.get(at) ?? {};
+    const first = Math.max(start, now);
+    return start === null || end < first || (away.has(own) && end === first) ? null
+      : { id, first, end };
+  });
+}
+
+// adds an activity that needs nothing between others, and returns its place
+function addWait({ durations, arcs }, duration, from, followers) {
+  const own = durations.push(duration) - 1;
+  arcs.push({ from, to: own, lag: 0 }, ...followers.map((to) => ({ from: own, to, lag: 0 })));
+  return own;
+}
+
+// adds the links of a list that its schedule keeps; a lag is a wait
+function addLinks(model, project, spans, numberOf) {
+  for (const { from, to, lag } of arcsOverWaits(project)) {
+    const isKept = spans[from] && spans[to] && spans[from].end + lag <= spans[to].first;
+    if (isKept && lag) addWait(model, lag, numberOf.get(from), [numberOf.get(to)]);
+    else if (isKept) model.arcs.push({ from: numberOf.get(from), to: numberOf.get(to), lag: 0 });
+  }
 }
 
 // the project of what is left: between a start and an end, each activity behind a wait up to its start
 function waitingModel(project, spans) {
   const kept = spans.flatMap((span, at) => (span ? [at] : []));
   const numberOf = new Map(kept.map((at, number) => [at, number + 1]));
-  const free = project.capacities.map(() => 0);
   const durations = [0, ...kept.map((at) => spans[at].end - spans[at].first)], arcs = [];
-  const wait = (duration, from, followers) => {
-    const own = durations.push(duration) - 1;
-    for (const [before, to] of [[from, own], ...followers.map((to) => [own, to])]) {
-      arcs.push({ from: before, to, lag: 0 });
-    }
-    return own;
-  };
-  const instants = [...new Set(kept.map((at) => spans[at].first))].sort((a, b) => a - b);
-  instants.reduce(([from, before], instant) => [wait(instant - before, from, kept
-    .filter((at) => spans[at].first === instant).map((at) => numberOf.get(at))), instant], [0, 0]);
-  for (const { from, to, lag } of arcsOverWaits(project)) {
-    const isKept = spans[from] && spans[to] && spans[from].end + lag <= spans[to].first;
-    if (isKept && lag) wait(lag, numberOf.get(from), [numberOf.get(to)]);
-    else if (isKept) arcs.push({ from: numberOf.get(from), to: numberOf.get(to), lag: 0 });
-  }
-  const needs = durations.map((_, number) => project.needs[kept[number - 1]] ?? free);
-  const last = durations.length;
+  const model = { durations, arcs, capacities: project.capacities };
+  const instants = [...new Set(kept.map((at) => spans[at].first))].filter((instant) => instant > 0)
+    .sort((a, b) => a - b);
+  instants.reduce(([from, before], instant) => [addWait(model, instant - before, from,
+    kept.filter((at) => spans[at].first === instant).map((at) => numberOf.get(at))), instant],
+  [0, 0]);
+  addLinks(model, project, spans, numberOf);
+  const last = durations.push(0) - 1, free = project.capacities.map(() => 0);
   arcs.push(...kept.map((at) => ({ from: numberOf.get(at), to: last, lag: 0 })));
-  return { kept, model: { durations: [...durations, 0], needs: [...needs, free], arcs,
-    capacities: project.capacities } };
+  model.needs = durations.map((_, number) => project.needs[kept[number - 1]] ?? free);
+  return { kept, model };
 }
 
 // the ids and names of what is left, and ids of waits behind it
-function labelsFor({ ids, names, resources }, kept, count) {
-  const own = (texts) => Object.fromEntries(kept.flatMap((at, number) =>
-    (texts.has(at + 1) ? [[number + 2, texts.get(at + 1)]] : [])));
+function labelsFor({ names, resources }, spans, kept, count) {
+  const own = (textOf) => Object.fromEntries(kept.map((at, number) => [number + 2, textOf(at)])
+    .filter(([, text]) => text));
   const waits = Array.from({ length: count - kept.length - 2 }, (_, at) =>
     [kept.length + 2 + at, `wait+${at}`]);
-  return { ids: { ...own(ids), ...Object.fromEntries(waits) }, names: own(names),
-    resources: Object.fromEntries(resources) };
+  return { ids: { ...own((at) => spans[at].id), ...Object.fromEntries(waits) },
+    names: own((at) => names.get(at + 1)), resources: Object.fromEntries(resources) };
 }
 
 function wordsOn({ status, makespan, lower_bound: lower, rows, ...found }) {
@@ -152,7 +174,7 @@ function wordsOn({ status, makespan, lower_bound: lower, rows, ...found }) {
 export function waitingProject(list, found, instants) {
   const project = readProject(list), spans = spansOf(project, found, instants);
   const { kept, model } = waitingModel(project, spans);
-  const labels = labelsFor(project, kept, model.durations.length);
+  const labels = labelsFor(project, spans, kept, model.durations.length);
   return { text: projectText(model, labels), firsts: kept.map((at) => spans[at].first), labels };
 }
 
@@ -165,7 +187,7 @@ export async function plannedBy(file, told) {
   if (!firsts.length) throw new Refusal("Open another list: all activities of this one are done.");
   const { rows } = tableOf(await printed(["schedule", "num", "plan.sm"], { "plan.sm": own.text }));
   if (!firsts.every((first, number) => rows[number + 1].start === first)) {
-    throw new Refusal("Save this list, and plan it with plan solve: the page can't draw it.");
+    throw new Refusal(OTHER);
   }
   const { start, days, holidays } = dates;
   return { words: wordsOn(found), plan: {

@@ -303,6 +303,17 @@ def try_week(modules, draw):
         files = given_files(modules.room, {"given.sm": own["text"], "given.txt": " ".join(map(str, starts_by("num", own["text"].encode())))})
         heads, _, row, *_ = [line.split() for line in plan("slack", *files)[1].decode().splitlines()]
         same("the slack of A", row[heads.index("slack")], "0")
+    # a list without ids; a schedule of another list
+    given = plan("import", "-", given=b"name,duration\nx,3\ny,2\n")[1].decode()
+    found = json.loads(plan("solve", "--format", "json", "-", given=b"name,duration,due\nx,3,5\ny,2,4\n")[1])
+    own = modules.values([["week", "waitingProject", [given, found, [0]]]])[0]
+    same("ids of numbers", [own["labels"][kind] for kind in ("ids", "names")], [{"2": "1", "3": "2"}, {"2": "x", "3": "y"}])
+    found["rows"].pop()
+    try:
+        modules.values([["week", "waitingProject", [given, found, [0]]]])
+        raise Wrong("the schedule of another list is drawn")
+    except Wrong as fault:
+        same("the schedule of another list", "the page can't draw it" in str(fault), True)
     same("lists without dates", modules.values([["week", "withoutDates", [f"id,duration,due\nA,2,1\n{row}", {"map": given}]]
                                                 for row, given in (("capacity,,3\n", []), ("", [["due", 3]]))]), [None, None])
 

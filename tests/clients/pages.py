@@ -295,3 +295,16 @@ def open_plan(browser, n):
     """, f"Plan {n}")
     wait_plan(browser, n)
     wait_idle(browser)
+
+
+def plan_by_dates(browser, fields, words):
+    """Fills the fields that a list with dates has, makes its plan, and waits for words on it."""
+    for name, value in fields.items():
+        browser.run("""
+            const field = document.querySelector(`#capacities [name=${arguments[0]}]`);
+            field.value = arguments[1];
+            field.dispatchEvent(new Event("change"));
+        """, name, value)
+    submit(browser, "import")
+    wait_text(browser, "#import-answer", words)
+    wait_idle(browser)
