@@ -198,7 +198,7 @@ def shop_by_keys(browser, desk, office):
     wait_idle(browser)
     reach(browser, "#lines")
     browser.press(DOWN)
-    browser.wait("lines of jobs", "return document.querySelector('#drawing .name').textContent.startsWith('J1')")
+    browser.wait("lines of jobs", "return document.querySelector('#drawing .name').textContent.startsWith('1 ')")
     reach(browser, "#drawn [name=drawn]:checked", back=True)
     same("the schedule that is drawn", browser.run("return document.activeElement.value"), "best")
     reach(browser, "#tab-table")

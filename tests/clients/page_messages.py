@@ -73,7 +73,6 @@ LISTS = [
     ("T8 line 3 predecessor 1SS", "Write another link in place of 1SS of B Walls, north (line 3), or split an activity."),
     ("T8 line 3 predecessor 12EA+3", "Write another link in place of 12EA+3 of B Walls, north (line 3), or split an activity."),
     ("T9 line 3 need crew", "Write a whole number as the need of B Walls, north (line 3) for crew."),
-    ("T10 no capacity due", "Delete the column due, or plan the list with plan solve."),
     ("T10 no capacity big crew", "Enter the capacity of big crew, or add a row whose id is capacity."),
     ("T11 cycle A C", "Delete one predecessor of the cycle A, C."),
     ("T12 limit line 0", "Choose a coarser time unit, or split the project."),
@@ -81,10 +80,10 @@ LISTS = [
     ("T14 no resource crew", "Give the column crew its name again, or enter the capacities again."),
     ("T15 steps order 4711", "Merge steps of order 4711, or split the order."),
     ("T16 column Successors", "Give the predecessors of each row instead."),
-    ("T17 line 4 begun", "Give today's instant with --now."),
+    ("T17 line 4 begun", "Enter the present instant or date as Now."),
     ("T18 an Excel workbook: save it as CSV UTF-8", "Save its sheet as CSV (UTF-8), and drop that."),
     ("T19 line 4 need crew above 2", "Raise the capacity of crew, or lower what 7 (line 4) needs."),
-    ("T20 line 3 number", "Write a whole number for each date and amount of B Walls, north (line 3)."),
+    ("T20 line 3 number", "Write a whole number for each date and amount of B Walls, north (line 3), or enter the first date."),
     ("T21 line 4 dates", "Correct one of the dates of 7 (line 4), or delete it."),
     ("S11 crew 8", "Interrupt begun work, or move an appointment."),
     ("S12 no plan", "Move an appointment, raise a capacity, or shorten an absence."),
@@ -97,8 +96,7 @@ GERMANS = [
 # what to do about the columns that a note names
 IGNORED = [
     ("ignored columns: Site, Cost center", []),
-    ("ignored columns: due, Site, earliest; read as Windows-1252",
-     ["The page plans without the dates in due, earliest: plan solve reads them."]),
+    ("ignored columns: due, Site, earliest; read as Windows-1252", []),
     ("ignored columns: Active, Resource Names",
      ["To count the names in Resource Names, add a row with the id capacity, and write, for example, crew[3],digger there."]),
 ]

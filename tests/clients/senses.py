@@ -29,7 +29,7 @@ CONTRAST = """
     const meet = (a, b) => a.left < b.right && b.left < a.right && a.top < b.bottom && b.top < a.bottom;
     const bandsAt = (node) => {
         const box = node.getBoundingClientRect();
-        return [...node.closest("svg").querySelectorAll(".free")].filter((band) =>
+        return [...node.closest("svg").querySelectorAll(".off")].filter((band) =>
             meet(box, band.getBoundingClientRect())).map((band) => parts(getComputedStyle(band).fill));
     };
     const found = [];
@@ -51,7 +51,7 @@ CONTRAST = """
             if (value < 4.5) tell(node, value, node.textContent);
         }
     }
-    for (const node of document.querySelectorAll(".bar rect, .bar path, .used, .over")) {
+    for (const node of document.querySelectorAll(".bar rect, .bar path, .use, .over")) {
         if (!node.checkVisibility()) continue;
         const style = getComputedStyle(node), page = behind(node.closest("svg"));
         const mixed = (colour) => colour.map((part, at) =>
