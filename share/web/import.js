@@ -8,7 +8,8 @@ import {
 import { rowWords } from "./cells.js";
 import { noteList, openSaved, replacedFile, showEdit } from "./edit.js";
 import { isAlone } from "./local.js";
-import { ignoredWords, isOfDates } from "./messages.js";
+import { absenceWords, ignoredWords, isOfDates } from "./messages.js";
+import { movedNodes } from "./moved.js";
 import { showPlace } from "./place.js";
 import { openPlan, showPlan, takeStarts } from "./plan.js";
 import { showPlans } from "./plans.js";
@@ -119,10 +120,10 @@ export async function takeFile(file) {
   return takeBytes({ name: file.name, bytes, text });
 }
 
-/** Takes the bytes of a file. `replaces` is the number of the plan whose list it is, if any, and
+/** Takes the bytes of a file. `from` is the number of the plan whose list it is, if any, and
  * `given` are capacities that the list lacks. */
-export async function takeBytes({ name, bytes, text, given = new Map(), replaces }) {
-  const taken = { name, bytes, text, given, replaces };
+export async function takeBytes({ name, bytes, text, given = new Map(), from }) {
+  const taken = { name, bytes, text, given, from };
   try {
     Object.assign(taken, await recognized(taken));
   } catch (fault) {
@@ -161,8 +162,11 @@ async function showList() {
   byId("desk").toggleAttribute("data-list", true);
   await showEdit(file);
   importButton().hidden = Boolean(fault);
+  importButton().textContent = file.from && isAlone() ? "Replace the list" : "Make the plan";
+  const moved = fault ? [] : await movedNodes(file);
   fill("preview", ...(fault ? faultyNodes(file, fault.message)
     : isProject ? projectNodes(file, readProject(text)) : await shopNodes(file, text)));
+  byId("preview").firstChild.after(...moved);
   fill("capacities", ...(isProject ? capacityNodes(file) : []));
   if (byId("edit").contains(document.activeElement)) return;
   if (!fault) importButton().focus();
@@ -192,16 +196,19 @@ function capacityNode(name, value) {
   return make("label", {}, `Capacity of ${name}`, input);
 }
 
+const hint = (words) => say(words, { class: "hint" });
+
 // the program's note on columns that it ignores, or on the letters of the file
 const noteNodes = (note) => (note.match(/[^;]+/g) ?? []).flatMap((words) => [words.trim()
   .replace(/^ignored columns:/,
     "These columns are no crews, because no capacity is given, and are ignored:")
   .replace(/^read as (.*)$/, "The list isn't in UTF-8; it is read as $1."), ...ignoredWords(words)])
-  .map((words) => say(words, { class: "hint" }));
+  .map(hint);
 
-const previewNodes = (name, kind, parts, table, note) => [
-  tell(`${name} becomes a ${kind} of ${parts}. Change the list, or make the plan.`),
-  ...noteNodes(note),
+const previewNodes = (name, kind, parts, table, notes) => [
+  tell(`${name} becomes a ${kind} of ${parts}. Change it, or ${
+    importButton().textContent.toLowerCase()}.`),
+  ...notes,
   make("details", {}, make("summary", {}, "As the program reads it"),
     wideNode(`The ${kind}`, tableNode({ label: `The ${kind}`, ...table }))),
 ];
@@ -223,7 +230,7 @@ function projectNodes({ name, list: { note } }, project) {
     caption: caps.length && `Capacities: ${caps.join(", ")}`,
     heads: [ids.size ? "id" : "number", "name", "duration", "predecessors", ...resources.values()],
     rows,
-  }, note);
+  }, [...noteNodes(note), ...absenceWords(rows.map(([id]) => id)).map(hint)]);
 }
 
 async function shopNodes({ name, list: { note } }, text) {
@@ -235,7 +242,7 @@ async function shopNodes({ name, list: { note } }, text) {
     heads: ["job", "order", "steps"],
     rows: [...names].map(([job, order]) => [job, order,
       rows.filter((row) => row.job === job).map(wordsOf).join(", ")]),
-  }, note);
+  }, noteNodes(note));
 }
 
 const lineIn = (message) => Number(message.match(/\bline (\d+)/)?.[1] ?? 0);
@@ -279,7 +286,7 @@ async function importFile(fields) {
   const bytes = list ? new TextEncoder().encode(list.text) : file.bytes;
   let made;
   try {
-    made = replacedFile(file.replaces, { kind: isProject ? "project" : "shop", instance, bytes })
+    made = replacedFile(file.from, { kind: isProject ? "project" : "shop", instance, bytes })
       ?? await command(path, "POST", new Blob([bytes]));
   } catch (fault) {
     fault.labels = labelsOf(isProject, bytes);

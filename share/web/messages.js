@@ -31,6 +31,12 @@ export function ignoredWords(note) {
   ];
 }
 
+const isAbsence = (id) => /^absence$/i.test(id);
+
+/** Returns what to do about rows of absences, which are activities for the page. */
+export const absenceWords = (ids) => (ids.some(isAbsence)
+  ? ["The row absence is planned as an activity. Delete it, or plan the list with plan solve."] : []);
+
 // by code; codes of start times end with s
 const MESSAGES = {
   F2: ({ line }) => ["Save the file as plain text in UTF-8.", `Line ${line} contains a zero byte.`],
@@ -89,12 +95,14 @@ const MESSAGES = {
       `${CELL} For fractions use a finer time unit, for example hours.`]),
   T6: ({ row }) => [`Give ${row} an id of at most 32 characters.`,
     "An id has no blank, comma or semicolon. An order and a machine need a name."],
-  T7: ({ row, word }) => [`Give ${row} another id.`, `An earlier row has the id ${word} too.`],
+  T7: ({ row, word }) => (isAbsence(word)
+    ? ["Delete the rows absence, or plan the list with plan solve.", "The page has no absences."]
+    : [`Give ${row} another id.`, `An earlier row has the id ${word} too.`]),
   T8: ({ row, word }) => (LINK.test(word)
     ? [`Write another link in place of ${word} of ${row}, or split an activity.`,
       "A predecessor ends before the activity starts. A lag is a whole number of days behind a plus."]
     : [`Correct the predecessor ${word} of ${row}, or add its row.`,
-      "No row has this id, and not exactly one this name. A group can't be a predecessor."]),
+      "No row has this id, and none or several have this name. A group can't be a predecessor."]),
   T9: ({ row, word }) => [`Write a whole number as the need of ${row} for ${word}.`,
     `${CELL} If ${word} isn't a resource, delete its column or its header.`],
   T10: ({ word }) => (isOfDates(word)

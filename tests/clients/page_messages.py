@@ -69,6 +69,7 @@ LISTS = [
     ("T5 line 3 duration", "Write a whole number as the duration of B Walls, north (line 3)."),
     ("T6 line 4 id", "Give 7 (line 4) an id of at most 32 characters."),
     ("T7 line 3 id A twice", "Give B Walls, north (line 3) another id."),
+    ("T7 line 3 id absence twice", "Delete the rows absence, or plan the list with plan solve."),
     ("T8 line 3 predecessor F7", "Correct the predecessor F7 of B Walls, north (line 3), or add its row."),
     ("T8 line 3 predecessor 1SS", "Write another link in place of 1SS of B Walls, north (line 3), or split an activity."),
     ("T8 line 3 predecessor 12EA+3", "Write another link in place of 12EA+3 of B Walls, north (line 3), or split an activity."),

@@ -1,13 +1,16 @@
 """Pictures of each screen of the browser page, at four widths, in the light and in the dark, for
-docs/pictures/screens. `tests/clients/browser --pictures` takes them."""
+docs/pictures/screens. `tests/clients/browser --pictures` takes them. At each width nothing is wider than
+the window; on the two small ones buttons and fields have room for a finger, and a plan begins above the
+fold."""
 
+import concurrent.futures
 import os
 import subprocess
 import time
 
-from exchanges import OFFICE_KEY, TOP
+from exchanges import OFFICE_KEY, TOP, file_of
 from front import sent
-from pages import drop, open_tab, set_date, submit, wait_plan, wait_text
+from pages import drop, open_tab, set_date, submit, wait_idle, wait_plan, wait_text
 from pictures import smaller
 from programs import Wrong, same
 from visits import large_shop, named_house, sign_in
@@ -15,12 +18,57 @@ from visits import large_shop, named_house, sign_in
 FOLDER = os.path.join(TOP, "docs", "pictures", "screens")
 SIZES = [(320, 640), (360, 740), (800, 600), (1600, 900)]
 COLOURS = 16
-LARGEST_OF_ALL = 1500000
+LARGEST_OF_ALL = 1950000
 BUNDLE = os.path.join(TOP, "share", "web", "engine", "bundle")
+OPEN_LIST = "scrollTo(0, 0); document.querySelectorAll('#preview details').forEach((part) => { part.open = true; })"
+
+# buttons and fields that are too low for a finger; a box or a button of a choice has its label
+LOW = """
+    return [...document.querySelectorAll("button, input, select, textarea, summary")].flatMap((node) => {
+        const place = /^(checkbox|radio)$/.test(node.type) ? node.parentNode : node;
+        const { height } = place.getBoundingClientRect();
+        return !node.checkVisibility() || height >= 32 ? [] : [`${node.tagName} ${node.name ?? ""} ${
+            node.textContent.slice(0, 20)} ${height}`];
+    });
+"""
+
+
+def same_room(browser, name, width):
+    """Nothing sticks out of the window; a finger has room."""
+    wide = browser.run("return document.documentElement.scrollWidth")
+    same(f"the width of {name} at {width}", wide <= width, True)
+    if width < 640:
+        same(f"what is too low for a finger in {name} at {width}", browser.run(LOW), [])
+
+
+class Folder:
+    """The pictures of screens, which two processes reduce meanwhile."""
+
+    def __init__(self):
+        self.pool = concurrent.futures.ProcessPoolExecutor(2)
+        self.waiting = []
+
+    def keep(self, name, picture, colours):
+        self.waiting.append((name, self.pool.submit(smaller, picture, colours)))
+
+    def end(self):
+        """Writes all of them, in the place of those that were there."""
+        with self.pool:
+            pictures = {name: later.result() for name, later in self.waiting}
+        if sum(map(len, pictures.values())) > LARGEST_OF_ALL:
+            raise Wrong(f"the pictures have {sum(map(len, pictures.values()))} bytes")
+        for name in os.listdir(FOLDER):
+            os.remove(os.path.join(FOLDER, name))
+        for name, picture in pictures.items():
+            with open(os.path.join(FOLDER, name), "wb") as file:
+                file.write(picture)
+
+
+taken = None
 
 
 def screen(browser, name, prepare="scrollTo(0, 0)", colours=COLOURS):
-    """The pictures of a screen, which isn't wider than its window."""
+    """The pictures of a screen."""
     for width, height in SIZES:
         browser.resize(width, height)
         for scheme in ("light", "dark"):
@@ -29,11 +77,19 @@ def screen(browser, name, prepare="scrollTo(0, 0)", colours=COLOURS):
             # the chart follows the width
             time.sleep(0.3)
             browser.run(prepare)
-            wide = browser.run("return document.documentElement.scrollWidth")
-            same(f"the width of {name} at {width}", wide <= width, True)
-            with open(os.path.join(FOLDER, f"{name}-{width}-{scheme}.png"), "wb") as file:
-                file.write(smaller(browser.picture(), colours))
+            same_room(browser, name, width)
+            taken.keep(f"{name}-{width}-{scheme}.png", browser.picture(), colours)
     browser.darken("light")
+    browser.resize(1120, 760)
+
+
+def same_first(browser):
+    """On a small screen, and at 200 %, a plan is first: its chart begins above the fold."""
+    for width, height in SIZES[:3]:
+        browser.resize(width, height)
+        time.sleep(0.3)
+        top = browser.run("scrollTo(0, 0); return document.getElementById('drawing').getBoundingClientRect().top")
+        same(f"a plan begins above the fold at {width}", top < 0.75 * height, True)
     browser.resize(1120, 760)
 
 
@@ -73,10 +129,18 @@ def take_project(browser):
     open_tab(browser, "table")
     submit(browser, "best")
     wait_text(browser, "#drawn label:last-child", "shortest")
+    same_first(browser)
     screen(browser, "project")
     for tab in ("table", "changes", "handin"):
         screen(browser, tab, f"document.getElementById('tab-{tab}').click();"
                              " document.getElementById('tabs').scrollIntoView()")
+    browser.run("check.elements.starts.value = arguments[0]", "0 " * 14)
+    submit(browser, "check")
+    wait_text(browser, "#check-answer strong", "Start B Foundation later.")
+    screen(browser, "check", "document.getElementById('check').scrollIntoView()")
+    browser.click("#help-button")
+    screen(browser, "help")
+    browser.press("\ue00c")
     browser.click("#leave")
 
 
@@ -87,26 +151,46 @@ def take_shop(browser):
     wait_plan(browser, 4)
     submit(browser, "best")
     wait_text(browser, "#drawn label:last-child", "shortest")
-    screen(browser, "shop", colours=32)
+    screen(browser, "shop", colours=24)
     browser.click("#leave")
 
 
 def take_alone(browser, office):
-    """plan.html as it is opened."""
+    """plan.html as it is opened; a list with dates, one with an absence alone, and a changed list."""
     path = os.path.join(os.path.dirname(office.database), "plan.html")
     subprocess.run([BUNDLE, path], check=True)
     browser.open("file://" + path)
     wait_text(browser, "#preview", "becomes a project")
     screen(browser, "alone")
+    drop(browser, "site.csv", file_of("examples/site.csv").decode())
+    wait_text(browser, "#preview", "site.csv")
+    screen(browser, "dates")
+    drop(browser, "absence.csv", named_house().replace("capacity,", "absence,Jo is away,5,,1,0\ncapacity,"))
+    wait_text(browser, "#preview", "absence.csv")
+    screen(browser, "absence")
+    drop(browser, "house.csv", named_house())
+    wait_text(browser, "#preview", "becomes a project of 12 activities")
+    submit(browser, "import")
+    wait_plan(browser, 1)
+    submit(browser, "best")
+    wait_text(browser, "#drawn label:last-child", "shortest")
+    browser.click("#edit-list")
+    wait_text(browser, "#preview", "With this list, by the search")
+    browser.type("#grid [data-row='2'][data-column='2']", "8")
+    browser.press("\ue004")
+    wait_text(browser, "#undo", "Undo")
+    wait_text(browser, "#preview", "With this list, by the search: 47")
+    wait_idle(browser)
+    screen(browser, "replace", OPEN_LIST)
 
 
 def take_screens(browser, office):
     """All of them; they are small."""
+    global taken
     os.makedirs(FOLDER, exist_ok=True)
+    taken = Folder()
     take_office(browser, office)
     take_project(browser)
     take_shop(browser)
     take_alone(browser, office)
-    sizes = [os.path.getsize(os.path.join(FOLDER, name)) for name in os.listdir(FOLDER)]
-    if sum(sizes) > LARGEST_OF_ALL:
-        raise Wrong(f"the pictures have {sum(sizes)} bytes")
+    taken.end()

@@ -106,10 +106,12 @@ def visit_help(browser):
     """The help panel explains each rule and each column of the date table."""
     browser.click("#help-button")
     terms = texts(browser, "#terms dt")
-    for term in (*RULES, *SHOP_RULES, "ES", "LF", "TF", "FF", "Slack", "Makespan"):
+    rules = [f"{RULE_NAMES[rule]} ({rule})" for rule in {*RULES, *SHOP_RULES}]
+    for term in (*rules, "ES", "LF", "TF", "FF", "Slack", "Makespan"):
         same(f"the term {term}", terms.count(term), 1)
     words = dict(zip(terms, texts(browser, "#terms dd")))
-    same("lft", "least latest finish" in words["lft"], True)
+    same("lft", words["latest finish first (lft)"], "the activity that must end first")
+    same("the top of the panel", browser.run("return document.getElementById('help').scrollTop"), 0)
     browser.press(ESCAPE)
     browser.wait("no panel", "return !document.getElementById('help').open")
 
