@@ -8,8 +8,9 @@ import {
 import { rowWords } from "./cells.js";
 import { noteList, openSaved, replacedFile, showEdit } from "./edit.js";
 import { isAlone } from "./local.js";
-import { absenceWords, ignoredWords, isOfDates } from "./messages.js";
+import { isOfDates } from "./messages.js";
 import { movedNodes } from "./moved.js";
+import { noteNodes, projectNotes } from "./notes.js";
 import { showPlace } from "./place.js";
 import { openPlan, showPlan, takeStarts } from "./plan.js";
 import { showPlans } from "./plans.js";
@@ -160,6 +161,7 @@ async function showList() {
   const { file } = page, { fault, text, isProject } = file.list;
   byId("preview").hidden = false;
   byId("desk").toggleAttribute("data-list", true);
+  byId("number-rows").hidden = true;
   await showEdit(file);
   importButton().hidden = Boolean(fault);
   importButton().textContent = file.from && isAlone() ? "Replace the list" : "Make the plan";
@@ -196,15 +198,6 @@ function capacityNode(name, value) {
   return make("label", {}, `Capacity of ${name}`, input);
 }
 
-const hint = (words) => say(words, { class: "hint" });
-
-// the program's note on columns that it ignores, or on the letters of the file
-const noteNodes = (note) => (note.match(/[^;]+/g) ?? []).flatMap((words) => [words.trim()
-  .replace(/^ignored columns:/,
-    "These columns are no crews, because no capacity is given, and are ignored:")
-  .replace(/^read as (.*)$/, "The list isn't in UTF-8; it is read as $1."), ...ignoredWords(words)])
-  .map(hint);
-
 const previewNodes = (name, kind, parts, table, notes) => [
   tell(`${name} becomes a ${kind} of ${parts}. Change it, or ${
     importButton().textContent.toLowerCase()}.`),
@@ -230,7 +223,7 @@ function projectNodes({ name, list: { note } }, project) {
     caption: caps.length && `Capacities: ${caps.join(", ")}`,
     heads: [ids.size ? "id" : "number", "name", "duration", "predecessors", ...resources.values()],
     rows,
-  }, [...noteNodes(note), ...absenceWords(rows.map(([id]) => id)).map(hint)]);
+  }, projectNotes(note, [...ids.values()]));
 }
 
 async function shopNodes({ name, list: { note } }, text) {

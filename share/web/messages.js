@@ -112,7 +112,8 @@ const MESSAGES = {
       "If the column isn't a resource, delete it or its header."]),
   T11: ({ cycle }) => [`Delete one predecessor of the cycle ${cycle}.`,
     "Each of these rows precedes the next, and the last precedes the first."],
-  T12: ({ place }) => ["Choose a coarser time unit, or split the project.",
+  T12: ({ line, place }) => [
+    `${line === "0" ? "Add a row, choose" : "Choose"} a coarser time unit, or split the project.`,
     `In ${place} a limit is exceeded: 1 to 500 rows, 16 resources, durations and amounts up to `
     + "10,000, all durations together up to 1,000,000, names up to 200 bytes. In a list of orders: "
     + "1 to 50 orders, 1 to 20 machines."],

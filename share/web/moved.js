@@ -19,8 +19,9 @@ function movedTable({ rows }, { ids, names }) {
     marks: rows.map(({ shift }) => shift !== 0) }));
 }
 
-// ids have to be the same, and orders have none
-async function movesOf({ model, subject, schedules, drawn }, text, schedule) {
+// orders have no ids, and not all activities
+async function movesOf({ kind, model, subject, schedules, drawn, labels }, text, schedule) {
+  if (kind === "shop" || !Object.keys(labels.ids).length) return [""];
   const given = { "old.sm": subject.files["plan.sm"], "new.sm": text, new: schedule,
     old: earlyStarts(model, startsOf(schedules.get(drawn))) };
   const words = ["compare", "--format", "json", "--old", "old.sm", "new.sm", "old", "new"];
@@ -42,7 +43,7 @@ export async function movedNodes({ from, list: { text } }) {
     : [[isShop ? "shop" : "schedule", rule], RULE_NAMES[rule]];
   try {
     const schedule = await printed([...words, "new", ...(isShop ? ["shop"] : [])], { new: text });
-    const [told, ...nodes] = isShop ? [""] : await movesOf(plan, text, schedule);
+    const [told, ...nodes] = await movesOf(plan, text, schedule);
     return [say(`Plan ${plan.n} now: ${nameOf(plan, drawn)}. With this list, by ${by}: ${
       tableOf(schedule).total}${told}.`), ...nodes];
   } catch (fault) {

@@ -404,7 +404,7 @@ def visit_calendar(browser):
     set_date(browser, "#calendar [name=start]", start)
     submit(browser, "calendar")
     wait_text(browser, "#calendar .answer", "From 2024-03-01 on; working days Mo, Tu, We, Th, Fr.")
-    same("set here", f"Set here on {datetime.date.today()}; the office doesn't"
+    same("set here", f"Set here on {datetime.date.today()}. The page can't see what is set elsewhere."
          in seen(browser, "#calendar-set"), True)
     for rule in RULES:
         browser.click(f"#drawn [value={rule}]")
