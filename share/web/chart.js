@@ -28,6 +28,7 @@ const DRAWN = { width: 1390, letters: 4 / 3 };
 const SHEET_LINES = 40;
 
 const numberIn = (node, name) => Number(node.getAttribute(name));
+const nameIn = (part) => part.querySelector(":scope > svg > text");
 
 // -- the bars of a drawing
 
@@ -58,6 +59,12 @@ function barNode(shape, bar) {
   return node;
 }
 
+// a machine or a job without a name has a number alone
+function nameLine(text, { plan }) {
+  const isBare = plan.kind === "shop" && /^\d+$/.test(text.textContent);
+  if (isBare) text.prepend(`${byId("lines").value} `);
+}
+
 // the images of a chart, their lines, and the bars in the order of the view, each with its node
 function chartOf(view) {
   const images = view.drawings.charts.map(drawingNode);
@@ -72,8 +79,9 @@ function chartOf(view) {
   const bars = view.bars.filter(({ index }) => nodes.has(index))
     .map((bar) => ({ ...bar, node: nodes.get(bar.index) }));
   for (const { node } of bars) node.parentNode.append(node);
-  const kept = images.filter((image) => linesIn(image).length);
-  return { images: kept, lines: kept.flatMap(linesIn), bars };
+  const kept = images.filter((image) => linesIn(image).length), lines = kept.flatMap(linesIn);
+  for (const line of lines) nameLine(nameIn(line), view);
+  return { images: kept, lines, bars };
 }
 
 // the left and the right end of a bar
@@ -109,8 +117,6 @@ function place(image, edges) {
     }
   }
 }
-
-const nameIn = (part) => part.querySelector(":scope > svg > text");
 
 function roomForNames({ plan }, lines, width) {
   const longest = Math.max(...lines.map((line) => widthOf(nameIn(line).textContent)));
@@ -229,17 +235,18 @@ function useSvg(text, name, capacity, drawn) {
   const marks = image.querySelectorAll(":scope > text:not(.end), :scope > .week, title");
   for (const node of marks) node.remove();
   if (capacity < drawn) lowerMost(image, capacity, drawn);
+  nameIn(image).textContent = name;
   return draw("svg", { role: "img", "aria-label": `Use of ${name}, capacity ${capacity}`,
     viewBox: `0 ${AXIS} ${DRAWN.width} ${USE}` }, ...image.children);
 }
 
 // shows the use above the line of the capacity in the colour of errors
-function markOver(image, width) {
-  const area = image.querySelector(".use");
+function markOver(image) {
   const [, y] = image.querySelector(".most").getAttribute("d").split(" ");
-  const height = parseFloat(y) - AXIS;
-  area.after(draw("svg", { y: AXIS, width, height, viewBox: `0 ${AXIS} ${width} ${height}` },
-    draw("path", { class: "over", d: area.getAttribute("d") })));
+  const least = parseFloat(y), area = image.querySelector(".use");
+  const steps = [...area.getAttribute("d").matchAll(/H([\d.]+)V(\d+)(?=H([\d.]+))/g)];
+  area.after(...steps.filter(([, , top]) => top < least).map(([, x, top, end]) =>
+    draw("rect", { class: "over", x, y: top, width: end - x, height: least - top })));
 }
 
 // the images of the use, each with the verdict that more is needed than there is
@@ -260,8 +267,8 @@ function otherWrong(view) {
   return [...over.values()].includes(wrong) ? [] : wrongNodes(view, wrong);
 }
 
-const useNodes = (view, uses, width) => uses.flatMap(({ over, image }) => {
-  markOver(image, width);
+const useNodes = (view, uses) => uses.flatMap(({ over, image }) => {
+  markOver(image);
   return [...wrongNodes(view, over), image];
 });
 
@@ -272,7 +279,7 @@ function screenUses(view, { edges }, width) {
     shorten(nameIn(image), edges.left - 24);
     image.setAttribute("viewBox", `0 ${AXIS} ${width} ${USE}`);
   }
-  return [...otherWrong(view), ...useNodes(view, uses, width)];
+  return [...otherWrong(view), ...useNodes(view, uses)];
 }
 
 function showDrawings(view) {
@@ -364,11 +371,11 @@ function sheetsOf(view) {
   const wrong = otherWrong(view);
   const room = LINE * (SHEET_LINES - charts.at(-1).count) - SENTENCE * wrong.length;
   const [below, ...others] = onSheets(usesOf(view), room);
-  const rest = [...wrong, ...useNodes(view, below, DRAWN.width)];
+  const rest = [...wrong, ...useNodes(view, below)];
   return [
     ...charts.map(({ chart }, at) => sheet(at + 1, length, chart,
       make("ul", { class: "legend" }, ...legendNodes(view)), ...(at < length - 1 ? [] : rest))),
-    ...others.map((uses) => sheet(1, 1, axisOfUses(view), ...useNodes(view, uses, DRAWN.width))),
+    ...others.map((uses) => sheet(1, 1, axisOfUses(view), ...useNodes(view, uses))),
   ];
 }
 

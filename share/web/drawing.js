@@ -81,6 +81,12 @@ export async function todayDrawing(calendar, total) {
   return charts[0];
 }
 
+/** Returns the days of a schedule that needn't be feasible. */
+export function looseDays(rows, calendar) {
+  const model = withoutNeeds(rows.map(({ d }) => d));
+  return daysOf({ model, subject: subjectFor(model) }, rows.map(({ start }) => start), calendar);
+}
+
 /** Returns a calendar of a usual week that gives the days of schedules, as pairs of the rows of a
  * schedule and its days; null if there is none. */
 export async function usualWeek(schedules) {
@@ -88,9 +94,7 @@ export async function usualWeek(schedules) {
     .filter((first) => first !== "-");
   const fits = async (calendar) => {
     for (const [rows, days] of schedules) {
-      const model = withoutNeeds(rows.map(({ d }) => d));
-      const own = await daysOf({ model, subject: subjectFor(model) }, rows.map((row) => row.start), calendar);
-      if (dayCells(own) !== dayCells(days)) return false;
+      if (dayCells(await looseDays(rows, calendar)) !== dayCells(days)) return false;
     }
     return true;
   };

@@ -4,7 +4,8 @@
 import { cellsOf, listText } from "./cells.js";
 import { byId, clear, download, onSubmit, put } from "./dom.js";
 import { letChangeGrid, markLine, showGrid } from "./grid.js";
-import { listOf, noteFile, sentFile, takeBytes, takeFile } from "./import.js";
+import { noteFile, sentFile, takeBytes, takeFile } from "./import.js";
+import { listOf } from "./kinds.js";
 import { isAlone, isUnsaved, keepPlans, plansIn, replaceFile, savedFile } from "./local.js";
 import { leavePlan } from "./plan.js";
 import { askLists, showPlans } from "./plans.js";

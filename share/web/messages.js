@@ -9,7 +9,7 @@ const HEADERS = "Change headers and columns in the spreadsheet, or below in the 
 // links of MS Project that the program doesn't read, in four languages, and negative lags
 const LINK = /^\d+(?:SS|SF|FF|AA|AE|EE|EA|DD|DF|FD|CC|CF|FC)\b|^\d+(?:[A-Z]{2})?-/i;
 
-// the columns of dates, which `plan solve` reads and the page doesn't
+// the columns of dates
 const DATES = /^(?:earliest|fixed|begun|remaining|done|due|late)$/i;
 
 export const isOfDates = (header) => DATES.test(header);
@@ -22,20 +22,12 @@ const ASSIGNED =
 export function ignoredWords(note) {
   const listed = note.match(/ignored columns:([^;]*)/)?.[1] ?? "";
   const headers = (listed.match(/[^,]+/g) ?? []).map((header) => header.trim());
-  const dates = headers.filter(isOfDates).join(", ");
   const assigned = headers.find((header) => ASSIGNED.test(header));
   return [
-    ...(dates ? [`The page plans without the dates in ${dates}: plan solve reads them.`] : []),
     ...(assigned ? [`To count the names in ${assigned}, add a row with the id capacity, and write, `
       + "for example, crew[3],digger there."] : []),
   ];
 }
-
-const isAbsence = (id) => /^absence$/i.test(id);
-
-/** Returns what to do about rows of absences, which are activities for the page. */
-export const absenceWords = (ids) => (ids.some(isAbsence)
-  ? ["The row absence is planned as an activity. Delete it, or plan the list with plan solve."] : []);
 
 // by code; codes of start times end with s
 const MESSAGES = {
@@ -95,9 +87,7 @@ const MESSAGES = {
       `${CELL} For fractions use a finer time unit, for example hours.`]),
   T6: ({ row }) => [`Give ${row} an id of at most 32 characters.`,
     "An id has no blank, comma or semicolon. An order and a machine need a name."],
-  T7: ({ row, word }) => (isAbsence(word)
-    ? ["Delete the rows absence, or plan the list with plan solve.", "The page has no absences."]
-    : [`Give ${row} another id.`, `An earlier row has the id ${word} too.`]),
+  T7: ({ row, word }) => [`Give ${row} another id.`, `An earlier row has the id ${word} too.`],
   T8: ({ row, word }) => (LINK.test(word)
     ? [`Write another link in place of ${word} of ${row}, or split an activity.`,
       "A predecessor ends before the activity starts. A lag is a whole number of days behind a plus."]
@@ -105,11 +95,8 @@ const MESSAGES = {
       "No row has this id, and none or several have this name. A group can't be a predecessor."]),
   T9: ({ row, word }) => [`Write a whole number as the need of ${row} for ${word}.`,
     `${CELL} If ${word} isn't a resource, delete its column or its header.`],
-  T10: ({ word }) => (isOfDates(word)
-    ? [`Delete the column ${word}, or plan the list with plan solve.`,
-      "The page reads no dates, and plans a row absence as an activity."]
-    : [`Enter the capacity of ${word}, or add a row whose id is capacity.`,
-      "If the column isn't a resource, delete it or its header."]),
+  T10: ({ word }) => [`Enter the capacity of ${word}, or add a row whose id is capacity.`,
+    "If the column isn't a resource, delete it or its header."],
   T11: ({ cycle }) => [`Delete one predecessor of the cycle ${cycle}.`,
     "Each of these rows precedes the next, and the last precedes the first."],
   T12: ({ line, place }) => [
@@ -126,11 +113,12 @@ const MESSAGES = {
     "It has more steps than the list has machines."],
   T16: ({ word }) => ["Give the predecessors of each row instead.",
     `The column ${word} gives successors. If it is a resource, add its capacity.`],
-  T17: ({ row }) => ["Give today's instant with --now.", `${row} has begun or is done.`],
+  T17: ({ row }) => ["Enter the present instant or date as Now.", `${row} has begun or is done.`],
   T18: () => ["Save its sheet as CSV (UTF-8), and drop that.", "It is a workbook, not a text."],
   T19: ({ row, word, capacity }) => [`Raise the capacity of ${word}, or lower what ${row} needs.`,
     `It needs more than the capacity ${capacity}, so it can never start.`],
-  T20: ({ row }) => [`Write a whole number for each date and amount of ${row}.`, CELL],
+  T20: ({ row }) => [
+    `Write a whole number for each date and amount of ${row}, or enter the date of instant 0.`, CELL],
   T21: ({ row }) => [`Correct one of the dates of ${row}, or delete it.`,
     "They contradict each other."],
 

@@ -32,11 +32,11 @@ async function movesOf({ kind, model, subject, schedules, drawn, labels }, text,
     make("details", { class: "moved" }, make("summary", {}, "What moves"), movedTable(moves, readProject(text)))];
 }
 
-/** Returns what a list, if it is the changed one of a plan, moves in it; nothing if no schedule of
- * it is found. */
-export async function movedNodes({ from, list: { text } }) {
+/** Returns what a list, if it is the changed one of a plan, moves in it; nothing for a list with
+ * dates, or if no schedule of it is found. */
+export async function movedNodes({ from, list: { text, begins } }) {
   const { plan } = page;
-  if (!from || plan?.n !== from || !plan.model) return [];
+  if (!from || plan?.n !== from || !plan.model || begins) return [];
   const { kind, drawn } = plan, isShop = kind === "shop";
   const rule = RULES[kind].includes(drawn) ? drawn : RULES[kind][0];
   const [words, by] = drawn === "best" ? [["solve", "--seconds", "1"], "the search"]

@@ -1,8 +1,8 @@
-// The notes below the words on a list: what the program ignores, how it reads the letters, and what the
-// page doesn't plan.
+// The notes below the words on a list: what the program ignores, how it reads the letters, and how the
+// rows are numbered.
 
 import { byId, say } from "./dom.js";
-import { absenceWords, ignoredWords } from "./messages.js";
+import { ignoredWords } from "./messages.js";
 
 const UNNUMBERED = "The list has no ids. In the plan its rows are numbered from 2 on, because 1 is the "
   + "start. Press Number the rows to have your own numbers.";
@@ -20,5 +20,5 @@ export const noteNodes = (note) => nodesOf(sentencesIn(note));
 /** Returns the notes on a list of activities, and offers to number its rows if it has no ids. */
 export function projectNotes(note, ids) {
   byId("number-rows").hidden = ids.length > 0;
-  return nodesOf([...sentencesIn(note), ...absenceWords(ids), ...(ids.length ? [] : [UNNUMBERED])]);
+  return nodesOf([...sentencesIn(note), ...(ids.length ? [] : [UNNUMBERED])]);
 }

@@ -8,6 +8,7 @@ import {
   all, byId, clear, download, during, faultNodes, fill, letTake, make, onSubmit, put, refusalNode,
   say, tableNode, tell,
 } from "./dom.js";
+import { isLinked } from "./drawing.js";
 import { showEditable } from "./edit.js";
 import { TEXTS } from "./handin.js";
 import { sentFile } from "./import.js";
@@ -292,8 +293,8 @@ function showSaves({ plan, calendar }) {
   for (const button of all("#saves button")) {
     const { value } = button;
     const isAble = value === "all.json" ? recordOf(plan.n).file
-      : value === "list.csv" ? calendar && ownList(plan)
-        : TEXTS[value] || (plan.model && (value !== "ics" || calendar));
+      : TEXTS[value] || (isLinked(plan, plan.drawn)
+        && (value === "list.csv" ? calendar && ownList(plan) : value !== "ics" || calendar));
     button.hidden = !isAble;
   }
 }

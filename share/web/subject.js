@@ -246,7 +246,8 @@ export function ownList({ n, kind, model }) {
   return kind === "project" && model && !model.isChanged && list ? list : null;
 }
 
-const capacitiesOf = (list) =>
+/** Returns the options for the capacities that were given to a list. */
+export const capacitiesOf = (list) =>
   (list?.given ?? []).flatMap(([name, amount]) => ["--capacity", `${name}=${amount}`]);
 
 /** Returns a file to save: the list, `report`, `ics` or `svg`. */

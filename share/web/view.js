@@ -3,11 +3,11 @@
 
 import { Refusal } from "./api.js";
 import { byId } from "./dom.js";
-import { drawingsOf, isLinked, shownOf, todayDrawing, usualWeek } from "./drawing.js";
+import { drawingsOf, isLinked, looseDays, shownOf, todayDrawing, usualWeek } from "./drawing.js";
 import { activityLabel, named, resourceLabel } from "./labels.js";
 import { coloursOf, today } from "./layout.js";
 import { isAlone } from "./local.js";
-import { arcsOverWaits, mostNeeded } from "./project.js";
+import { arcsOverWaits, isAbsence, mostNeeded } from "./project.js";
 import { page, recordOf, shapeOf } from "./state.js";
 import { RULE_NAMES } from "./words.js";
 import {
@@ -39,7 +39,9 @@ async function learnTimes(plan, rule) {
   const isSound = plan.model && !table.isInfeasible;
   plan.slacks.set(rule, isSound ? await slackOf(plan, starts) : null);
   if (!plan.days.has(rule) && plan.calendar) {
-    plan.days.set(rule, { rows: await daysOf(plan, starts, plan.calendar).catch(() => null) });
+    const asked = table.isInfeasible ? looseDays(table.rows, plan.calendar)
+      : daysOf(plan, starts, plan.calendar);
+    plan.days.set(rule, { rows: await asked.catch(() => null) });
   }
 }
 
@@ -157,7 +159,8 @@ function rowsOf(plan, table, dates, slack) {
     if (act) {
       const described = plan.described?.get(act);
       const id = ids[act] ?? "", name = names[act] ?? "";
-      return { ...both, number: act, id, label: id || act, name, float, ...described };
+      const own = isAbsence(id) ? { slack: "", float: "", isCritical: false } : { float };
+      return { ...both, number: act, id, label: id || act, name, ...own, ...described };
     }
     const jobName = names[job] ?? "", machineName = resources[mach] ?? "";
     const name = [jobName, machineName].filter(Boolean).join(", ");
@@ -190,8 +193,9 @@ function projectBars({ plan, rows, slack }) {
     return {
       ...row, line: row.number, isAlone: true,
       labels: [`${row.label}${row.isCritical ? "*" : ""}`],
-      colour: isByResource ? `c${most ? (most - 1) % 16 : "none"}` : bySlack,
-      legend: isByResource && (most ? resourceName(most) : "no resource"),
+      ...(isAbsence(row.id) ? { colour: "absent", legend: isByResource && "absent" } : {
+        colour: isByResource ? `c${most ? (most - 1) % 16 : "none"}` : bySlack,
+        legend: isByResource && (most ? resourceName(most) : "no resource") }),
       words: `Activity ${named(row.label, row.name)}${timesOf(row, needed)}`,
     };
   });
@@ -245,6 +249,9 @@ export function legendOf({ bars, slack, plan, drawings }) {
     items.push(["bar tight", "no slack in this schedule"],
       ["bar loose", "slack: it can slip by itself, up to the end of the thin line"],
       ["", "slack by the plan's file and the changes set here"]);
+  }
+  if (items.at(-1)?.[0] === "" && bars.some(({ colour }) => colour === "absent")) {
+    items.push(["bar absent", "absent"]);
   }
   if (bars.some(({ isCritical }) => isCritical)) items.push(["", `* ${STARRED}`]);
   if (drawings.over?.size) items.push(["over", "more of a resource than there is"]);

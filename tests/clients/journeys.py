@@ -14,8 +14,8 @@ from exchanges import OFFICE_KEY, TOP, file_of
 from front import WEB
 from page_units import worked_days
 from pages import (
-    drop, example, makespan_of, open_plan, open_tab, printed, rows_of, seen, seen_table, set_date, submit, texts,
-    wait_idle, wait_plan, wait_text,
+    drop, example, makespan_of, open_plan, open_tab, plan_by_dates, printed, rows_of, seen, seen_table, set_date,
+    submit, texts, wait_idle, wait_plan, wait_text,
 )
 from programs import plan, same
 from visits import column, downloaded, sign_in
@@ -162,4 +162,21 @@ def journey_class(browser, office):
     browser.click("#leave")
 
 
-JOURNEYS = [journey_planner, journey_student, journey_foreman, journey_class]
+def journey_absence(browser):
+    """At a desk a list with absences and dates is planned from an instant on, with its working days."""
+    enter(browser, "north")
+    drop_example(browser, "week.csv")
+    wait_text(browser, "#preview", "week.csv becomes a project of 13 activities")
+    fields = {"now": "8", "start": "2027-05-03"}
+    plan_by_dates(browser, fields, "It ends at 48, and none is shorter. Done: A.")
+    wait_plan(browser, 8)
+    rows = [line.split() for line in printed("solve", "--now", "8", example("week.csv"))[2:-1]]
+    wanted = [[row[0], str(max(8, int(row[2]))), row[3]] for row in rows if row[2] != "-"]
+    found = zip(*(column(browser, head) for head in ("id", "start", "end")))
+    same("what is left", [[row[0].rstrip("*"), *row[1:]] for row in found], [*wanted, ["absence", "8", "11"]])
+    days = worked_days(datetime.date(2027, 5, 3), "1111100", 48)
+    same("the last days", column(browser, "last day"), [str(days[int(row[2]) - 1]) for row in [*wanted, ["", "", "11"]]])
+    browser.click("#leave")
+
+
+JOURNEYS = [journey_planner, journey_student, journey_foreman, journey_class, journey_absence]

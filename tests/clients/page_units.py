@@ -250,6 +250,74 @@ def try_kept(modules, draw):
     same("links of late schedules", ["late" in answer for answer in late], [True] * len(late))
 
 
+def drawn_week(draw):
+    """A list with dates of some activities, an instant from which on it is planned, and the absences as their
+    begins and lengths."""
+    count, now = draw.randrange(3, 9), draw.randrange(4)
+    lines = ["id,name,duration,predecessors,crew,digger,earliest,begun,remaining,done,due"]
+    for at in range(count):
+        before = [f"A{draw.randrange(at)}" + draw.choice(["", "", "+2"])] if at and draw.random() < 0.6 else []
+        begun = now and draw.random() < 0.15
+        dates = ["", draw.randrange(now), draw.randrange(1, 4), ""] if begun else ["", "", "", draw.randrange(1, now + 1)] \
+            if now and draw.random() < 0.15 else [draw.choice(["", "", 7]), "", "", ""]
+        lines.append(",".join(map(str, [f"A{at}", f"work {at}", draw.randrange(5), *(before or [""]),
+                                        draw.randrange(2), draw.randrange(2), *dates, draw.choice(["", 9])])))
+    absences = [(draw.choice(["", draw.randrange(8)]), draw.randrange(1, 5)) for _ in range(draw.randrange(3))]
+    lines += [f"absence,away,{length},,1,,{begin},,,," for begin, length in absences]
+    return "\n".join([*lines, "capacity,,,,2,1,,,,,", ""]), now, absences
+
+
+def try_week(modules, draw):
+    """The plan that the page makes of a list with dates has what is left from now on, and its absences up to the
+    end, at the times of `plan solve` by each rule."""
+    cases = []
+    while len(cases) < 60:
+        text, now, absences = drawn_week(draw)
+        status, out, _ = plan("solve", "--now", str(now), "--format", "json", "-", given=text.encode())
+        if status == 0:
+            cases.append((text, now, absences, json.loads(out)))
+    plain = modules.values([["week", "withoutDates", [text, {"map": []}]] for text, *_ in cases])
+    lists = [plan("import", "-", given=list_["text"].encode())[1].decode() for list_ in plain]
+    same("the begins of absences", [list_["begins"] for list_ in plain],
+         [[str(begin) for begin, _ in absences] for _, _, absences, _ in cases])
+    waiting = modules.values([["week", "waitingProject", [text, found, [now, *(begin or 0 for begin, _ in absences)]]]
+                              for text, (_, now, absences, found) in zip(lists, cases)])
+    sizes = set()
+    for own, (text, now, absences, found) in zip(waiting, cases):
+        wanted = [[max(row["start"], now), row["end"]] for row in found["rows"] if row["start"] is not None]
+        away = [[max(begin or 0, now), min((begin or 0) + length, found["makespan"])] for begin, length in absences]
+        wanted += [[first, end] for first, end in away if first < end]
+        for rule in ("lft", "slk", "spt", "mts", "num"):
+            rows = [line.split() for line in plan("schedule", rule, "-", given=own["text"].encode())[1].decode().splitlines()]
+            same(f"{rule} of {text} at {now}", [list(map(int, row[2:4])) for row in rows[2:len(wanted) + 2]], wanted)
+        sizes.add((len(wanted) < len(found["rows"]), bool(absences)))
+    same("kinds of lists", len(sizes), 4)
+    # the lag, and the link, keep A from slipping; a column with a capacity has no dates
+    for text, found in (("A,2,,1,9\nB,3,A+2,1,\ncapacity,,,1,\n", [[0, 2], [4, 7]]),
+                        ("A,2,,,9\nB,3,A,,\ncapacity,,,1,\n", [[0, 2], [2, 5]])):
+        text = f"id,duration,predecessors,crew,due\n{text}"
+        rows = [{"id": name, "start": start, "end": end} for name, (start, end) in zip("AB", found)]
+        plain = modules.values([["week", "withoutDates", [text, {"map": []}]]])[0]["text"]
+        given = plan("import", "-", given=plain.encode())[1].decode()
+        own = modules.values([["week", "waitingProject", [given, {"rows": rows, "makespan": found[1][1]}, [0]]]])[0]
+        files = given_files(modules.room, {"given.sm": own["text"], "given.txt": " ".join(map(str, starts_by("num", own["text"].encode())))})
+        heads, _, row, *_ = [line.split() for line in plan("slack", *files)[1].decode().splitlines()]
+        same("the slack of A", row[heads.index("slack")], "0")
+    # a list without ids; a schedule of another list
+    given = plan("import", "-", given=b"name,duration\nx,3\ny,2\n")[1].decode()
+    found = json.loads(plan("solve", "--format", "json", "-", given=b"name,duration,due\nx,3,5\ny,2,4\n")[1])
+    own = modules.values([["week", "waitingProject", [given, found, [0]]]])[0]
+    same("ids of numbers", [own["labels"][kind] for kind in ("ids", "names")], [{"2": "1", "3": "2"}, {"2": "x", "3": "y"}])
+    found["rows"].pop()
+    try:
+        modules.values([["week", "waitingProject", [given, found, [0]]]])
+        raise Wrong("the schedule of another list is drawn")
+    except Wrong as fault:
+        same("the schedule of another list", "the page can't draw it" in str(fault), True)
+    same("lists without dates", modules.values([["week", "withoutDates", [f"id,duration,due\nA,2,1\n{row}", {"map": given}]]
+                                                for row, given in (("capacity,,3\n", []), ("", [["due", 3]]))]), [None, None])
+
+
 def moved_earlier(model, starts):
     """The first activity that can start earlier, all others fixed, counted from 1; 0 for none."""
     for at, start in enumerate(starts):
@@ -567,6 +635,9 @@ def try_shown(modules, draw):
                             for number in range(1, 6)])
     same("what is printed", [found[at:at + 5] for at in (0, 5, 10)], [
         [False, True, True, False, False], [False, True, True, True, False], [False, True, True, True, False]])
+    drawn = modules.values([["drawing", "shownOf", [{"n": 1, "kind": "project"}, [
+        {"id": "A"}, {"id": "wait+0"}, {"id": ""}, {"id": "wait+x"}]]]])[0]
+    same("the rows that are drawn", [row["id"] for row in drawn], ["A", "", "wait+x"])
     view = lambda over: {"bars": [], "slack": None, "plan": {"kind": "project"}, "drawings": over}
     legends = modules.values([["view", "legendOf", [view(over)]] for over in (
         {"over": {"map": [[0, "at time 4"]]}}, {"over": {"map": []}}, {})])
@@ -605,7 +676,7 @@ def try_policy(modules, draw):
         same(f"the addresses for {protocol}, plan.html {is_whole}", json.loads(done.stdout), wanted)
 
 
-TRIALS = [try_slack, try_kept, try_verdicts, try_shops, try_search, try_hand_in,
+TRIALS = [try_slack, try_kept, try_week, try_verdicts, try_shops, try_search, try_hand_in,
           try_projects, try_messages, try_layout, try_sorting, try_shown, try_policy]
 
 

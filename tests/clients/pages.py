@@ -111,8 +111,8 @@ def seen_axis(browser):
 
 
 def seen_uses(browser, last):
-    """For each resource the sentence above its use, and the instants at which the use above its capacity
-    has the colour of errors; that there is none of it below."""
+    """For each resource the sentence above its use, the instants at which the use above its capacity has
+    the colour of errors, and whether its image has any of it; that there is none of it below."""
     return browser.run("""
         const last = arguments[0];
         document.getElementById("use").scrollIntoView({ block: "center" });
@@ -127,7 +127,8 @@ def seen_uses(browser, last):
             const { top } = image.querySelector(".most").getBoundingClientRect();
             const times = [...Array(last).keys()], x = (time) => axis.left + axis.width * (time + 0.5) / last;
             if (times.some((time) => isRed(x(time), top + 3))) return ["red below the capacity"];
-            return [above ? above.textContent : "", times.filter((time) => isRed(x(time), top - 3))];
+            return [above ? above.textContent : "", times.filter((time) => isRed(x(time), top - 3)),
+                    Boolean(image.querySelector(".over"))];
         });
     """, last)
 
@@ -293,4 +294,17 @@ def open_plan(browser, n):
             (button) => button.textContent === arguments[0]).click();
     """, f"Plan {n}")
     wait_plan(browser, n)
+    wait_idle(browser)
+
+
+def plan_by_dates(browser, fields, words):
+    """Fills the fields that a list with dates has, makes its plan, and waits for words on it."""
+    for name, value in fields.items():
+        browser.run("""
+            const field = document.querySelector(`#capacities [name=${arguments[0]}]`);
+            field.value = arguments[1];
+            field.dispatchEvent(new Event("change"));
+        """, name, value)
+    submit(browser, "import")
+    wait_text(browser, "#import-answer", words)
     wait_idle(browser)

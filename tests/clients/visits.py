@@ -660,7 +660,7 @@ def same_uses(browser, model, starts, names):
     used = lambda time, place: sum(need[place] for start, d, need in work if start <= time < start + d)
     over = [[time for time in range(last) if used(time, place) > capacity]
             for place, capacity in enumerate(model["capacities"])]
-    wanted = [[overuse_words(name, times[0]) if times else "", times] for name, times in zip(names, over)]
+    wanted = [[overuse_words(name, times[0]) if times else "", times, bool(times)] for name, times in zip(names, over)]
     same(f"the overuse by {starts}", seen_uses(browser, last), wanted)
     same(f"the overuse by {starts} in the legend", "more of a resource than there is" in " ".join(
         texts(browser, "#legend li")), any(over))
@@ -850,6 +850,7 @@ def visit_capacity(browser, office):
          ["A ExcavationA Excavation", "B FoundationB Foundation"])
     same("the use of the crew", "Use of crew, capacity 5" in browser.run(
         "return document.querySelector('#use svg').getAttribute('aria-label')"), True)
+    same("the names of the uses", texts(browser, "#use .name title"), ["crew", "digger"])
 
 
 def same_ids(browser):
@@ -903,7 +904,9 @@ def check_overuse(browser):
         same_uses(browser, model, list(map(int, starts.split())), ["crew", "digger"])
         browser.run("dispatchEvent(new Event('beforeprint'))")
         same(f"what is wrong with {starts} on paper", texts(browser, "#paper .fault"), told)
-        same("the uses on paper", len(texts(browser, "#paper .sheet > svg .over")), 2)
+        red = browser.run("return [...document.querySelectorAll('#paper [role=img]')].map((image) => ["
+                          "image.previousElementSibling.matches('.fault'), Boolean(image.querySelector('.over'))])")
+        same(f"the uses on paper by {starts}", red, [["needs crew" in " ".join(told)] * 2, ["digger" in " ".join(told)] * 2])
         browser.run("dispatchEvent(new Event('afterprint'))")
     same_senses("start times that aren't feasible", browser)
 
@@ -1060,9 +1063,9 @@ def visit_shop(browser):
              [[row[0], row[1], row[2], row[4], row[5], str(s)] for row, s in zip(rows, slack)])
     browser.click("#lines option[value=job]")
     same_bars("jobs", browser, [[row[0], row[4], row[5]] for row in rows], makespan_of(lines))
-    same("the names of the jobs", texts(browser, "#drawing .name title"), ["1", "2"])
+    same("the names of the jobs", texts(browser, "#drawing .name title"), ["job 1", "job 2"])
     browser.click("#lines option[value=machine]")
-    same("the names of the machines", texts(browser, "#drawing .name title"), ["0", "1"])
+    same("the names of the machines", texts(browser, "#drawing .name title"), ["machine 0", "machine 1"])
     submit(browser, "best")
     wait_text(browser, "#best-answer", "optimal 6:")
     open_tab(browser, "changes")
