@@ -17,7 +17,8 @@ from visits import large_shop, named_house, sign_in
 
 FOLDER = os.path.join(TOP, "docs", "pictures", "screens")
 SIZES = [(320, 640), (360, 740), (800, 600), (1600, 900)]
-COLOURS = 16
+# of pictures of texts, of lists, of a chart and of fifteen orders
+TEXT, COLOURS, CHART, ORDERS = 8, 12, 16, 24
 LARGEST_OF_ALL = 1950000
 BUNDLE = os.path.join(TOP, "share", "web", "engine", "bundle")
 OPEN_LIST = "scrollTo(0, 0); document.querySelectorAll('#preview details').forEach((part) => { part.open = true; })"
@@ -94,7 +95,7 @@ def same_first(browser):
 
 
 def take_office(browser, office):
-    screen(browser, "signin")
+    screen(browser, "signin", colours=TEXT)
     browser.type("#enter-office [name=key]", OFFICE_KEY)
     submit(browser, "enter-office")
     for code, kind, capacity in (("crew-a", "crew", "4"), ("press-1", "machine", "1")):
@@ -102,19 +103,19 @@ def take_office(browser, office):
         browser.click(f"#publish option:nth-child({1 + (kind == 'machine')})")
         browser.type("#publish [name=capacity]", capacity)
         submit(browser, "publish")
-    screen(browser, "office")
+    screen(browser, "office", colours=TEXT)
     browser.click("#leave")
     sent(office.server.port, "POST", "/office/desks", OFFICE_KEY, b'{"desk":"empty","key":"empty-key-1"}')
     sign_in(browser, "empty", "empty-key-1")
     wait_text(browser, "#plans", "No plans yet")
-    screen(browser, "empty")
+    screen(browser, "empty", colours=TEXT)
     browser.click("#leave")
 
 
 def take_project(browser):
     sign_in(browser, "north", "north-key-1")
     wait_text(browser, "#plans", "Plan 3")
-    screen(browser, "plans")
+    screen(browser, "plans", colours=TEXT)
     table = named_house()
     drop(browser, "house.csv", table.replace("G H", "G X"))
     wait_text(browser, "#preview code", "T8")
@@ -130,16 +131,16 @@ def take_project(browser):
     submit(browser, "best")
     wait_text(browser, "#drawn label:last-child", "shortest")
     same_first(browser)
-    screen(browser, "project")
+    screen(browser, "project", colours=CHART)
     for tab in ("table", "changes", "handin"):
         screen(browser, tab, f"document.getElementById('tab-{tab}').click();"
-                             " document.getElementById('tabs').scrollIntoView()")
+                             " document.getElementById('tabs').scrollIntoView()", CHART)
     browser.run("check.elements.starts.value = arguments[0]", "0 " * 14)
     submit(browser, "check")
     wait_text(browser, "#check-answer strong", "Start B Foundation later.")
-    screen(browser, "check", "document.getElementById('check').scrollIntoView()")
+    screen(browser, "check", "document.getElementById('check').scrollIntoView()", CHART)
     browser.click("#help-button")
-    screen(browser, "help")
+    screen(browser, "help", colours=TEXT)
     browser.press("\ue00c")
     browser.click("#leave")
 
@@ -151,27 +152,30 @@ def take_shop(browser):
     wait_plan(browser, 4)
     submit(browser, "best")
     wait_text(browser, "#drawn label:last-child", "shortest")
-    screen(browser, "shop", colours=24)
+    screen(browser, "shop", colours=ORDERS)
     browser.click("#leave")
 
 
 def take_alone(browser, office):
-    """plan.html as it is opened; a list with dates, one with an absence alone, and a changed list."""
+    """plan.html as it is opened; a list with dates; the plan of a list with an absence; and a changed list."""
     path = os.path.join(os.path.dirname(office.database), "plan.html")
     subprocess.run([BUNDLE, path], check=True)
     browser.open("file://" + path)
     wait_text(browser, "#preview", "becomes a project")
     screen(browser, "alone")
     drop(browser, "site.csv", file_of("examples/site.csv").decode())
-    wait_text(browser, "#preview", "site.csv")
+    wait_text(browser, "#preview", "site.csv becomes a project")
     screen(browser, "dates")
     drop(browser, "absence.csv", named_house().replace("capacity,", "absence,Jo is away,5,,1,0\ncapacity,"))
-    wait_text(browser, "#preview", "absence.csv")
-    screen(browser, "absence")
+    wait_text(browser, "#preview", "absence.csv becomes a project")
+    submit(browser, "import")
+    wait_plan(browser, 1)
+    wait_text(browser, "#import-answer", "It ends at")
+    screen(browser, "absence", colours=CHART)
     drop(browser, "house.csv", named_house())
     wait_text(browser, "#preview", "becomes a project of 12 activities")
     submit(browser, "import")
-    wait_plan(browser, 1)
+    wait_plan(browser, 2)
     submit(browser, "best")
     wait_text(browser, "#drawn label:last-child", "shortest")
     browser.click("#edit-list")
