@@ -118,7 +118,7 @@ const MESSAGES = {
   T19: ({ row, word, capacity }) => [`Raise the capacity of ${word}, or lower what ${row} needs.`,
     `It needs more than the capacity ${capacity}, so it can never start.`],
   T20: ({ row }) => [
-    `Write a whole number for each date and amount of ${row}, or enter the date of instant 0.`, CELL],
+    `Write a whole number for each date and amount of ${row}, or enter the first date.`, CELL],
   T21: ({ row }) => [`Correct one of the dates of ${row}, or delete it.`,
     "They contradict each other."],
 

@@ -46,7 +46,7 @@ export function dateNodes(file) {
   return [
     field("now", "Now: an instant or a date", make("input")),
     field("goal", "Goal", choice(GOALS)),
-    field("start", "Date of instant 0, if the list has dates", make("input", { type: "date" })),
+    field("start", "First date, if the list has dates", make("input", { type: "date" })),
     field("days", "Working days", choice(WORKING)),
     field("holidays", "Holidays, one per line", make("textarea", { rows: 2 })),
   ];
@@ -67,7 +67,7 @@ async function instantsOf(cells, dates) {
 
 function checkNow({ now, start }) {
   const isDate = /^\d{4}-\d\d-\d\d$/.test(now);
-  if (isDate && !start) throw new Refusal("Enter the date of instant 0, too: Now is a date.");
+  if (isDate && !start) throw new Refusal("Enter the first date, too: Now is a date.");
   if (!isDate && !/^\d{0,8}$/.test(now)) {
     throw new Refusal("Write Now as a whole number, or as a date such as 2027-05-11.");
   }

@@ -84,7 +84,7 @@ LISTS = [
     ("T17 line 4 begun", "Enter the present instant or date as Now."),
     ("T18 an Excel workbook: save it as CSV UTF-8", "Save its sheet as CSV (UTF-8), and drop that."),
     ("T19 line 4 need crew above 2", "Raise the capacity of crew, or lower what 7 (line 4) needs."),
-    ("T20 line 3 number", "Write a whole number for each date and amount of B Walls, north (line 3), or enter the date of instant 0."),
+    ("T20 line 3 number", "Write a whole number for each date and amount of B Walls, north (line 3), or enter the first date."),
     ("T21 line 4 dates", "Correct one of the dates of 7 (line 4), or delete it."),
     ("S11 crew 8", "Interrupt begun work, or move an appointment."),
     ("S12 no plan", "Move an appointment, raise a capacity, or shorten an absence."),
