@@ -1,7 +1,6 @@
 """Pictures of each screen of the browser page, at four widths, in the light and in the dark, for
 docs/pictures/screens. `tests/clients/browser --pictures` takes them. At each width nothing is wider than
-the window; on the two small ones buttons and fields have room for a finger, and a plan begins above the
-fold."""
+the window; on the two small ones buttons and fields have room for a finger."""
 
 import concurrent.futures
 import os
@@ -13,6 +12,7 @@ from front import sent
 from pages import drop, open_tab, set_date, submit, wait_idle, wait_plan, wait_text
 from pictures import smaller
 from programs import Wrong, same
+from senses import same_fingers
 from visits import large_shop, named_house, sign_in
 
 FOLDER = os.path.join(TOP, "docs", "pictures", "screens")
@@ -23,23 +23,12 @@ LARGEST_OF_ALL = 1950000
 BUNDLE = os.path.join(TOP, "share", "web", "engine", "bundle")
 OPEN_LIST = "scrollTo(0, 0); document.querySelectorAll('#preview details').forEach((part) => { part.open = true; })"
 
-# buttons and fields that are too low for a finger; a box or a button of a choice has its label
-LOW = """
-    return [...document.querySelectorAll("button, input, select, textarea, summary")].flatMap((node) => {
-        const place = /^(checkbox|radio)$/.test(node.type) ? node.parentNode : node;
-        const { height } = place.getBoundingClientRect();
-        return !node.checkVisibility() || height >= 32 ? [] : [`${node.tagName} ${node.name ?? ""} ${
-            node.textContent.slice(0, 20)} ${height}`];
-    });
-"""
-
-
 def same_room(browser, name, width):
     """Nothing sticks out of the window; a finger has room."""
     wide = browser.run("return document.documentElement.scrollWidth")
     same(f"the width of {name} at {width}", wide <= width, True)
     if width < 640:
-        same(f"what is too low for a finger in {name} at {width}", browser.run(LOW), [])
+        same_fingers(f"{name} at {width}", browser)
 
 
 class Folder:
@@ -84,16 +73,6 @@ def screen(browser, name, prepare="scrollTo(0, 0)", colours=COLOURS):
     browser.resize(1120, 760)
 
 
-def same_first(browser):
-    """On a small screen, and at 200 %, a plan is first: its chart begins above the fold."""
-    for width, height in SIZES[:3]:
-        browser.resize(width, height)
-        time.sleep(0.3)
-        top = browser.run("scrollTo(0, 0); return document.getElementById('drawing').getBoundingClientRect().top")
-        same(f"a plan begins above the fold at {width}", top < 0.75 * height, True)
-    browser.resize(1120, 760)
-
-
 def take_office(browser, office):
     screen(browser, "signin", colours=TEXT)
     browser.type("#enter-office [name=key]", OFFICE_KEY)
@@ -130,7 +109,6 @@ def take_project(browser):
     open_tab(browser, "table")
     submit(browser, "best")
     wait_text(browser, "#drawn label:last-child", "shortest")
-    same_first(browser)
     screen(browser, "project", colours=CHART)
     for tab in ("table", "changes", "handin"):
         screen(browser, tab, f"document.getElementById('tab-{tab}').click();"

@@ -20,7 +20,7 @@ from pages import (
 )
 from pictures import smaller
 from programs import Wrong, plan, same, talk
-from senses import same_order, same_senses
+from senses import same_fingers, same_order, same_senses
 
 DESK, KEY, FIRST_KEY = "trial", "trial-key-2", "trial-key-1"
 SHOP_RULES = ["mwkr", "spt", "fcfs"]
@@ -1359,7 +1359,9 @@ def visit_sizes(browser):
             listed, top = browser.run("return [document.getElementById('plans').checkVisibility(),"
                                       " document.getElementById('chart').getBoundingClientRect().top]")
             same(f"the list beside the plan, at {width}", listed, width == 1600)
-            same(f"the chart is on the first screen, at {width}", top < height, True)
+            same(f"the chart begins above the fold, at {width}", top < 0.75 * height, True)
+            if width < 640:
+                same_fingers(f"plan {n} at {width}", browser)
     paper = "return getComputedStyle(document.body).backgroundColor.match(/[0-9]+/g).map(Number)"
     for scheme, is_dark in (("dark", True), ("light", False)):
         browser.darken(scheme)
