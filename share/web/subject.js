@@ -240,10 +240,10 @@ export async function solved(plan, seconds, told, signal) {
 }
 
 /** Returns the list that a plan's file comes from, as its `text` with the capacities `given`; null
- * if it has none, or if binds or lags changed the plan. */
+ * if it has none, if binds or lags changed the plan, or if it was planned by its dates. */
 export function ownList({ n, kind, model }) {
   const { list } = recordOf(n);
-  return kind === "project" && model && !model.isChanged && list ? list : null;
+  return kind === "project" && model && !model.isChanged && list && !list.dates ? list : null;
 }
 
 /** Returns the options for the capacities that were given to a list. */

@@ -133,24 +133,25 @@ function waitingModel(project, spans) {
   const numberOf = new Map(kept.map((at, number) => [at, number + 1]));
   const durations = [0, ...kept.map((at) => spans[at].end - spans[at].first)], arcs = [];
   const model = { durations, arcs, capacities: project.capacities };
+  addLinks(model, project, spans, numberOf);
+  const lags = durations.length - 1 - kept.length;
   const instants = [...new Set(kept.map((at) => spans[at].first))].filter((instant) => instant > 0)
     .sort((a, b) => a - b);
   instants.reduce(([from, before], instant) => [addWait(model, instant - before, from,
     kept.filter((at) => spans[at].first === instant).map((at) => numberOf.get(at))), instant],
   [0, 0]);
-  addLinks(model, project, spans, numberOf);
   const last = durations.push(0) - 1, free = project.capacities.map(() => 0);
   arcs.push(...kept.map((at) => ({ from: numberOf.get(at), to: last, lag: 0 })));
   model.needs = durations.map((_, number) => project.needs[kept[number - 1]] ?? free);
-  return { kept, model };
+  return { kept, model, lags };
 }
 
-// the ids and names of what is left, and ids of waits behind it
-function labelsFor({ names, resources }, spans, kept, count) {
+// the ids and names of what is left, and the ids of its lags as `plan import` gives them; waits up to
+// a start have none, so that no output has them
+function labelsFor({ names, resources }, spans, { kept, lags }) {
   const own = (textOf) => Object.fromEntries(kept.map((at, number) => [number + 2, textOf(at)])
     .filter(([, text]) => text));
-  const waits = Array.from({ length: count - kept.length - 2 }, (_, at) =>
-    [kept.length + 2 + at, `wait+${at}`]);
+  const waits = Array.from({ length: lags }, (_, at) => [kept.length + 2 + at, `wait+${at}`]);
   return { ids: { ...own((at) => spans[at].id), ...Object.fromEntries(waits) },
     names: own((at) => names.get(at + 1)), resources: Object.fromEntries(resources) };
 }
@@ -173,9 +174,9 @@ function wordsOn({ status, makespan, lower_bound: lower, rows, ...found }) {
  * activities and its names. `instants` are those of now and of the begins of absences. */
 export function waitingProject(list, found, instants) {
   const project = readProject(list), spans = spansOf(project, found, instants);
-  const { kept, model } = waitingModel(project, spans);
-  const labels = labelsFor(project, spans, kept, model.durations.length);
-  return { text: projectText(model, labels), firsts: kept.map((at) => spans[at].first), labels };
+  const own = waitingModel(project, spans), labels = labelsFor(project, spans, own);
+  const firsts = own.kept.map((at) => spans[at].first);
+  return { text: projectText(own.model, labels), firsts, labels };
 }
 
 /** Plans a list by its dates. Returns the plan as that of a saved file, and words on it. */

@@ -288,13 +288,13 @@ def try_week(modules, draw):
         away = [[max(begin or 0, now), min((begin or 0) + length, found["makespan"])] for begin, length in absences]
         wanted += [[first, end] for first, end in away if first < end]
         for rule in ("lft", "slk", "spt", "mts", "num"):
-            rows = [line.split() for line in plan("schedule", rule, "-", given=own["text"].encode())[1].decode().splitlines()]
-            same(f"{rule} of {text} at {now}", [list(map(int, row[2:4])) for row in rows[2:len(wanted) + 2]], wanted)
+            rows = [line.split() for line in plan("schedule", rule, "--names", "-", given=own["text"].encode())[1].decode().splitlines()]
+            same(f"{rule} of {text} at {now}", [list(map(int, row[2:4])) for row in rows[1:-1]], wanted)
         sizes.add((len(wanted) < len(found["rows"]), bool(absences)))
     same("kinds of lists", len(sizes), 4)
     # the lag, and the link, keep A from slipping; a column with a capacity has no dates
-    for text, found in (("A,2,,1,9\nB,3,A+2,1,\ncapacity,,,1,\n", [[0, 2], [4, 7]]),
-                        ("A,2,,,9\nB,3,A,,\ncapacity,,,1,\n", [[0, 2], [2, 5]])):
+    for text, found, link in (("A,2,,1,9\nB,3,A+2,1,\ncapacity,,,1,\n", [[0, 2], [4, 7]], "A+2"),
+                              ("A,2,,,9\nB,3,A,,\ncapacity,,,1,\n", [[0, 2], [2, 5]], "A")):
         text = f"id,duration,predecessors,crew,due\n{text}"
         rows = [{"id": name, "start": start, "end": end} for name, (start, end) in zip("AB", found)]
         plain = modules.values([["week", "withoutDates", [text, {"map": []}]]])[0]["text"]
@@ -303,6 +303,8 @@ def try_week(modules, draw):
         files = given_files(modules.room, {"given.sm": own["text"], "given.txt": " ".join(map(str, starts_by("num", own["text"].encode())))})
         heads, _, row, *_ = [line.split() for line in plan("slack", *files)[1].decode().splitlines()]
         same("the slack of A", row[heads.index("slack")], "0")
+        printed = plan("schedule", "num", "--format", "csv", "-", given=own["text"].encode())[1].decode()
+        same("the predecessor of B", printed.splitlines()[2].split(",")[-1], link)
     # a list without ids; a schedule of another list
     given = plan("import", "-", given=b"name,duration\nx,3\ny,2\n")[1].decode()
     found = json.loads(plan("solve", "--format", "json", "-", given=b"name,duration,due\nx,3,5\ny,2,4\n")[1])

@@ -850,7 +850,6 @@ def visit_capacity(browser, office):
          ["A ExcavationA Excavation", "B FoundationB Foundation"])
     same("the use of the crew", "Use of crew, capacity 5" in browser.run(
         "return document.querySelector('#use svg').getAttribute('aria-label')"), True)
-    same("the names of the uses", texts(browser, "#use .name title"), ["crew", "digger"])
 
 
 def same_ids(browser):
@@ -881,6 +880,7 @@ def check_early(browser):
     starts_are(browser, "0 0 4 4 13 23", "at time 4 more of resource 1 is needed than there is")
     wait_text(browser, "#check-answer strong", "Start an activity that needs crew at time 4 later.")
     check_overuse(browser)
+    same_senses("start times that aren't feasible", browser)
     starts_are(browser, "0 0 4 10 14 24", "activity 5 can start earlier")
     wait_text(browser, "#check-answer strong", "Start D Walls, north earlier, if you like.")
     starts_are(browser, "0 0 4 10 13 24", "activity 6 can start earlier")
@@ -902,13 +902,13 @@ def check_overuse(browser):
         starts_are(browser, starts, line)
         same(f"what is wrong with {starts}", texts(browser, "#use .fault"), told)
         same_uses(browser, model, list(map(int, starts.split())), ["crew", "digger"])
+        same("the names of the uses", texts(browser, "#use .name title"), ["crew", "digger"])
         browser.run("dispatchEvent(new Event('beforeprint'))")
         same(f"what is wrong with {starts} on paper", texts(browser, "#paper .fault"), told)
         red = browser.run("return [...document.querySelectorAll('#paper [role=img]')].map((image) => ["
                           "image.previousElementSibling.matches('.fault'), Boolean(image.querySelector('.over'))])")
         same(f"the uses on paper by {starts}", red, [["needs crew" in " ".join(told)] * 2, ["digger" in " ".join(told)] * 2])
         browser.run("dispatchEvent(new Event('afterprint'))")
-    same_senses("start times that aren't feasible", browser)
 
 
 def visit_need(browser, office):
@@ -1036,6 +1036,21 @@ def visit_other(browser, office):
 # ---- job shops
 
 
+def same_printing(browser):
+    """The tables, and the bars on the lines of jobs and of machines, are those of the shop "printing"."""
+    for rule in SHOP_RULES:
+        browser.click(f"#drawn [value={rule}]")
+        lines = printed("shop", rule, example("shops.txt"), "printing")
+        rows = rows_of(lines)
+        slack = brute_slack(shop_model(rows), [int(row[4]) for row in rows])
+        same("the table", seen_table(browser, "#table")[1:],
+             [[row[0], row[1], row[2], row[4], row[5], str(s)] for row, s in zip(rows, slack)])
+        for by, place, names in (("job", 0, ["job 1", "job 2"]), ("machine", 2, ["machine 0", "machine 1"])):
+            browser.click(f"#lines option[value={by}]")
+            same_bars(f"{by} by {rule}", browser, [[row[place], row[4], row[5]] for row in rows], makespan_of(lines))
+            same(f"the names of each {by}", texts(browser, "#drawing .name title"), names)
+
+
 def visit_shop(browser):
     """A job shop is imported by the name of its instance; a line is a machine, or a job."""
     browser.choose("#file", example("shops.txt"))
@@ -1053,19 +1068,7 @@ def visit_shop(browser):
     submit(browser, "import")
     wait_plan(browser, 7)
     wait_text(browser, "#plans", "job shop")
-    for rule in SHOP_RULES:
-        browser.click(f"#drawn [value={rule}]")
-        lines = printed("shop", rule, example("shops.txt"), "printing")
-        rows = rows_of(lines)
-        same_bars(rule, browser, [[row[2], row[4], row[5]] for row in rows], makespan_of(lines))
-        slack = brute_slack(shop_model(rows), [int(row[4]) for row in rows])
-        same("the table", seen_table(browser, "#table")[1:],
-             [[row[0], row[1], row[2], row[4], row[5], str(s)] for row, s in zip(rows, slack)])
-    browser.click("#lines option[value=job]")
-    same_bars("jobs", browser, [[row[0], row[4], row[5]] for row in rows], makespan_of(lines))
-    same("the names of the jobs", texts(browser, "#drawing .name title"), ["job 1", "job 2"])
-    browser.click("#lines option[value=machine]")
-    same("the names of the machines", texts(browser, "#drawing .name title"), ["machine 0", "machine 1"])
+    same_printing(browser)
     submit(browser, "best")
     wait_text(browser, "#best-answer", "optimal 6:")
     open_tab(browser, "changes")
