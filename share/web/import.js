@@ -9,7 +9,8 @@ import { rowWords } from "./cells.js";
 import { noteList, openSaved, replacedFile, showEdit } from "./edit.js";
 import { isAlone } from "./local.js";
 import { FILE, lettersOf, listOf, recognized, triedTo } from "./kinds.js";
-import { ignoredWords } from "./messages.js";
+import { movedNodes } from "./moved.js";
+import { noteNodes, projectNotes } from "./notes.js";
 import { showPlace } from "./place.js";
 import { openPlan, showPlan, takeStarts } from "./plan.js";
 import { showPlans } from "./plans.js";
@@ -58,10 +59,10 @@ export async function takeFile(file) {
   return takeBytes({ name: file.name, bytes, text });
 }
 
-/** Takes the bytes of a file. `replaces` is the number of the plan whose list it is, if any, `given`
- * are capacities that the list lacks, and by `dates` a list with dates was planned. */
-export async function takeBytes({ name, bytes, text, given = new Map(), dates, replaces }) {
-  const taken = { name, bytes, text, given, dates: dates && { ...dates }, replaces };
+/** Takes the bytes of a file. `from` is the number of the plan whose list it is, if any, `given` are
+ * capacities that the list lacks, and by `dates` a list with dates was planned. */
+export async function takeBytes({ name, bytes, text, given = new Map(), dates, from }) {
+  const taken = { name, bytes, text, given, dates: dates && { ...dates }, from };
   try {
     Object.assign(taken, await recognized(taken));
   } catch (fault) {
@@ -98,10 +99,14 @@ async function showList() {
   const { file } = page, { fault, text, isProject } = file.list;
   byId("preview").hidden = false;
   byId("desk").toggleAttribute("data-list", true);
+  byId("number-rows").hidden = true;
   await showEdit(file);
   importButton().hidden = Boolean(fault);
+  importButton().textContent = file.from && isAlone() ? "Replace the list" : "Make the plan";
+  const moved = fault ? [] : await movedNodes(file);
   fill("preview", ...(fault ? faultyNodes(file, fault.message)
     : isProject ? projectNodes(file, readProject(text)) : await shopNodes(file, text)));
+  byId("preview").firstChild.after(...moved);
   fill("capacities", ...(isProject ? capacityNodes(file) : []),
     ...(file.list.begins ? dateNodes(file) : []));
   if (byId("edit").contains(document.activeElement)) return;
@@ -131,16 +136,10 @@ function capacityNode(name, value) {
   return make("label", {}, `Capacity of ${name}`, input);
 }
 
-// the program's note on columns that it ignores, or on the letters of the file
-const noteNodes = (note) => (note.match(/[^;]+/g) ?? []).flatMap((words) => [words.trim()
-  .replace(/^ignored columns:/,
-    "These columns are no crews, because no capacity is given, and are ignored:")
-  .replace(/^read as (.*)$/, "The list isn't in UTF-8; it is read as $1."), ...ignoredWords(words)])
-  .map((words) => say(words, { class: "hint" }));
-
-const previewNodes = (name, kind, parts, table, note) => [
-  tell(`${name} becomes a ${kind} of ${parts}. Change the list, or make the plan.`),
-  ...noteNodes(note),
+const previewNodes = (name, kind, parts, table, notes) => [
+  tell(`${name} becomes a ${kind} of ${parts}. Change it, or ${
+    importButton().textContent.toLowerCase()}.`),
+  ...notes,
   make("details", {}, make("summary", {}, "As the program reads it"),
     wideNode(`The ${kind}`, tableNode({ label: `The ${kind}`, ...table }))),
 ];
@@ -162,7 +161,7 @@ function projectNodes({ name, list: { note, begins } }, project) {
     caption: caps.length && `Capacities: ${caps.join(", ")}`,
     heads: [ids.size ? "id" : "number", "name", "duration", "predecessors", ...resources.values()],
     rows,
-  }, note);
+  }, projectNotes(note, [...ids.values()]));
 }
 
 async function shopNodes({ name, list: { note } }, text) {
@@ -174,7 +173,7 @@ async function shopNodes({ name, list: { note } }, text) {
     heads: ["job", "order", "steps"],
     rows: [...names].map(([job, order]) => [job, order,
       rows.filter((row) => row.job === job).map(wordsOf).join(", ")]),
-  }, note);
+  }, noteNodes(note));
 }
 
 const lineIn = (message) => Number(message.match(/\bline (\d+)/)?.[1] ?? 0);
@@ -217,8 +216,8 @@ async function importByDates(file) {
   return words;
 }
 
-async function replacedBy({ name, replaces }, { kind, instance, bytes }) {
-  const made = replacedFile(replaces, { kind, instance, bytes });
+async function replacedBy({ name, from }, { kind, instance, bytes }) {
+  const made = replacedFile(from, { kind, instance, bytes });
   if (!made) return sentFile({ kind, instance, bytes });
   noteMade(made, name, bytes, instance);
   return made.n;
@@ -238,7 +237,7 @@ async function importFile(fields) {
   const bytes = list ? new TextEncoder().encode(list.text) : file.bytes;
   let made;
   try {
-    made = replacedFile(file.replaces, { kind: isProject ? "project" : "shop", instance, bytes })
+    made = replacedFile(file.from, { kind: isProject ? "project" : "shop", instance, bytes })
       ?? await command(path, "POST", new Blob([bytes]));
   } catch (fault) {
     fault.labels = labelsOf(isProject, bytes);

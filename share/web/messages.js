@@ -92,14 +92,15 @@ const MESSAGES = {
     ? [`Write another link in place of ${word} of ${row}, or split an activity.`,
       "A predecessor ends before the activity starts. A lag is a whole number of days behind a plus."]
     : [`Correct the predecessor ${word} of ${row}, or add its row.`,
-      "No row has this id, and not exactly one this name. A group can't be a predecessor."]),
+      "No row has this id, and none or several have this name. A group can't be a predecessor."]),
   T9: ({ row, word }) => [`Write a whole number as the need of ${row} for ${word}.`,
     `${CELL} If ${word} isn't a resource, delete its column or its header.`],
   T10: ({ word }) => [`Enter the capacity of ${word}, or add a row whose id is capacity.`,
     "If the column isn't a resource, delete it or its header."],
   T11: ({ cycle }) => [`Delete one predecessor of the cycle ${cycle}.`,
     "Each of these rows precedes the next, and the last precedes the first."],
-  T12: ({ place }) => ["Choose a coarser time unit, or split the project.",
+  T12: ({ line, place }) => [
+    `${line === "0" ? "Add a row, choose" : "Choose"} a coarser time unit, or split the project.`,
     `In ${place} a limit is exceeded: 1 to 500 rows, 16 resources, durations and amounts up to `
     + "10,000, all durations together up to 1,000,000, names up to 200 bytes. In a list of orders: "
     + "1 to 50 orders, 1 to 20 machines."],

@@ -20,7 +20,7 @@ from pages import (
 )
 from pictures import smaller
 from programs import Wrong, plan, same, talk
-from senses import same_order, same_senses
+from senses import same_fingers, same_order, same_senses
 
 DESK, KEY, FIRST_KEY = "trial", "trial-key-2", "trial-key-1"
 SHOP_RULES = ["mwkr", "spt", "fcfs"]
@@ -106,10 +106,12 @@ def visit_help(browser):
     """The help panel explains each rule and each column of the date table."""
     browser.click("#help-button")
     terms = texts(browser, "#terms dt")
-    for term in (*RULES, *SHOP_RULES, "ES", "LF", "TF", "FF", "Slack", "Makespan"):
+    rules = [f"{RULE_NAMES[rule]} ({rule})" for rule in {*RULES, *SHOP_RULES}]
+    for term in (*rules, "ES", "LF", "TF", "FF", "Slack", "Makespan"):
         same(f"the term {term}", terms.count(term), 1)
     words = dict(zip(terms, texts(browser, "#terms dd")))
-    same("lft", "least latest finish" in words["lft"], True)
+    same("lft", words["latest finish first (lft)"], "the activity that must end first")
+    same("the top of the panel", browser.run("return document.getElementById('help').scrollTop"), 0)
     browser.press(ESCAPE)
     browser.wait("no panel", "return !document.getElementById('help').open")
 
@@ -402,7 +404,7 @@ def visit_calendar(browser):
     set_date(browser, "#calendar [name=start]", start)
     submit(browser, "calendar")
     wait_text(browser, "#calendar .answer", "From 2024-03-01 on; working days Mo, Tu, We, Th, Fr.")
-    same("set here", f"Set here on {datetime.date.today()}; the office doesn't"
+    same("set here", f"Set here on {datetime.date.today()}. The page can't see what is set elsewhere."
          in seen(browser, "#calendar-set"), True)
     for rule in RULES:
         browser.click(f"#drawn [value={rule}]")
@@ -1360,7 +1362,9 @@ def visit_sizes(browser):
             listed, top = browser.run("return [document.getElementById('plans').checkVisibility(),"
                                       " document.getElementById('chart').getBoundingClientRect().top]")
             same(f"the list beside the plan, at {width}", listed, width == 1600)
-            same(f"the chart is on the first screen, at {width}", top < height, True)
+            same(f"the chart begins above the fold, at {width}", top < 0.75 * height, True)
+            if width < 640:
+                same_fingers(f"plan {n} at {width}", browser)
     paper = "return getComputedStyle(document.body).backgroundColor.match(/[0-9]+/g).map(Number)"
     for scheme, is_dark in (("dark", True), ("light", False)):
         browser.darken(scheme)
