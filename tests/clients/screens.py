@@ -17,8 +17,8 @@ from visits import large_shop, named_house, sign_in
 
 FOLDER = os.path.join(TOP, "docs", "pictures", "screens")
 SIZES = [(320, 640), (360, 740), (800, 600), (1600, 900)]
-# of pictures of texts, of lists, of a chart and of fifteen orders
-TEXT, COLOURS, CHART, ORDERS = 8, 12, 16, 24
+# of pictures of texts, of a chart and of fifteen orders
+COLOURS, CHART, ORDERS = 8, 12, 20
 LARGEST_OF_ALL = 1950000
 BUNDLE = os.path.join(TOP, "share", "web", "engine", "bundle")
 OPEN_LIST = "scrollTo(0, 0); document.querySelectorAll('#preview details').forEach((part) => { part.open = true; })"
@@ -74,7 +74,7 @@ def screen(browser, name, prepare="scrollTo(0, 0)", colours=COLOURS):
 
 
 def take_office(browser, office):
-    screen(browser, "signin", colours=TEXT)
+    screen(browser, "signin")
     browser.type("#enter-office [name=key]", OFFICE_KEY)
     submit(browser, "enter-office")
     for code, kind, capacity in (("crew-a", "crew", "4"), ("press-1", "machine", "1")):
@@ -82,19 +82,19 @@ def take_office(browser, office):
         browser.click(f"#publish option:nth-child({1 + (kind == 'machine')})")
         browser.type("#publish [name=capacity]", capacity)
         submit(browser, "publish")
-    screen(browser, "office", colours=TEXT)
+    screen(browser, "office")
     browser.click("#leave")
     sent(office.server.port, "POST", "/office/desks", OFFICE_KEY, b'{"desk":"empty","key":"empty-key-1"}')
     sign_in(browser, "empty", "empty-key-1")
     wait_text(browser, "#plans", "No plans yet")
-    screen(browser, "empty", colours=TEXT)
+    screen(browser, "empty")
     browser.click("#leave")
 
 
 def take_project(browser):
     sign_in(browser, "north", "north-key-1")
     wait_text(browser, "#plans", "Plan 3")
-    screen(browser, "plans", colours=TEXT)
+    screen(browser, "plans")
     table = named_house()
     drop(browser, "house.csv", table.replace("G H", "G X"))
     wait_text(browser, "#preview code", "T8")
@@ -118,7 +118,7 @@ def take_project(browser):
     wait_text(browser, "#check-answer strong", "Start B Foundation later.")
     screen(browser, "check", "document.getElementById('check').scrollIntoView()", CHART)
     browser.click("#help-button")
-    screen(browser, "help", colours=TEXT)
+    screen(browser, "help")
     browser.press("\ue00c")
     browser.click("#leave")
 
