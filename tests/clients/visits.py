@@ -1362,7 +1362,7 @@ def visit_sizes(browser):
             listed, top = browser.run("return [document.getElementById('plans').checkVisibility(),"
                                       " document.getElementById('chart').getBoundingClientRect().top]")
             same(f"the list beside the plan, at {width}", listed, width == 1600)
-            same(f"the chart begins above the fold, at {width}", top < 0.75 * height, True)
+            same(f"the chart begins above the fold, at {width}", top < height, True)
             if width < 640:
                 same_fingers(f"plan {n} at {width}", browser)
     paper = "return getComputedStyle(document.body).backgroundColor.match(/[0-9]+/g).map(Number)"
