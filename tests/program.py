@@ -1,6 +1,7 @@
 """The program that the tests run: the one that PLAN_PROGRAM names, else the one that ./plan runs."""
 
 import os
+import signal
 import subprocess
 import sys
 
@@ -25,3 +26,7 @@ def _resolved():
 PROGRAM = _resolved()
 # Tests see no hints, unless they ask for them.
 os.environ.pop("PLAN_HINTS", None)
+# A background job of a script ignores these signals, and so would each program that a test starts.
+for _signal, _handler in ((signal.SIGINT, signal.default_int_handler), (signal.SIGQUIT, signal.SIG_DFL)):
+    if signal.getsignal(_signal) == signal.SIG_IGN:
+        signal.signal(_signal, _handler)

@@ -1,7 +1,6 @@
-// The days of a chart's axis, as the program prints them: each day from the first to the last, the
-// Mondays, and the free days of a calendar. A day's place is its number in that list.
+// The working days of a calendar, as the program prints them. The number of a day in their list is
+// the time at which it begins.
 
-import { Refusal } from "./api.js";
 import { printed } from "./program.js";
 
 // the activities of a project of one unit each, and the greatest number of calls
@@ -32,30 +31,11 @@ export async function daysFrom(date, marks, holidays, skipped) {
   return rows.map(({ first }) => first);
 }
 
-async function daysUpTo(last, date, marks, holidays = "") {
-  const days = [];
-  for (let call = 0; call < MOST_CALLS && !(days.at(-1) >= last); call += 1) {
-    days.push(...await daysFrom(date, marks, holidays, call * COUNT));
+/** Returns the working days of a calendar up to a date, or up to the first one behind it. */
+export async function daysUpTo(last, { start, days, holidays = "" }) {
+  const found = [];
+  for (let call = 0; call < MOST_CALLS && !(found.at(-1) >= last); call += 1) {
+    found.push(...await daysFrom(start, days, holidays, call * COUNT));
   }
-  return days;
-}
-
-async function axisFrom(first, last, calendar) {
-  const dates = await daysUpTo(last, first, "1111111");
-  if (dates.at(-1) < last) return null;
-  const places = new Map(dates.map((date, place) => [date, place]));
-  const [monday] = await daysFrom(first, "1000000", "", 0);
-  const worked = calendar && new Set(await daysUpTo(last, first, calendar.days, calendar.holidays));
-  return { dates, places, monday: places.get(monday), worked };
-}
-
-/** Returns the days from one date to another: their dates, the place of each date and of the first
- * Monday, and the days that are worked if the calendar is known. Returns null for too many days. */
-export async function axisOf(first, last, calendar) {
-  try {
-    return await axisFrom(first, last, calendar);
-  } catch (fault) {
-    if (fault instanceof Refusal) return null;
-    throw fault;
-  }
+  return found;
 }

@@ -13,9 +13,9 @@ import { CODE_KINDS, page, recordOf, rememberChange } from "./state.js";
 import { namesIn } from "./view.js";
 
 const notHere = () =>
-  (isAlone() ? "Not set." : "Not set on this computer; the office doesn't tell it.");
+  (isAlone() ? "Not set." : "Not set on this computer. The page can't see what is set elsewhere.");
 const setOn = ({ on }) =>
-  (isAlone() ? `Set on ${on}.` : `Set here on ${on}; the office doesn't tell it.`);
+  (isAlone() ? `Set on ${on}.` : `Set here on ${on}. The page can't see what is set elsewhere.`);
 const DAYS = ["Mo", "Tu", "We", "Th", "Fr", "Sa", "Su"];
 
 const daysIn = (marks) => DAYS.filter((_, at) => marks[at] === "1").join(", ");

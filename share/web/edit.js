@@ -4,7 +4,8 @@
 import { cellsOf, listText } from "./cells.js";
 import { byId, clear, download, onSubmit, put } from "./dom.js";
 import { letChangeGrid, markLine, showGrid } from "./grid.js";
-import { listOf, noteFile, sentFile, takeBytes, takeFile } from "./import.js";
+import { noteFile, sentFile, takeBytes, takeFile } from "./import.js";
+import { listOf } from "./kinds.js";
 import { isAlone, isUnsaved, keepPlans, plansIn, replaceFile, savedFile } from "./local.js";
 import { leavePlan } from "./plan.js";
 import { askLists, showPlans } from "./plans.js";
@@ -86,9 +87,10 @@ export function noteList(n, { name, text, given }) {
   remember(n, { list: { name, text, given: [...given] } });
 }
 
-/** Puts a file in the place of that of a plan, and returns the plan; null for a new plan. */
+/** Puts a file in the place of that of a plan, and returns the plan; null for a new plan, as at a
+ * desk. */
 export function replacedFile(n, file) {
-  if (!n) return null;
+  if (!n || !isAlone()) return null;
   replaceFile(n, file);
   page.projects.delete(n);
   return { n, kind: file.kind };
@@ -98,8 +100,8 @@ function editPlan() {
   const { n } = page.plan, { list } = recordOf(n);
   if (!list) return;
   earlier = [];
-  takeBytes({ ...list, given: new Map(list.given), bytes: bytesOfText(list.text),
-    replaces: isAlone() ? n : undefined });
+  clear("#import-answer");
+  takeBytes({ ...list, given: new Map(list.given), bytes: bytesOfText(list.text), from: n });
 }
 
 /** Shows whether the list of the open plan can be changed. */

@@ -93,8 +93,12 @@ function addColumn() {
     1, rows[0].length);
 }
 
+// ids, by which the rows are named everywhere
+const numberRows = () => change(rows.map((row, at) => [at ? `${at}` : "id", ...row]), 1, 0);
+
 export function letChangeGrid() {
   byId("add-row").onclick = addRow;
+  byId("number-rows").onclick = numberRows;
   byId("add-column").onclick = addColumn;
   byId("column-name").onkeydown = (event) => {
     if (event.key !== "Enter") return;

@@ -8,19 +8,21 @@ import {
 import { rowWords } from "./cells.js";
 import { noteList, openSaved, replacedFile, showEdit } from "./edit.js";
 import { isAlone } from "./local.js";
-import { ignoredWords, isOfDates } from "./messages.js";
+import { FILE, lettersOf, listOf, recognized, triedTo } from "./kinds.js";
+import { movedNodes } from "./moved.js";
+import { noteNodes, projectNotes } from "./notes.js";
 import { showPlace } from "./place.js";
 import { openPlan, showPlan, takeStarts } from "./plan.js";
 import { showPlans } from "./plans.js";
-import { printed, printedWith } from "./program.js";
-import { arcsOverWaits, isWait, readProject, readShop } from "./project.js";
+import { printed } from "./program.js";
+import { arcsOverWaits, isAbsence, isWait, readProject, readShop } from "./project.js";
 import { page, remember } from "./state.js";
+import { dateNodes, plannedBy } from "./week.js";
+import { bringBack } from "./whole.js";
 import { counted } from "./words.js";
 
 const LARGEST_FILE = 1048576;
 const CONTEXT = 12;
-// the name of a file for the program
-const FILE = "file";
 const importButton = () => byId("import").querySelector("button");
 
 const noneOf = (name) => [
@@ -42,68 +44,6 @@ async function bytesOf(file) {
   return null;
 }
 
-// the text of a file in the letters in which the program reads a list
-function lettersOf(bytes) {
-  const [first, second] = bytes;
-  const wide = first === 0xff && second === 0xfe ? "utf-16le"
-    : first === 0xfe && second === 0xff && "utf-16be";
-  try {
-    return new TextDecoder(wide || "utf-8", { fatal: !wide }).decode(bytes);
-  } catch {
-    return new TextDecoder("windows-1252").decode(bytes);
-  }
-}
-
-// what a command prints, or its error
-async function triedTo(words, bytes) {
-  try {
-    return await printedWith([...words, FILE], { [FILE]: bytes });
-  } catch (fault) {
-    if (!(fault instanceof Refusal)) throw fault;
-    return { fault };
-  }
-}
-
-/** Returns the project or the job shop that a list becomes, or the error of the list. */
-export async function listOf(name, bytes, given) {
-  const options = [...given].flatMap(([resource, amount]) => ["--capacity", `${resource}=${amount}`]);
-  const read = await triedTo(["import", ...options], bytes);
-  const project = { isProject: !read.text || /^PRECEDENCE RELATIONS:/m.test(read.text), ...read };
-  if (project.text) return project;
-  const shop = { isProject: false, ...await triedTo(["import", "--shop"], bytes) };
-  if (shop.text || /^T(5|6|15) /.test(shop.fault.message)) return shop;
-  if (/^T(5|6|7|8|9|10|11|14) /.test(project.fault.message)) return project;
-  if (/^T12 /.test(shop.fault.message)) return shop;
-  return /\.(csv|tsv)$/i.test(name) ? project : null;
-}
-
-async function instancesOf(bytes) {
-  const { text } = await triedTo(["names", "--format", "json"], bytes);
-  return text ? JSON.parse(text).rows.map((row) => row.name) : [];
-}
-
-async function isShop(bytes) {
-  const words = ["shop", "spt", FILE, "-"];
-  return printed(words, { [FILE]: bytes }).then(() => true, () => false);
-}
-
-// the first word of start times, or of a table or JSON that has them; the two sizes of a job shop
-const STARTS = /^\s*(\d|\{|"?(act|job|id|optimal|between|budget|makespan)\b)/;
-const SIZES = /^[ \t]*\d+[ \t]+\d+[ \t]*\r?$/m;
-
-// what a file is: `list` is set for a list, `instances` for a job shop
-async function recognized({ name, bytes, text, given }) {
-  const isProject = /^\s*PRECEDENCE RELATIONS/m.test(text) || /\.sm$/i.test(name);
-  const list = isProject ? null : await listOf(name, bytes, given);
-  // a schedule that was saved as CSV
-  const isSaved = page.plan && list?.fault && /^[^\n]*\bstart\b/.test(text);
-  const instances = isProject || list ? [] : await instancesOf(bytes);
-  const isOther = !isProject && !list && !instances.length && !(await isShop(bytes));
-  const isStarts = isSaved || (page.plan && isOther && STARTS.test(text));
-  const isNothing = isOther && !isStarts && !SIZES.test(text);
-  return { isProject, list, instances, isStarts, isNothing };
-}
-
 /** Takes a file, and sends it at once if it is plain what it is. */
 export async function takeFile(file) {
   forgetFile();
@@ -119,10 +59,10 @@ export async function takeFile(file) {
   return takeBytes({ name: file.name, bytes, text });
 }
 
-/** Takes the bytes of a file. `replaces` is the number of the plan whose list it is, if any, and
- * `given` are capacities that the list lacks. */
-export async function takeBytes({ name, bytes, text, given = new Map(), replaces }) {
-  const taken = { name, bytes, text, given, replaces };
+/** Takes the bytes of a file. `from` is the number of the plan whose list it is, if any, `given` are
+ * capacities that the list lacks, and by `dates` a list with dates was planned. */
+export async function takeBytes({ name, bytes, text, given = new Map(), dates, from }) {
+  const taken = { name, bytes, text, given, dates: dates && { ...dates }, from };
   try {
     Object.assign(taken, await recognized(taken));
   } catch (fault) {
@@ -159,11 +99,16 @@ async function showList() {
   const { file } = page, { fault, text, isProject } = file.list;
   byId("preview").hidden = false;
   byId("desk").toggleAttribute("data-list", true);
+  byId("number-rows").hidden = true;
   await showEdit(file);
   importButton().hidden = Boolean(fault);
+  importButton().textContent = file.from && isAlone() ? "Replace the list" : "Make the plan";
+  const moved = fault ? [] : await movedNodes(file);
   fill("preview", ...(fault ? faultyNodes(file, fault.message)
     : isProject ? projectNodes(file, readProject(text)) : await shopNodes(file, text)));
-  fill("capacities", ...(isProject ? capacityNodes(file) : []));
+  byId("preview").firstChild.after(...moved);
+  fill("capacities", ...(isProject ? capacityNodes(file) : []),
+    ...(file.list.begins ? dateNodes(file) : []));
   if (byId("edit").contains(document.activeElement)) return;
   if (!fault) importButton().focus();
   byId("preview").scrollIntoView({ block: "nearest" });
@@ -173,10 +118,9 @@ async function showList() {
 function capacityNodes({ given, list: { text, fault } }) {
   const { resources = [], capacities } = text ? readProject(text) : {};
   const without = fault?.message.match(/^T10 no capacity (.*)$/)?.[1];
-  const missing = isOfDates(without ?? "") ? undefined : without;
   const known = [...resources].map(([number, name]) => [name, capacities[number - 1]]);
-  const others = [...given].filter(([name]) => missing && name !== missing);
-  return [...known, ...others, ...(missing ? [[missing, ""]] : [])]
+  const others = [...given].filter(([name]) => without && name !== without);
+  return [...known, ...others, ...(without ? [[without, ""]] : [])]
     .map(([name, value]) => capacityNode(name, value));
 }
 
@@ -192,22 +136,16 @@ function capacityNode(name, value) {
   return make("label", {}, `Capacity of ${name}`, input);
 }
 
-// the program's note on columns that it ignores, or on the letters of the file
-const noteNodes = (note) => (note.match(/[^;]+/g) ?? []).flatMap((words) => [words.trim()
-  .replace(/^ignored columns:/,
-    "These columns are no crews, because no capacity is given, and are ignored:")
-  .replace(/^read as (.*)$/, "The list isn't in UTF-8; it is read as $1."), ...ignoredWords(words)])
-  .map((words) => say(words, { class: "hint" }));
-
-const previewNodes = (name, kind, parts, table, note) => [
-  tell(`${name} becomes a ${kind} of ${parts}. Change the list, or make the plan.`),
-  ...noteNodes(note),
+const previewNodes = (name, kind, parts, table, notes) => [
+  tell(`${name} becomes a ${kind} of ${parts}. Change it, or ${
+    importButton().textContent.toLowerCase()}.`),
+  ...notes,
   make("details", {}, make("summary", {}, "As the program reads it"),
     wideNode(`The ${kind}`, tableNode({ label: `The ${kind}`, ...table }))),
 ];
 
 // the first and the last activity of the project aren't rows of the list
-function projectNodes({ name, list: { note } }, project) {
+function projectNodes({ name, list: { note, begins } }, project) {
   const { durations, needs, ids, names, resources, capacities } = project;
   const last = durations.length - 1;
   const inner = arcsOverWaits(project).filter(({ from, to }) => from > 0 && to < last);
@@ -217,13 +155,13 @@ function projectNodes({ name, list: { note } }, project) {
   const caps = [...resources].map(([number, words]) => `${words} ${capacities[number - 1]}`);
   const rows = durations.map((duration, at) => [idOf(at + 1), names.get(at + 1) ?? "", duration,
     before(at).join(" "), ...[...resources.keys()].map((number) => needs[at][number - 1])])
-    .slice(1, -1).filter(([id]) => !isWait(id));
+    .slice(1, -1).filter(([id]) => !isWait(id) && !(begins && isAbsence(id)));
   return previewNodes(name, "project", `${counted(rows.length, "activity", "activities")}, with ${
     counted(inner.length, "link")} between them and ${counted(resources.size, "resource")}`, {
     caption: caps.length && `Capacities: ${caps.join(", ")}`,
     heads: [ids.size ? "id" : "number", "name", "duration", "predecessors", ...resources.values()],
     rows,
-  }, note);
+  }, projectNotes(note, [...ids.values()]));
 }
 
 async function shopNodes({ name, list: { note } }, text) {
@@ -235,7 +173,7 @@ async function shopNodes({ name, list: { note } }, text) {
     heads: ["job", "order", "steps"],
     rows: [...names].map(([job, order]) => [job, order,
       rows.filter((row) => row.job === job).map(wordsOf).join(", ")]),
-  }, note);
+  }, noteNodes(note));
 }
 
 const lineIn = (message) => Number(message.match(/\bline (\d+)/)?.[1] ?? 0);
@@ -266,9 +204,29 @@ function partNode(name, text, line) {
 
 // -- sending
 
+// a list with dates becomes the plan that the program finds for it
+async function importByDates(file) {
+  const told = (line) => page.file === file && fill("import-answer", tell(line));
+  const { plan, words } = await plannedBy(file, told).catch((fault) => {
+    throw Object.assign(fault, { labels: rowLabels(file.text, fault.message) });
+  });
+  if (page.file !== file) return "";
+  await bringBack([plan], (own) => replacedBy(file, own));
+  forgetFile();
+  return words;
+}
+
+async function replacedBy({ name, from }, { kind, instance, bytes }) {
+  const made = replacedFile(from, { kind, instance, bytes });
+  if (!made) return sentFile({ kind, instance, bytes });
+  noteMade(made, name, bytes, instance);
+  return made.n;
+}
+
 async function importFile(fields) {
   const { file } = page;
   const { list } = file;
+  if (list?.begins) return importByDates(file);
   const isProject = list ? list.isProject : file.isProject;
   const instance = list && !isProject ? "shop" : fields.instance || "-";
   const path = isProject ? deskPath("projects") : shopPath(instance);
@@ -279,7 +237,7 @@ async function importFile(fields) {
   const bytes = list ? new TextEncoder().encode(list.text) : file.bytes;
   let made;
   try {
-    made = replacedFile(file.replaces, { kind: isProject ? "project" : "shop", instance, bytes })
+    made = replacedFile(file.from, { kind: isProject ? "project" : "shop", instance, bytes })
       ?? await command(path, "POST", new Blob([bytes]));
   } catch (fault) {
     fault.labels = labelsOf(isProject, bytes);

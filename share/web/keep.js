@@ -3,7 +3,7 @@
 // every rule gives that schedule. The program confirms it before the plan is made.
 
 import { Refusal, tableOf } from "./api.js";
-import { activityLabel } from "./labels.js";
+import { activityLabel, stepLabels } from "./labels.js";
 import { printed } from "./program.js";
 import { page, recordOf } from "./state.js";
 import { projectText } from "./subject.js";
@@ -21,20 +21,6 @@ export function linksFor({ durations, arcs }, starts) {
     links.push({ from, to, lag: 0 });
   }
   return { links };
-}
-
-// the steps of a job shop as activities: their ids, and their names if there are some
-function stepLabels({ names, resources }, rows) {
-  const idOf = ({ job, step }) => `${job}.${step}`;
-  const nameOf = ({ job, mach }) =>
-    [names[job] ?? `job ${job}`, resources[mach] ?? `machine ${mach}`].join(", ");
-  const numbered = (wordsOf) => Object.fromEntries(rows.map((row, at) => [at + 1, wordsOf(row)]));
-  const machines = Math.max(...rows.map(({ mach }) => mach)) + 1;
-  return {
-    ids: numbered(idOf), names: numbered(nameOf),
-    resources: Object.fromEntries(Array.from({ length: machines }, (_, mach) =>
-      [mach + 1, resources[mach] ?? `machine ${mach}`])),
-  };
 }
 
 /** Returns the drawn schedule as a plan of a saved file. */

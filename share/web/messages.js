@@ -9,7 +9,7 @@ const HEADERS = "Change headers and columns in the spreadsheet, or below in the 
 // links of MS Project that the program doesn't read, in four languages, and negative lags
 const LINK = /^\d+(?:SS|SF|FF|AA|AE|EE|EA|DD|DF|FD|CC|CF|FC)\b|^\d+(?:[A-Z]{2})?-/i;
 
-// the columns of dates, which `plan solve` reads and the page doesn't
+// the columns of dates
 const DATES = /^(?:earliest|fixed|begun|remaining|done|due|late)$/i;
 
 export const isOfDates = (header) => DATES.test(header);
@@ -22,10 +22,8 @@ const ASSIGNED =
 export function ignoredWords(note) {
   const listed = note.match(/ignored columns:([^;]*)/)?.[1] ?? "";
   const headers = (listed.match(/[^,]+/g) ?? []).map((header) => header.trim());
-  const dates = headers.filter(isOfDates).join(", ");
   const assigned = headers.find((header) => ASSIGNED.test(header));
   return [
-    ...(dates ? [`The page plans without the dates in ${dates}: plan solve reads them.`] : []),
     ...(assigned ? [`To count the names in ${assigned}, add a row with the id capacity, and write, `
       + "for example, crew[3],digger there."] : []),
   ];
@@ -94,17 +92,15 @@ const MESSAGES = {
     ? [`Write another link in place of ${word} of ${row}, or split an activity.`,
       "A predecessor ends before the activity starts. A lag is a whole number of days behind a plus."]
     : [`Correct the predecessor ${word} of ${row}, or add its row.`,
-      "No row has this id, and not exactly one this name. A group can't be a predecessor."]),
+      "No row has this id, and none or several have this name. A group can't be a predecessor."]),
   T9: ({ row, word }) => [`Write a whole number as the need of ${row} for ${word}.`,
     `${CELL} If ${word} isn't a resource, delete its column or its header.`],
-  T10: ({ word }) => (isOfDates(word)
-    ? [`Delete the column ${word}, or plan the list with plan solve.`,
-      "The page reads no dates, and plans a row absence as an activity."]
-    : [`Enter the capacity of ${word}, or add a row whose id is capacity.`,
-      "If the column isn't a resource, delete it or its header."]),
+  T10: ({ word }) => [`Enter the capacity of ${word}, or add a row whose id is capacity.`,
+    "If the column isn't a resource, delete it or its header."],
   T11: ({ cycle }) => [`Delete one predecessor of the cycle ${cycle}.`,
     "Each of these rows precedes the next, and the last precedes the first."],
-  T12: ({ place }) => ["Choose a coarser time unit, or split the project.",
+  T12: ({ line, place }) => [
+    `${line === "0" ? "Add a row, choose" : "Choose"} a coarser time unit, or split the project.`,
     `In ${place} a limit is exceeded: 1 to 500 rows, 16 resources, durations and amounts up to `
     + "10,000, all durations together up to 1,000,000, names up to 200 bytes. In a list of orders: "
     + "1 to 50 orders, 1 to 20 machines."],
@@ -117,11 +113,12 @@ const MESSAGES = {
     "It has more steps than the list has machines."],
   T16: ({ word }) => ["Give the predecessors of each row instead.",
     `The column ${word} gives successors. If it is a resource, add its capacity.`],
-  T17: ({ row }) => ["Give today's instant with --now.", `${row} has begun or is done.`],
+  T17: ({ row }) => ["Enter the present instant or date as Now.", `${row} has begun or is done.`],
   T18: () => ["Save its sheet as CSV (UTF-8), and drop that.", "It is a workbook, not a text."],
   T19: ({ row, word, capacity }) => [`Raise the capacity of ${word}, or lower what ${row} needs.`,
     `It needs more than the capacity ${capacity}, so it can never start.`],
-  T20: ({ row }) => [`Write a whole number for each date and amount of ${row}.`, CELL],
+  T20: ({ row }) => [
+    `Write a whole number for each date and amount of ${row}, or enter the first date.`, CELL],
   T21: ({ row }) => [`Correct one of the dates of ${row}, or delete it.`,
     "They contradict each other."],
 

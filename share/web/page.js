@@ -91,10 +91,11 @@ function letFit() {
   addEventListener("afterprint", () => fill("paper"));
 }
 
-// on a small screen the chart comes before the choice of schedules, also in the order of the keys
+// on a small screen the chart comes before what is done with it, also in the order of the keys
 function letOrder() {
   const small = matchMedia("(max-width: 59.99rem)");
-  const order = () => byId("chart")[small.matches ? "after" : "before"](byId("choices"));
+  const parts = ["keep-row", "keep-answer", "choices"].map(byId);
+  const order = () => byId("chart")[small.matches ? "after" : "before"](...parts);
   small.onchange = order;
   order();
 }

@@ -8,6 +8,7 @@ import {
   all, byId, clear, download, during, faultNodes, fill, letTake, make, onSubmit, put, refusalNode,
   say, tableNode, tell,
 } from "./dom.js";
+import { isLinked } from "./drawing.js";
 import { showEditable } from "./edit.js";
 import { TEXTS } from "./handin.js";
 import { sentFile } from "./import.js";
@@ -156,6 +157,7 @@ function showDrawn() {
   const { plan } = page;
   view = viewOf(plan);
   const point = showChart(view);
+  byId("note").hidden = !plan.note || plan.note === view.drawings.fault?.message;
   showTable(view, `Schedule by ${nameOf(plan, plan.drawn)}`);
   showSaves(view);
   showDayNote(plan);
@@ -291,8 +293,8 @@ function showSaves({ plan, calendar }) {
   for (const button of all("#saves button")) {
     const { value } = button;
     const isAble = value === "all.json" ? recordOf(plan.n).file
-      : value === "list.csv" ? calendar && ownList(plan)
-        : TEXTS[value] || (plan.model && (value !== "ics" || calendar));
+      : TEXTS[value] || (isLinked(plan, plan.drawn)
+        && (value === "list.csv" ? calendar && ownList(plan) : value !== "ics" || calendar));
     button.hidden = !isAble;
   }
 }
@@ -313,6 +315,7 @@ async function checkStarts(text) {
   const isFeasible = line === "active" || line.endsWith("can start earlier");
   schedules.set("own", {
     heads, total, isInfeasible: !isFeasible, verdict: isFeasible ? "" : " (not feasible)",
+    wrong: isFeasible ? "" : line,
     rows: rows.map((row, at) => ({ ...row, start: starts[at], end: starts[at] + row.d })),
   });
   plan.days.delete("own");

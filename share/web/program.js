@@ -19,16 +19,23 @@ if (inside("worker-text")) {
   address = URL.createObjectURL(text);
 }
 
-// the policy passes two addresses: of the worker, and of what keeps plan.html on a phone
-const addresses = { worker: address, cache: "plan-cache.js" };
-const policy = globalThis.trustedTypes?.createPolicy("program", {
-  createScriptURL: (name) => addresses[name],
-});
-const addressOf = (name) => policy?.createScriptURL(name) ?? addresses[name];
+// the policy passes the address of the worker, and in a plan.html that is served also the address of
+// what keeps it
+const addresses = { worker: address };
+const isServed = globalThis.location?.protocol.startsWith("http");
+if (inside("worker-text") && isServed) addresses.cache = "plan-cache.js";
+
+function passed(name) {
+  if (!Object.hasOwn(addresses, name)) throw new TypeError(`no script has the name ${name}`);
+  return addresses[name];
+}
+
+const policy = globalThis.trustedTypes?.createPolicy("program", { createScriptURL: passed });
+const addressOf = (name) => policy?.createScriptURL(name) ?? passed(name);
 
 /** Lets the browser keep plan.html if it is served, so that it opens without a network. */
 export async function keepPage() {
-  if (!location.protocol.startsWith("http")) return;
+  if (!addresses.cache) return;
   const link = document.createElement("link");
   document.head.append(Object.assign(link, { rel: "manifest", href: "plan.webmanifest" }));
   const options = { scope: location.pathname, updateViaCache: "none" };
@@ -39,8 +46,9 @@ export async function keepPage() {
 async function moduleBytes() {
   const packed = inside("packed-module");
   if (!packed) {
-    const response = await fetch("plan.wasm", { redirect: "error" });
-    if (!response.ok) throw new Error(`plan.wasm: the server answers ${response.status}`);
+    const response = await fetch("plan.wasm", { redirect: "error" })
+      .catch(() => { throw new Error("plan.wasm can't be fetched"); });
+    if (!response.ok) throw new Error(`the server answers ${response.status} for plan.wasm`);
     return response.arrayBuffer();
   }
   const bytes = Uint8Array.from(atob(packed.textContent), (letter) => letter.charCodeAt(0));
@@ -52,7 +60,8 @@ let module = null;
 
 const loaded = () => (module ??= moduleBytes().then((bytes) => load(bytes, DIGEST)).catch((fault) => {
   module = null;
-  throw new Refusal(`Reload the page, or get it again: the program can't be loaded, because ${
+  const other = inside("packed-module") ? "get it again" : "tell the office";
+  throw new Refusal(`Reload the page, or ${other}: the program can't be loaded, because ${
     fault.message}.`);
 }));
 

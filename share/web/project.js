@@ -109,6 +109,12 @@ export function readShop(text, instance) {
 /** Returns whether an id is that of a wait, which stands for a lag of a list. */
 export const isWait = (id) => /^wait\+\d+$/.test(id ?? "");
 
+/** Returns the id that the page gives to an absence, counted from 0. */
+export const absenceId = (number) => (number ? `absence-${number + 1}` : "absence");
+
+/** Returns whether an id is that of an absence. */
+export const isAbsence = (id) => /^absence(-\d+)?$/i.test(id ?? "");
+
 /** Returns the arcs of a project with the lags of its list in the place of waits. */
 export function arcsOverWaits({ arcs, durations, ids }) {
   const isGap = (at) => isWait(ids?.get(at + 1));

@@ -101,11 +101,12 @@ export const earlyStarts = (model, starts) => startLines([...starts,
 export const lateStarts = (model, starts) => startLines([...starts,
   ...lagged(model).map(({ to, lag }) => Math.max(0, starts[to] - lag))]);
 
+// null for an error of the program, whose line begins with its code
 async function orNull(asking) {
   try {
     return await asking;
   } catch (fault) {
-    if (fault instanceof Refusal) return null;
+    if (fault instanceof Refusal && /^[A-Z]\d/.test(fault.message)) return null;
     throw fault;
   }
 }
@@ -126,11 +127,27 @@ async function comparedTo({ words: [file, ...instance], files }, starts) {
   return { line, total: Number(total), starts: tableOf(text).rows.map(({ A }) => A) };
 }
 
+/** Returns a model without links, whose capacities are doubled until start times keep to them; and by
+ * the place of a resource the first verdict that more of it is needed than there is. */
+export async function loosened(model, starts) {
+  const over = new Map();
+  let loose = { ...model, arcs: [] };
+  for (;;) {
+    const files = { "plan.sm": projectText(loose) };
+    const { line } = await comparedTo({ words: ["plan.sm"], files }, startLines(starts));
+    const place = line.match(/ more of resource (\d+) /)?.[1] - 1;
+    if (!(place >= 0)) return { loose, over };
+    if (!over.has(place)) over.set(place, line);
+    const { capacities } = loose;
+    loose = { ...loose, capacities: capacities.with(place, 2 * capacities[place] || 1) };
+  }
+}
+
 const withoutLags = (model, names) =>
   projectText({ ...model, arcs: model.arcs.map((arc) => ({ ...arc, lag: 0 })) }, names);
 
-/** Returns by the number of an activity its resources and predecessors in the ids of its file, as
- * the program prints them; null without ids. */
+/** Returns by the number of each activity that is printed its resources and predecessors in the ids of
+ * its file, as the program prints them; null without ids. */
 export async function describedBy(model, names) {
   if (!Object.keys(names.ids).length) return null;
   const words = ["schedule", "num", "--format", "json", "plan.sm"];
@@ -187,6 +204,10 @@ export async function daysOf({ model, subject: { files, words } }, starts, calen
     .map(({ first, last }) => (first === "-" ? null : { first, last }));
 }
 
+/** Returns the days of a schedule as a text, to compare them. */
+export const dayCells = (rows) =>
+  rows.map((row) => (row && row.first !== "-" ? `${row.first} ${row.last}` : "-")).join();
+
 /** Returns the seconds of each slice of a search: 1, 2, 4 .., and the rest. */
 export function slicesOf(seconds) {
   const slices = [];
@@ -219,13 +240,14 @@ export async function solved(plan, seconds, told, signal) {
 }
 
 /** Returns the list that a plan's file comes from, as its `text` with the capacities `given`; null
- * if it has none, or if binds or lags changed the plan. */
+ * if it has none, if binds or lags changed the plan, or if it was planned by its dates. */
 export function ownList({ n, kind, model }) {
   const { list } = recordOf(n);
-  return kind === "project" && model && !model.isChanged && list ? list : null;
+  return kind === "project" && model && !model.isChanged && list && !list.dates ? list : null;
 }
 
-const capacitiesOf = (list) =>
+/** Returns the options for the capacities that were given to a list. */
+export const capacitiesOf = (list) =>
   (list?.given ?? []).flatMap(([name, amount]) => ["--capacity", `${name}=${amount}`]);
 
 /** Returns a file to save: the list, `report`, `ics` or `svg`. */

@@ -2,16 +2,16 @@
 // tables agree with its file; and the rows, bars and texts of the schedule that is drawn.
 
 import { Refusal } from "./api.js";
-import { axisOf } from "./axis.js";
 import { byId } from "./dom.js";
+import { drawingsOf, isLinked, looseDays, shownOf, todayDrawing, usualWeek } from "./drawing.js";
 import { activityLabel, named, resourceLabel } from "./labels.js";
-import { coloursOf } from "./layout.js";
+import { coloursOf, today } from "./layout.js";
 import { isAlone } from "./local.js";
-import { arcsOverWaits, isWait, mostNeeded } from "./project.js";
+import { arcsOverWaits, isAbsence, mostNeeded } from "./project.js";
 import { page, recordOf, shapeOf } from "./state.js";
 import { RULE_NAMES } from "./words.js";
 import {
-  agrees, daysOf, describedBy, projectModel, shopModel, slackOf, subjectOf,
+  agrees, dayCells, daysOf, describedBy, projectModel, shopModel, slackOf, subjectOf,
 } from "./subject.js";
 
 const SEARCHED = { optimal: "shortest, proved" };
@@ -33,34 +33,49 @@ export function needWords(plan, line) {
     + `${capacity}, so it can never start.`;
 }
 
-/** Asks the program for the slack and the days of a schedule of the plan. */
-export async function learn(plan, rule) {
+async function learnTimes(plan, rule) {
   const table = plan.schedules.get(rule);
   const starts = startsOf(table);
   const isSound = plan.model && !table.isInfeasible;
   plan.slacks.set(rule, isSound ? await slackOf(plan, starts) : null);
   if (!plan.days.has(rule) && plan.calendar) {
-    plan.days.set(rule, { rows: await daysOf(plan, starts, plan.calendar).catch(() => null) });
+    const asked = table.isInfeasible ? looseDays(table.rows, plan.calendar)
+      : daysOf(plan, starts, plan.calendar);
+    plan.days.set(rule, { rows: await asked.catch(() => null) });
   }
-  await learnAxis(plan);
 }
 
-// the days from the first to the last of all schedules
-async function learnAxis(plan) {
-  const rows = [...plan.days.values()].flatMap((days) => days.rows ?? []);
-  const dated = rows.filter((row) => row && row.first !== "-");
-  const first = dated.map((row) => row.first).sort()[0];
-  const last = dated.map((row) => row.last).sort().at(-1);
-  const isKnown = plan.axis?.places.has(first) && plan.axis.places.has(last);
-  if (!isKnown) plan.axis = first ? await axisOf(first, last, plan.calendar) : null;
+// the lines of a chart: activities, or machines or jobs
+const linesBy = ({ kind }) => (kind === "shop" ? ["machine", "job"] : [""]);
+
+async function learnDrawings(plan, rule) {
+  const dates = datesIn(plan, rule);
+  const calendar = dates && (plan.calendar ?? plan.week);
+  for (const by of linesBy(plan)) {
+    const place = `${rule} ${by}`;
+    plan.drawings.set(place, await drawingsOf(plan, rule, calendar, by).catch((fault) => ({ fault })));
+  }
+  const last = (dates ?? []).map((row) => row?.last ?? "").sort().at(-1);
+  const { total } = plan.schedules.get(rule);
+  const isLater = calendar && last >= today();
+  plan.todays.set(rule, isLater && await todayDrawing(calendar, total).catch(() => null));
+}
+
+/** Asks the program for the slack, the days and the drawings of a schedule of the plan. */
+export async function learn(plan, rule) {
+  await learnTimes(plan, rule);
+  await learnDrawings(plan, rule);
 }
 
 /** Settles the model of a plan, and asks the program for all that is shown of its schedules. */
 export async function settle(plan) {
-  Object.assign(plan, { model: null, described: null, note: "", calendar: null, axis: null,
-    slacks: new Map(), labels: namesIn(plan) });
+  Object.assign(plan, { model: null, described: null, note: "", calendar: null,
+    slacks: new Map(), drawings: new Map(), todays: new Map(), labels: namesIn(plan) });
   await settleFile(plan);
-  await learnAxis(plan);
+  const dated = [...plan.schedules].map(([rule, { rows }]) => [rows, datesIn(plan, rule)])
+    .filter(([, days]) => days);
+  plan.week = plan.calendar ? null : await usualWeek(dated).catch(() => null);
+  for (const rule of plan.schedules.keys()) await learnDrawings(plan, rule);
 }
 
 async function settleFile(plan) {
@@ -80,7 +95,7 @@ async function settleFile(plan) {
     await settleModel(plan);
   } catch (fault) {
     if (!(fault instanceof Refusal)) throw fault;
-    Object.assign(plan, { model: null, calendar: null, axis: null, note: fault.message });
+    Object.assign(plan, { model: null, calendar: null, note: fault.message });
   }
 }
 
@@ -93,11 +108,8 @@ async function settleModel(plan) {
   }
   plan.described = await describedBy(plan.model, plan.labels);
   await settleCalendar(plan);
-  for (const rule of plan.schedules.keys()) await learn(plan, rule);
+  for (const rule of plan.schedules.keys()) await learnTimes(plan, rule);
 }
-
-const dayCells = (rows) =>
-  rows.map((row) => (row && row.first !== "-" ? `${row.first} ${row.last}` : "-")).join();
 
 // the calendar that was set here, if the office's days are those that the program has by it; at a
 // desk the days are then those that also skip holidays
@@ -147,13 +159,19 @@ function rowsOf(plan, table, dates, slack) {
     if (act) {
       const described = plan.described?.get(act);
       const id = ids[act] ?? "", name = names[act] ?? "";
-      return { ...both, number: act, id, label: id || act, name, float, ...described };
+      const own = isAbsence(id) ? { slack: "", float: "", isCritical: false } : { float };
+      return { ...both, number: act, id, label: id || act, name, ...own, ...described };
     }
     const jobName = names[job] ?? "", machineName = resources[mach] ?? "";
     const name = [jobName, machineName].filter(Boolean).join(", ");
     return { ...both, job, step, machine: mach, jobName, machineName, name };
   });
 }
+
+/** Returns whether the program prints an activity of a plan with ids: not the start and the end, and
+ * perhaps no waits. */
+export const isPrinted = ({ described, labels: { ids } }, number) =>
+  (described ? described.has(number) : Boolean(ids[number]));
 
 function timesOf({ start, end, first, last, slack, isCritical }, needed = "") {
   const dates = first && `, ${first} to ${last}`;
@@ -173,39 +191,34 @@ function projectBars({ plan, rows, slack }) {
       (need ? `; needs ${need} of ${resourceName(place + 1)}` : "")).join("");
     const bySlack = slack ? (row.slack ? "loose" : "tight") : "plain";
     return {
-      ...row, line: row.number, lineName: named(row.label, row.name), isAlone: true,
+      ...row, line: row.number, isAlone: true,
       labels: [`${row.label}${row.isCritical ? "*" : ""}`],
-      colour: isByResource ? `c${most ? (most - 1) % 16 : "none"}` : bySlack,
-      legend: isByResource && (most ? resourceName(most) : "no resource"),
+      ...(isAbsence(row.id) ? { colour: "absent", legend: isByResource && "absent" } : {
+        colour: isByResource ? `c${most ? (most - 1) % 16 : "none"}` : bySlack,
+        legend: isByResource && (most ? resourceName(most) : "no resource") }),
       words: `Activity ${named(row.label, row.name)}${timesOf(row, needed)}`,
     };
   });
 }
 
-function shopBars({ rows }) {
+// a schedule that isn't feasible has a line for each step
+function shopBars({ plan, rows }) {
+  const isAlone = !isLinked(plan, plan.drawn);
   const bars = rows.map((row) => {
     const { job, step, machine, jobName, machineName } = row;
     const words =
       `Job ${named(job, jobName)}, step ${step}, machine ${named(machine, machineName)}`;
-    const bar = byId("lines").value === "mach"
-      ? { line: machine, lineName: named(`M${machine}`, machineName), key: job,
-        labels: [jobName, `${job}.${step}`, `${job}`], legend: jobName || `job ${job}` }
-      : { line: job, lineName: named(`J${job}`, jobName), key: machine,
-        labels: [machineName, `M${machine}`, `${machine}`],
+    const bar = byId("lines").value === "machine"
+      ? { line: machine, key: job, labels: [jobName, `${job}.${step}`, `${job}`],
+        legend: jobName || `job ${job}` }
+      : { line: job, key: machine, labels: [machineName, `M${machine}`, `${machine}`],
         legend: machineName || `machine ${machine}` };
-    return { ...row, ...bar, words: words + timesOf(row) };
+    const line = isAlone ? row.index : bar.line;
+    return { ...row, ...bar, line, isAlone, words: words + timesOf(row) };
   });
   bars.sort((a, b) => a.line - b.line || a.start - b.start || a.index - b.index);
   const colours = coloursOf(bars);
   return bars.map((bar) => ({ ...bar, colour: `c${colours.get(bar.key)}` }));
-}
-
-// without waits, and of a list without steps of time 0: an order has one on each machine that it
-// doesn't use
-function shownOf(plan, rows) {
-  if (plan.kind === "project") return rows.filter(({ id }) => !isWait(id));
-  const used = rows.filter(({ d }) => d > 0);
-  return recordOf(plan.n).list && used.length ? used : rows;
 }
 
 export function viewOf(plan) {
@@ -215,29 +228,33 @@ export function viewOf(plan) {
   const dates = datesIn(plan, plan.drawn);
   const all = rowsOf(plan, table, dates, slack);
   const hasIds = all.some(({ id }) => id);
-  // as the program does, without the start and the end if the others have ids
-  const rows = hasIds ? all.filter(({ id }) => id) : all;
+  const rows = hasIds ? all.filter(({ number }) => isPrinted(plan, number)) : all;
   const shown = shownOf(plan, rows);
   const bars = plan.kind === "project" ? projectBars({ plan, rows: shown, slack })
-    : shopBars({ rows: shown });
+    : shopBars({ plan, rows: shown });
+  const by = plan.kind === "shop" ? byId("lines").value : "";
   return {
     plan, starts, slack, rows, shown, bars, total: Math.max(...all.map(({ end }) => end)),
     hasIds, isNamed: rows.some(({ name }) => name),
-    dates, axis: plan.axis, calendar: dates && plan.calendar,
-    lineNames: new Map(bars.map(({ line, lineName }) => [line, lineName])),
+    dates, calendar: dates && plan.calendar, isDated: dates && (plan.calendar ?? plan.week),
+    drawings: plan.drawings.get(`${plan.drawn} ${by}`), today: plan.todays.get(plan.drawn),
   };
 }
 
-export function legendOf({ bars, slack, plan }) {
+export function legendOf({ bars, slack, plan, drawings }) {
   const colours = new Map(bars.filter((bar) => bar.legend).map((bar) => [bar.legend, bar.colour]));
   const items = [...colours].sort(([a], [b]) => a.localeCompare(b, "en", { numeric: true }))
     .map(([legend, colour]) => [`bar ${colour}`, legend]);
   if (plan.kind === "project" && !items.length && slack) {
     items.push(["bar tight", "no slack in this schedule"],
-      ["bar loose", "slack: it can slip by itself"],
+      ["bar loose", "slack: it can slip by itself, up to the end of the thin line"],
       ["", "slack by the plan's file and the changes set here"]);
   }
+  if (items.at(-1)?.[0] === "" && bars.some(({ colour }) => colour === "absent")) {
+    items.push(["bar absent", "absent"]);
+  }
   if (bars.some(({ isCritical }) => isCritical)) items.push(["", `* ${STARRED}`]);
+  if (drawings.over?.size) items.push(["over", "more of a resource than there is"]);
   return items;
 }
 

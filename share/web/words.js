@@ -6,13 +6,13 @@ export const RULE_NAMES = {
   fcfs: "first come, first served",
 };
 export const RULE_WORDS = {
-  lft: "least latest finish: the activity that must end first",
-  slk: "least slack: the activity with the smallest float",
-  spt: "shortest processing time: the shortest activity or step",
-  mts: "most total successors: the activity that most others wait for",
-  num: "number: the activity with the least number",
-  mwkr: "most work remaining: the job with the most work left",
-  fcfs: "first come, first served: the step that can start first",
+  lft: "the activity that must end first",
+  slk: "the activity with the smallest float",
+  spt: "the shortest activity or step",
+  mts: "the activity that most others wait for",
+  num: "the activity with the least number",
+  mwkr: "the job with the most work left",
+  fcfs: "the step that can start first",
   best: "the shortest schedule that the search found",
   own: "the start times that you gave to this page",
 };
@@ -27,7 +27,7 @@ export const COLUMN_WORDS = {
 const TERMS = {
   Bind: "give a resource or machine a published capacity in place of the file's.",
   Makespan: "the time from the start to the last end.",
-  Rule: "decides which activity is placed next: the one with ..",
+  Rule: "decides which activity or step is placed next.",
   Float: `${COLUMN_WORDS.float}; a star marks float 0. If crews bind, a starred activity may have `
     + "slack, and another may have none.",
   Slack: `${COLUMN_WORDS.slack}, and the schedule gets no longer. It comes from the plan's file `
@@ -39,7 +39,8 @@ const TERMS = {
 };
 
 export const glossary = () => [
-  ...Object.entries(TERMS), ...Object.entries(RULE_WORDS).slice(0, 7),
+  ...Object.entries(TERMS),
+  ...Object.entries(RULE_NAMES).map(([rule, name]) => [`${name} (${rule})`, RULE_WORDS[rule]]),
   ...Object.entries(COLUMN_WORDS).slice(-6),
 ];
 

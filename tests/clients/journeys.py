@@ -14,8 +14,8 @@ from exchanges import OFFICE_KEY, TOP, file_of
 from front import WEB
 from page_units import worked_days
 from pages import (
-    drop, example, makespan_of, open_tab, printed, rows_of, seen, seen_table, set_date, submit, texts,
-    wait_idle, wait_plan, wait_text,
+    drop, example, makespan_of, open_plan, open_tab, plan_by_dates, printed, rows_of, seen, seen_table, set_date,
+    submit, texts, wait_idle, wait_plan, wait_text,
 )
 from programs import plan, same
 from visits import column, downloaded, sign_in
@@ -89,7 +89,7 @@ def journey_foreman(browser, office):
     wait_text(browser, "#preview", "shop.csv becomes a job shop of 3 orders on 3 machines.")
     submit(browser, "import")
     wait_plan(browser, 4)
-    same("the machines", [words.split("M")[1][2:] for words in texts(browser, "#drawing .name")],
+    same("the machines", [words[len(words) // 2 + 2:] for words in texts(browser, "#drawing .name")],
          ["saw", "press", "paint"])
     browser.run("document.querySelector('#drawing').scrollIntoView({ block: 'center' })")
     browser.point("#drawing .bar[data-line='0'] rect")
@@ -144,9 +144,8 @@ def journey_class(browser, office):
     handed = [hand_in(browser, office, desk, key, rule) for (desk, key), rule in zip(new_class(office, 3), rules)]
     # at her desk she has the exercise as plan 5
     sign_in(browser, "north", "north-key-1")
-    browser.wait("plan 5", "return document.querySelector('#plans [value=\"5\"]')")
-    browser.click("#plans [value='5']")
-    wait_plan(browser, 5)
+    wait_text(browser, "#plans button", "Plan 5")
+    open_plan(browser, 5)
     for (starts, as_json, _), rule in zip(handed, rules):
         verdict = plan("check", example("five.sm"), "-", given=starts.encode())[1].decode().strip()
         words = ["solve"] if rule == "best" else ["schedule", rule]
@@ -163,4 +162,21 @@ def journey_class(browser, office):
     browser.click("#leave")
 
 
-JOURNEYS = [journey_planner, journey_student, journey_foreman, journey_class]
+def journey_absence(browser):
+    """At a desk a list with absences and dates is planned from an instant on, with its working days."""
+    enter(browser, "north")
+    drop_example(browser, "week.csv")
+    wait_text(browser, "#preview", "week.csv becomes a project of 13 activities")
+    fields = {"now": "8", "start": "2027-05-03"}
+    plan_by_dates(browser, fields, "It ends at 48, and none is shorter. Done: A.")
+    wait_plan(browser, 8)
+    rows = [line.split() for line in printed("solve", "--now", "8", example("week.csv"))[2:-1]]
+    wanted = [[row[0], str(max(8, int(row[2]))), row[3]] for row in rows if row[2] != "-"]
+    found = zip(*(column(browser, head) for head in ("id", "start", "end")))
+    same("what is left", [[row[0].rstrip("*"), *row[1:]] for row in found], [*wanted, ["absence", "8", "11"]])
+    days = worked_days(datetime.date(2027, 5, 3), "1111100", 48)
+    same("the last days", column(browser, "last day"), [str(days[int(row[2]) - 1]) for row in [*wanted, ["", "", "11"]]])
+    browser.click("#leave")
+
+
+JOURNEYS = [journey_planner, journey_student, journey_foreman, journey_class, journey_absence]

@@ -1,5 +1,6 @@
-"""Three journeys on the browser page with keys alone: no mouse, and no script that changes the page. At
-each stop of the Tab key the focus is marked and on the screen."""
+"""Journeys on the browser page with keys alone: no mouse, and no script that changes the page. At each stop
+of the Tab key the focus is marked and on the screen. A file is given to its field when the field has the focus:
+the dialog that opens there is the browser's."""
 
 import csv
 import datetime
@@ -9,14 +10,14 @@ import os
 from exchanges import OFFICE_KEY
 from front import sent
 from page_units import worked_days
-from pages import id_rows, printed, rows_of, seen, texts, wait_idle, wait_plan, wait_text
-from programs import Wrong, same
+from pages import RULE_NAMES, RULES, example, makespan_of, printed, rows_of, wait_idle, wait_plan, wait_text
+from programs import Wrong, plan, same
 from visits import column, downloaded_by
 
 TAB, SHIFT, CONTROL, ENTER, SPACE, ESCAPE = "\ue004", "\ue008", "\ue009", "\ue007", " ", "\ue00c"
 LEFT, RIGHT, DOWN = "\ue012", "\ue014", "\ue015"
 MOST_STOPS = 150
-DESKS = ("keys-a", "keys-b", "keys-c")
+DESKS = ("keys-a", "keys-b", "keys-c", "keys-d", "keys-e", "keys-f")
 
 # what is wrong with the place of the focus; null at the start of the page
 STOP = """
@@ -59,6 +60,12 @@ def write(browser, text):
     """Types a text in the place of what a field has."""
     chord(browser, CONTROL, "a")
     browser.press(*text)
+
+
+def take(browser, css, path):
+    """Chooses a file in a field that the Tab key reaches."""
+    reach(browser, css)
+    browser.choose(css, path)
 
 
 def open_desks(port):
@@ -106,6 +113,16 @@ def plan_by_keys(browser, desk):
     plan_example(browser)
 
 
+def date_by_keys(browser):
+    """Sets the calendar under Changes."""
+    reach(browser, "#calendar [name=start]")
+    browser.press(*"03012024")
+    reach(browser, "#calendar button")
+    browser.press(ENTER)
+    wait_text(browser, "#calendar .answer", "From 2024-03-01 on; working days Mo, Tu, We, Th, Fr.")
+    same("the first day", browser.run("return calendar.elements.start.value"), "2024-03-01")
+
+
 def plan_example(browser):
     """The example list is changed and imported, solved and dated, in the table and on the bars."""
     wait_text(browser, "#preview", "example.csv becomes a project of 8 activities")
@@ -132,12 +149,7 @@ def plan_example(browser):
     wait_text(browser, "#told", "Activity C Take down: ")
     reach(browser, "#tab-table")
     browser.press(RIGHT)
-    reach(browser, "#calendar [name=start]")
-    browser.press(*"03012024")
-    reach(browser, "#calendar button")
-    browser.press(ENTER)
-    wait_text(browser, "#calendar .answer", "From 2024-03-01 on; working days Mo, Tu, We, Th, Fr.")
-    same("the first day", browser.run("return calendar.elements.start.value"), "2024-03-01")
+    date_by_keys(browser)
     reach(browser, "#tab-changes", back=True)
     browser.press(LEFT)
     ends = [int(row[3]) for row in rows_of(printed("schedule", "lft", "-", given=given))[1:-1]]
@@ -179,6 +191,68 @@ def change_by_keys(browser, desk):
     same("the focus behind the panel", browser.run("return document.activeElement.id"), "help-button")
 
 
+def bind_by_keys(browser, desk):
+    """A list with a crew of 5 is imported, bound to the published crew of 4 by its name, dated, and drawn by
+    another rule."""
+    enter(browser, desk)
+    take(browser, "#file", example("house.csv"))
+    wait_text(browser, "#preview", "house.csv becomes a project of 12 activities")
+    wait_idle(browser)
+    browser.press(ENTER)
+    wait_plan(browser, 1)
+    reach(browser, "#tab-table")
+    browser.press(RIGHT)
+    reach(browser, "#bind [name=place]")
+    browser.press(*"crew")
+    reach(browser, "#bind [name=code]")
+    browser.press(*"crew-4")
+    reach(browser, "#bind button")
+    browser.press(ENTER)
+    wait_text(browser, "#bind .answer", "The capacity of crew is now that of crew-4.")
+    wait_plan(browser, 1)
+    date_by_keys(browser)
+    reach(browser, "#drawn [name=drawn]:checked", back=True)
+    browser.press(DOWN)
+    rule = RULES[1]
+    same("the rule that is drawn", browser.run("return document.activeElement.value"), rule)
+    with open(example("house.csv"), encoding="utf-8") as file:
+        given = "\n".join(printed("import", "--capacity", "crew=4", "-", given=file.read().encode())).encode()
+    lines = printed("schedule", rule, "-", given=given)
+    wait_text(browser, "#drawn label", f"{RULE_NAMES[rule]} {makespan_of(lines)}")
+    same("the starts with the bound crew", column(browser, "start"), [row[2] for row in rows_of(lines)[1:-1]])
+
+
+def hand_in_by_keys(browser, desk, office):
+    """A student imports the exercise, searches, and saves the start times: the path of their file."""
+    enter(browser, desk)
+    take(browser, "#file", example("five.sm"))
+    wait_plan(browser, 1)
+    reach(browser, "#best button.main")
+    browser.press(ENTER)
+    wait_text(browser, "#best-answer", printed("solve", example("five.sm"))[0])
+    wait_idle(browser)
+    reach(browser, "#tab-table")
+    browser.press(RIGHT, RIGHT)
+    reach(browser, "#saves [value='starts.txt']")
+    name, text = downloaded_by(browser, office, "hand-in", lambda: browser.press(ENTER))
+    path = os.path.join(os.path.dirname(office.database), name)
+    with open(path, "w", encoding="ascii") as file:
+        file.write(text)
+    return path
+
+
+def mark_by_keys(browser, desk, path):
+    """A teacher checks them on her own plan of the exercise: the verdict of `plan check`."""
+    enter(browser, desk)
+    take(browser, "#file", example("five.sm"))
+    wait_plan(browser, 1)
+    reach(browser, "#tab-table")
+    browser.press(RIGHT, RIGHT)
+    take(browser, "#check-file", path)
+    wait_text(browser, "#check-answer code", plan("check", example("five.sm"), path)[1].decode().strip())
+    wait_text(browser, "#check-answer", f"makespan {makespan_of(printed('solve', example('five.sm')))}.")
+
+
 def shop_by_keys(browser, desk, office):
     """A template of orders becomes a job shop, whose best schedule is saved; then the plan is deleted."""
     enter(browser, desk)
@@ -198,7 +272,7 @@ def shop_by_keys(browser, desk, office):
     wait_idle(browser)
     reach(browser, "#lines")
     browser.press(DOWN)
-    browser.wait("lines of jobs", "return document.querySelector('#drawing .name').textContent.startsWith('J1')")
+    browser.wait("lines of jobs", "return document.querySelector('#drawing .name').textContent.startsWith('1 ')")
     reach(browser, "#drawn [name=drawn]:checked", back=True)
     same("the schedule that is drawn", browser.run("return document.activeElement.value"), "best")
     reach(browser, "#tab-table")
@@ -227,6 +301,12 @@ def try_keys(browser, office):
     change_by_keys(browser, DESKS[0])
     leave(browser)
     shop_by_keys(browser, DESKS[1], office)
+    leave(browser)
+    bind_by_keys(browser, DESKS[3])
+    leave(browser)
+    path = hand_in_by_keys(browser, DESKS[4], office)
+    leave(browser)
+    mark_by_keys(browser, DESKS[5], path)
     leave(browser)
     browser.resize(320, 256)
     plan_by_keys(browser, DESKS[2])

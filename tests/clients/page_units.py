@@ -1,5 +1,5 @@
-"""Compares the modules of the browser page that need no browser (subject, use, search, layout, project,
-handin, table) with Python's datetime and csv, with plain models, and with `plan`. Needs node.
+"""Compares the modules of the browser page that need no browser (subject, search, layout, project,
+handin, table, view) with Python's datetime and csv, with plain models, and with `plan`. Needs node.
 """
 
 import csv
@@ -250,6 +250,76 @@ def try_kept(modules, draw):
     same("links of late schedules", ["late" in answer for answer in late], [True] * len(late))
 
 
+def drawn_week(draw):
+    """A list with dates of some activities, an instant from which on it is planned, and the absences as their
+    begins and lengths."""
+    count, now = draw.randrange(3, 9), draw.randrange(4)
+    lines = ["id,name,duration,predecessors,crew,digger,earliest,begun,remaining,done,due"]
+    for at in range(count):
+        before = [f"A{draw.randrange(at)}" + draw.choice(["", "", "+2"])] if at and draw.random() < 0.6 else []
+        begun = now and draw.random() < 0.15
+        dates = ["", draw.randrange(now), draw.randrange(1, 4), ""] if begun else ["", "", "", draw.randrange(1, now + 1)] \
+            if now and draw.random() < 0.15 else [draw.choice(["", "", 7]), "", "", ""]
+        lines.append(",".join(map(str, [f"A{at}", f"work {at}", draw.randrange(5), *(before or [""]),
+                                        draw.randrange(2), draw.randrange(2), *dates, draw.choice(["", 9])])))
+    absences = [(draw.choice(["", draw.randrange(8)]), draw.randrange(1, 5)) for _ in range(draw.randrange(3))]
+    lines += [f"absence,away,{length},,1,,{begin},,,," for begin, length in absences]
+    return "\n".join([*lines, "capacity,,,,2,1,,,,,", ""]), now, absences
+
+
+def try_week(modules, draw):
+    """The plan that the page makes of a list with dates has what is left from now on, and its absences up to the
+    end, at the times of `plan solve` by each rule."""
+    cases = []
+    while len(cases) < 60:
+        text, now, absences = drawn_week(draw)
+        status, out, _ = plan("solve", "--now", str(now), "--format", "json", "-", given=text.encode())
+        if status == 0:
+            cases.append((text, now, absences, json.loads(out)))
+    plain = modules.values([["week", "withoutDates", [text, {"map": []}]] for text, *_ in cases])
+    lists = [plan("import", "-", given=list_["text"].encode())[1].decode() for list_ in plain]
+    same("the begins of absences", [list_["begins"] for list_ in plain],
+         [[str(begin) for begin, _ in absences] for _, _, absences, _ in cases])
+    waiting = modules.values([["week", "waitingProject", [text, found, [now, *(begin or 0 for begin, _ in absences)]]]
+                              for text, (_, now, absences, found) in zip(lists, cases)])
+    sizes = set()
+    for own, (text, now, absences, found) in zip(waiting, cases):
+        wanted = [[max(row["start"], now), row["end"]] for row in found["rows"] if row["start"] is not None]
+        away = [[max(begin or 0, now), min((begin or 0) + length, found["makespan"])] for begin, length in absences]
+        wanted += [[first, end] for first, end in away if first < end]
+        for rule in ("lft", "slk", "spt", "mts", "num"):
+            rows = [line.split() for line in plan("schedule", rule, "--names", "-", given=own["text"].encode())[1].decode().splitlines()]
+            same(f"{rule} of {text} at {now}", [list(map(int, row[2:4])) for row in rows[1:-1]], wanted)
+        sizes.add((len(wanted) < len(found["rows"]), bool(absences)))
+    same("kinds of lists", len(sizes), 4)
+    # the lag, and the link, keep A from slipping; a column with a capacity has no dates
+    for text, found, link in (("A,2,,1,9\nB,3,A+2,1,\ncapacity,,,1,\n", [[0, 2], [4, 7]], "A+2"),
+                              ("A,2,,,9\nB,3,A,,\ncapacity,,,1,\n", [[0, 2], [2, 5]], "A")):
+        text = f"id,duration,predecessors,crew,due\n{text}"
+        rows = [{"id": name, "start": start, "end": end} for name, (start, end) in zip("AB", found)]
+        plain = modules.values([["week", "withoutDates", [text, {"map": []}]]])[0]["text"]
+        given = plan("import", "-", given=plain.encode())[1].decode()
+        own = modules.values([["week", "waitingProject", [given, {"rows": rows, "makespan": found[1][1]}, [0]]]])[0]
+        files = given_files(modules.room, {"given.sm": own["text"], "given.txt": " ".join(map(str, starts_by("num", own["text"].encode())))})
+        heads, _, row, *_ = [line.split() for line in plan("slack", *files)[1].decode().splitlines()]
+        same("the slack of A", row[heads.index("slack")], "0")
+        printed = plan("schedule", "num", "--format", "csv", "-", given=own["text"].encode())[1].decode()
+        same("the predecessor of B", printed.splitlines()[2].split(",")[-1], link)
+    # a list without ids; a schedule of another list
+    given = plan("import", "-", given=b"name,duration\nx,3\ny,2\n")[1].decode()
+    found = json.loads(plan("solve", "--format", "json", "-", given=b"name,duration,due\nx,3,5\ny,2,4\n")[1])
+    own = modules.values([["week", "waitingProject", [given, found, [0]]]])[0]
+    same("ids of numbers", [own["labels"][kind] for kind in ("ids", "names")], [{"2": "1", "3": "2"}, {"2": "x", "3": "y"}])
+    found["rows"].pop()
+    try:
+        modules.values([["week", "waitingProject", [given, found, [0]]]])
+        raise Wrong("the schedule of another list is drawn")
+    except Wrong as fault:
+        same("the schedule of another list", "the page can't draw it" in str(fault), True)
+    same("lists without dates", modules.values([["week", "withoutDates", [f"id,duration,due\nA,2,1\n{row}", {"map": given}]]
+                                                for row, given in (("capacity,,3\n", []), ("", [["due", 3]]))]), [None, None])
+
+
 def moved_earlier(model, starts):
     """The first activity that can start earlier, all others fixed, counted from 1; 0 for none."""
     for at, start in enumerate(starts):
@@ -326,23 +396,6 @@ def try_shops(modules, draw):
             same("its model", model, shop_model([list(row.values()) for row in rows]))
             found = slack_by_page(modules, [(model, [row["start"] for row in rows])])[0]
             same("its slack", found, brute_slack(model, [row["start"] for row in rows]))
-
-
-def try_use(modules, draw):
-    """The use of resources is the sum of the needs at each instant."""
-    cases = []
-    for _ in range(60):
-        durations, arcs, needs, capacities = drawn_project(draw)
-        cases.append((as_model(durations, arcs, needs, capacities), [draw.randrange(6) for _ in arcs]))
-    found = modules.values([["use", "useOf", list(case)] for case in cases])
-    for steps, (model, starts) in zip(found, cases):
-        ends = [s + x for s, x in zip(starts, model["durations"])]
-        for time in range(max(ends) + 1):
-            at = max(step["time"] for step in steps if step["time"] <= time)
-            used = next(step["used"] for step in steps if step["time"] == at)
-            wanted = [sum(need[r] for need, s, e in zip(model["needs"], starts, ends) if s <= time < e)
-                      for r in range(len(model["capacities"]))]
-            same(f"the use at {time} of {starts} in {model}", used, wanted)
 
 
 # ---- the best schedule
@@ -520,21 +573,36 @@ def try_messages(modules, draw):
 
 
 def try_layout(modules, draw):
-    """Axes, free days, colours, labels and pages."""
+    """Places, colours and labels."""
     call = lambda name, *words: ["layout", name, list(words)]
-    same("round units", modules.values([call("roundUnits", 46, unit) for unit in
-                                        (50, 46, 30, 10, 1, 0.04)]), [1, 1, 2, 5, 50, 2000])
-    same("heights", modules.values([call("heightOfRows", count) for count in (1, 40, 41, 80, 81, 502)]),
-         [22, 22, 16, 16, 12, 12])
-    pages = modules.values([call("pagesOf", list(range(count))) for count in (1, 40, 41, 120)])
-    same("lines of the pages", [[len(part) for part in pages_of] for pages_of in pages],
-         [[1], [40], [40, 1], [40, 40, 40]])
-    same("the pages together", sum(pages[3], []), list(range(120)))
     labels = modules.values([call("labelFor", ["a long label", "short", "s"], width)
                              for width in (200, 60, 20, 5)])
     same("labels", labels, ["a long label", "short", "s", ""])
+    try_places(modules, draw)
     try_colours(modules, draw)
-    try_axis(modules, draw)
+
+
+def try_places(modules, draw):
+    """The axis of a drawing, from 330 to 1330, is put between two edges; labels don't overlap."""
+    call = lambda name, *words: ["layout", name, list(words)]
+    cases = [({"left": draw.randrange(40, 250), "right": draw.randrange(260, 1600)},
+              sorted(draw.sample(range(330, 1331), 6))) for _ in range(40)]
+    found = modules.values([call("placed", x, edges) for edges, places in cases for x in places])
+    found = [found[at:at + 6] for at in range(0, len(found), 6)]
+    for own, (edges, places) in zip(found, cases):
+        span = edges["right"] - edges["left"]
+        wanted = [edges["left"] + (x - 330) * span / 1000 for x in places]
+        same("places that differ", [(a, b) for a, b in zip(own, wanted) if abs(a - b) > 0.0051], [])
+    paths = modules.values([call("placedPath", f"M{a} 19H{b}v285H{a}z", edges) for edges, (a, b, *_) in cases])
+    same("the paths", paths, [f"M{a:g} 19H{b:g}v285H{a:g}z" for a, b, *_ in found])
+    same("a line along the axis", modules.values([call("placedPath", "M330 28h1000", {"left": 50, "right": 90})]),
+         ["M50 28H90"])
+    labels = [[{"x": x, "text": "Mon 30 Mar"} for x in own] for own in found]
+    roomy = modules.values([call("roomyLabels", own, edges["right"]) for own, (edges, _) in zip(labels, cases)])
+    for own, is_roomy, (edges, _) in zip(found, roomy, cases):
+        shown = [x for x, is_shown in zip(own, is_roomy) if is_shown]
+        same("labels too close", [(x, y) for x, y in zip(shown, shown[1:]) if y - x < 66], [])
+        same("the first label", own[0] in shown, own[0] + 66 <= edges["right"])
 
 
 def try_colours(modules, draw):
@@ -553,75 +621,6 @@ def try_colours(modules, draw):
                 raise Wrong(f"of {jobs} jobs two neighbours have the same colour")
 
 
-def axis_of(days, marks):
-    """The axis of a list of days, and of some behind them, in the form of axis.js."""
-    dates = [days[0] + datetime.timedelta(k) for k in range((days[-1] - days[0]).days + 20)]
-    monday = next(k for k, date in enumerate(dates) if date.weekday() == 0)
-    worked = [str(date) for date in dates if marks[date.weekday()] == "1"]
-    return {"dates": list(map(str, dates)), "monday": monday,
-            "places": {"map": [[str(date), k] for k, date in enumerate(dates)]},
-            "worked": {"map": [[date, True] for date in worked]}}
-
-
-def dated_view(draw):
-    """A view of a chain of activities with the days of a calendar, its marks, and all its working days."""
-    marks = draw.choice([format(draw.randrange(1, 128), "07b"), "1111100", "1111110"])
-    start = datetime.date(1900, 1, 1) + datetime.timedelta(draw.randrange(109000))
-    durations = [draw.choice([1, 2, 5, 60]) for _ in range(draw.randrange(1, 12))]
-    days = worked_days(start, marks, sum(durations))
-    ends = [sum(durations[:at + 1]) for at in range(len(durations))]
-    rows = [{"start": end - d, "end": end, "first": str(days[end - d]), "last": str(days[end - 1])}
-            for d, end in zip(durations, ends)]
-    return {"rows": rows, "dates": rows, "axis": axis_of(days, marks), "total": ends[-1]}, marks, days
-
-
-def scales_of(modules, views, rooms):
-    """The scales of views between two edges; a Map comes back as a list, so the axis is put in again."""
-    scales = modules.values([["layout", "scaleOf", [view, *room]] for view, room in zip(views, rooms)])
-    return [scale | {"axis": view["axis"]} for scale, view in zip(scales, views)]
-
-
-def try_axis(modules, draw):
-    """The span of an axis, its free days and the places of dates are those of datetime."""
-    cases = [dated_view(draw) for _ in range(60)]
-    widths = [draw.choice([300, 900, 1500]) for _ in cases]
-    scales = scales_of(modules, [view for view, *_ in cases], [[50, width] for width in widths])
-    free = modules.values([["layout", "freeDays", [scale]] for scale in scales])
-    for scale, runs, (_, marks, days), width in zip(scales, free, cases, widths):
-        span = (days[-1] - days[0]).days + 1
-        same("an axis", (scale["span"], scale["origin"]), (span, 0))
-        wanted = {k for k in range(span)
-                  if marks[(days[0] + datetime.timedelta(k)).weekday()] == "0"}
-        found = {run["place"] + k for run in runs for k in range(run["days"])}
-        same("free days", found, wanted if (width - 50) / span >= 1 else set())
-    scale, first = scales[0], cases[0][2][0]
-    places = [-1, 0, scale["span"], scale["span"] + 1]
-    found = modules.values([["layout", "placeOfDate", [scale, str(first + datetime.timedelta(k))]]
-                            for k in places])
-    same("places of dates", found, [None, 0, scale["span"], None])
-    try_marks(modules)
-
-
-def try_marks(modules):
-    """Mondays get lines, and their dates if there is room; of many weeks the firsts of months do;
-    without a calendar round numbers."""
-    def view(count):
-        days = worked_days(datetime.date(2024, 3, 1), "1111100", count)
-        rows = [{"start": 0, "end": count, "first": str(days[0]), "last": str(days[-1])}]
-        return {"rows": rows, "dates": rows, "axis": axis_of(days, "1111100"), "total": count}
-    plain = {"rows": [], "dates": None, "axis": None, "total": 45}
-    scales = scales_of(modules, [view(19), view(261), plain], [[0, 540], [0, 365], [0, 450]])
-    weeks, months, units = modules.values([["layout", "marksOn", [scale]] for scale in scales])
-    # Friday, and the Mondays 4, 11, 18 and 25 March; the Friday's date covers the first of them
-    same("weeks", [[mark["place"], mark["words"]] for mark in weeks],
-         [[0, "2024-03-01"], [3, ""], [10, "2024-03-11"], [17, "2024-03-18"], [24, "2024-03-25"]])
-    days = [datetime.date(2024 + (2 + k) // 12, (2 + k) % 12 + 1, 1) for k in range(13)]
-    same("months", [mark["place"] for mark in months if mark["place"] <= 364],
-         [(day - datetime.date(2024, 3, 1)).days for day in days if (day - days[0]).days <= 364])
-    same("units", [[mark["place"], mark["words"]] for mark in units],
-         [[at, str(at)] for at in range(0, 46, 5)])
-
-
 def try_sorting(modules, draw):
     """Rows are sorted by numbers as numbers, names by the alphabet, empty cells last."""
     pairs = [[2, 10], [10, 2], ["b", "a"], ["", "a"], ["a", ""], ["x", "x"]]
@@ -629,8 +628,58 @@ def try_sorting(modules, draw):
     same("orders", [(order > 0) - (order < 0) for order in found], [-1, 1, 1, 1, -1, 0])
 
 
-TRIALS = [try_slack, try_kept, try_verdicts, try_shops, try_use, try_search, try_hand_in,
-          try_projects, try_messages, try_layout, try_sorting]
+def try_shown(modules, draw):
+    """The rows that are handed in are those that the program prints, with waits for lags or without them. An
+    overuse is in the legend."""
+    ids = {"2": "A", "3": "B", "4": "wait+0"}
+    found = modules.values([["view", "isPrinted", [{"described": described, "labels": {"ids": ids}}, number]]
+                            for described in ({"map": [[2, {}], [3, {}]]}, {"map": [[2, {}], [3, {}], [4, {}]]}, None)
+                            for number in range(1, 6)])
+    same("what is printed", [found[at:at + 5] for at in (0, 5, 10)], [
+        [False, True, True, False, False], [False, True, True, True, False], [False, True, True, True, False]])
+    drawn = modules.values([["drawing", "shownOf", [{"n": 1, "kind": "project"}, [
+        {"id": "A"}, {"id": "wait+0"}, {"id": ""}, {"id": "wait+x"}]]]])[0]
+    same("the rows that are drawn", [row["id"] for row in drawn], ["A", "", "wait+x"])
+    view = lambda over: {"bars": [], "slack": None, "plan": {"kind": "project"}, "drawings": over}
+    legends = modules.values([["view", "legendOf", [view(over)]] for over in (
+        {"over": {"map": [[0, "at time 4"]]}}, {"over": {"map": []}}, {})])
+    same("the legends", legends, [[["over", "more of a resource than there is"]], [], []])
+
+
+# Prints which addresses the policy of program.js passes, by their names.
+POLICY = """
+const [isWhole, protocol] = JSON.parse(process.argv[1]);
+globalThis.location = { protocol };
+globalThis.document = { getElementById: (id) => (isWhole && id === "worker-text" ? { textContent: "0" } : null) };
+let rules = null;
+globalThis.trustedTypes = { createPolicy: (name, given) => { rules = given; return given; } };
+await import("./program.js");
+const passed = ["worker", "cache", "worker.js", "plan-cache.js", "constructor", ""].flatMap((name) => {
+  try {
+    return [[name, String(rules.createScriptURL(name)).split(":")[0]]];
+  } catch {
+    return [];
+  }
+});
+console.log(JSON.stringify(passed));
+"""
+
+
+def try_policy(modules, draw):
+    """The policy for addresses of scripts passes that of the worker, and what keeps plan.html if it is served."""
+    for is_whole, protocol, wanted in (
+        (False, "https:", [["worker", "worker.js"]]),
+        (True, "file:", [["worker", "blob"]]),
+        (True, "https:", [["worker", "blob"], ["cache", "plan-cache.js"]]),
+    ):
+        words = [NODE, "--input-type=module", "-e", POLICY, json.dumps([is_whole, protocol])]
+        done = subprocess.run(words, cwd=modules.room, capture_output=True, timeout=120)
+        same("node", (done.returncode, done.stderr), (0, b""))
+        same(f"the addresses for {protocol}, plan.html {is_whole}", json.loads(done.stdout), wanted)
+
+
+TRIALS = [try_slack, try_kept, try_week, try_verdicts, try_shops, try_search, try_hand_in,
+          try_projects, try_messages, try_layout, try_sorting, try_shown, try_policy]
 
 
 def try_units(room, web, seed=1):

@@ -69,14 +69,25 @@ def texts(browser, css):
                        "(node) => node.textContent)", css)
 
 
+def seen_bands(browser):
+    """The days of the chart without work: the places and widths of their bands as parts of the axis."""
+    return browser.run("""
+        const { x1, x2 } = document.querySelector("#drawing .thread");
+        const left = x1.baseVal.value, width = x2.baseVal.value - left;
+        const path = document.querySelector("#drawing .off")?.getAttribute("d") ?? "";
+        return [...path.matchAll(/M([0-9.]+) [0-9]+H([0-9.]+)/g)].map(([, from, to]) =>
+            [(from - left) / width, (to - from) / width]);
+    """)
+
+
 def seen_plans(browser):
     """The numbers of the plans that the page lists."""
     return [int(row[0].split()[1]) for row in seen_table(browser, "#plans")[1:]]
 
 
 def seen_bars(browser):
-    """The line, the start and the end of each bar, and its left and right edge as parts of the
-    chart's threads."""
+    """The line, the start and the end of each bar, its left and right edge on the axis, and the width
+    of the axis."""
     return browser.run("""
         const thread = document.querySelector(".thread").getBoundingClientRect();
         return [...document.querySelectorAll("#drawing .bar")].map((bar) => {
@@ -89,7 +100,7 @@ def seen_bars(browser):
 
 
 def seen_axis(browser):
-    """The labels of the axis, each with its place as a part of the chart's threads."""
+    """The labels of the axis, each with its place as a part of the axis."""
     return browser.run("""
         const thread = document.querySelector(".thread");
         const [left, right] = ["x1", "x2"].map((name) => Number(thread.getAttribute(name)));
@@ -97,6 +108,29 @@ def seen_axis(browser):
             words.textContent, (words.getAttribute("x") - left) / (right - left),
         ]);
     """)
+
+
+def seen_uses(browser, last):
+    """For each resource the sentence above its use, the instants at which the use above its capacity has
+    the colour of errors, and whether its image has any of it; that there is none of it below."""
+    return browser.run("""
+        const last = arguments[0];
+        document.getElementById("use").scrollIntoView({ block: "center" });
+        const axis = document.querySelector("#drawing .thread").getBoundingClientRect();
+        const red = getComputedStyle(document.querySelector("#delete .danger")).color;
+        const isRed = (x, y) => {
+            const node = document.elementFromPoint(x, y);
+            return node?.matches(".over") && getComputedStyle(node).fill === red;
+        };
+        return [...document.querySelectorAll("#use > svg")].map((image) => {
+            const above = image.previousElementSibling?.matches(".fault") && image.previousElementSibling;
+            const { top } = image.querySelector(".most").getBoundingClientRect();
+            const times = [...Array(last).keys()], x = (time) => axis.left + axis.width * (time + 0.5) / last;
+            if (times.some((time) => isRed(x(time), top + 3))) return ["red below the capacity"];
+            return [above ? above.textContent : "", times.filter((time) => isRed(x(time), top - 3)),
+                    Boolean(image.querySelector(".over"))];
+        });
+    """, last)
 
 
 def wait_text(browser, css, text):
@@ -133,6 +167,21 @@ def same_bars(what, browser, rows, last, places=None):
         edges = [left, right] if start != end else [(left + right) / 2] * 2
         if any(abs(a - b) > 2 for a, b in zip(edges, wanted)):
             raise Wrong(f"a bar of line {line} of {what} is at {edges} and not {wanted}")
+
+
+def same_tails(browser, rows, last, places=None):
+    """Behind the bars of rows of a line, an end and a slack there is a thin line up to where a bar could
+    end, if it has slack."""
+    found = browser.run("""
+        const { x1, x2 } = document.querySelector("#drawing .thread");
+        const left = x1.baseVal.value, width = x2.baseVal.value - left;
+        return [...document.querySelectorAll("#drawing .tail")].map((tail) => [
+            tail.closest(".bar").dataset.line, (tail.getAttribute("d").split("H")[1] - left) / width]);
+    """)
+    places = places or (lambda start, end: (start, end, last))
+    wanted = [[line, places(0, end + slack)[1] / places(0, last)[2]] for line, end, slack in rows if slack]
+    same("the bars with a thin line", [line for line, _ in found], [line for line, _ in wanted])
+    same("thin lines of another length", [(a, b) for a, b in zip(found, wanted) if abs(a[1] - b[1]) > 0.0015], [])
 
 
 def same_dates(browser, lines):
@@ -245,4 +294,17 @@ def open_plan(browser, n):
             (button) => button.textContent === arguments[0]).click();
     """, f"Plan {n}")
     wait_plan(browser, n)
+    wait_idle(browser)
+
+
+def plan_by_dates(browser, fields, words):
+    """Fills the fields that a list with dates has, makes its plan, and waits for words on it."""
+    for name, value in fields.items():
+        browser.run("""
+            const field = document.querySelector(`#capacities [name=${arguments[0]}]`);
+            field.value = arguments[1];
+            field.dispatchEvent(new Event("change"));
+        """, name, value)
+    submit(browser, "import")
+    wait_text(browser, "#import-answer", words)
     wait_idle(browser)

@@ -29,7 +29,7 @@ CONTRAST = """
     const meet = (a, b) => a.left < b.right && b.left < a.right && a.top < b.bottom && b.top < a.bottom;
     const bandsAt = (node) => {
         const box = node.getBoundingClientRect();
-        return [...node.closest("svg").querySelectorAll(".free")].filter((band) =>
+        return [...node.closest("svg").querySelectorAll(".off")].filter((band) =>
             meet(box, band.getBoundingClientRect())).map((band) => parts(getComputedStyle(band).fill));
     };
     const found = [];
@@ -51,7 +51,7 @@ CONTRAST = """
             if (value < 4.5) tell(node, value, node.textContent);
         }
     }
-    for (const node of document.querySelectorAll(".bar rect, .bar path, .used, .over")) {
+    for (const node of document.querySelectorAll(".bar rect, .bar path, .use, .over")) {
         if (!node.checkVisibility()) continue;
         const style = getComputedStyle(node), page = behind(node.closest("svg"));
         const mixed = (colour) => colour.map((part, at) =>
@@ -61,6 +61,16 @@ CONTRAST = """
         if (value < 3) tell(node, value, "a picture");
     }
     return [...new Set(found)];
+"""
+
+# buttons and fields that are too low for a finger; a box or a button of a choice has its label
+LOW = """
+    return [...document.querySelectorAll("button, input, select, textarea, summary")].flatMap((node) => {
+        const place = /^(checkbox|radio)$/.test(node.type) ? node.parentNode : node;
+        const { height } = place.getBoundingClientRect();
+        return !node.checkVisibility() || height >= 32 ? [] : [`${node.tagName} ${node.name ?? ""} ${
+            node.textContent.slice(0, 20)} ${height}`];
+    });
 """
 
 # what a page has to have beside names
@@ -109,12 +119,21 @@ def tree(browser):
     return found
 
 
+def same_fingers(what, browser):
+    """Buttons and fields have room for a finger."""
+    same(f"what is too low for a finger in {what}", browser.run(LOW), [])
+
+
 def same_senses(what, browser):
     """Contrast in the light and in the dark; elements have names."""
     for scheme in ("dark", "light"):
         browser.darken(scheme)
         same(f"what is pale in {what} in the {scheme}", browser.run(CONTRAST), [])
-    same(f"what is missing in {what}", browser.run(FORMS), [])
+    for motion in ("reduce", "no-preference"):
+        features = [{"name": "prefers-reduced-motion", "value": motion}]
+        browser.devtools("Emulation.setEmulatedMedia", media="", features=features)
+        asked = browser.run(f"return matchMedia('(prefers-reduced-motion: {motion})').matches")
+        same(f"what is missing in {what}", (asked, browser.run(FORMS)), (True, []))
     found = tree(browser)
     same(f"roles without a name in {what}", [role for role, name in found if role in NAMED and not name], [])
     # behind an open panel nothing is read

@@ -13,14 +13,14 @@ from exchanges import OFFICE_KEY, TOP, Exchange, file_of
 from front import sent
 from page_units import as_model, brute_slack, read_sm, shop_model, worked_days
 from pages import (
-    RULE_NAMES, RULES, drop, example, focus_window, makespan_of, open_plan, open_tab, pick,
+    RULE_NAMES, RULES, drop, example, focus_window, id_rows, makespan_of, open_plan, open_tab, pick,
     printed, rows_of,
-    same_bars, same_project, same_table, seen, seen_axis, seen_bars, seen_plans, seen_table,
-    set_date, submit, texts, wait_idle, wait_plan, wait_text,
+    same_bars, same_dates, same_project, same_table, same_tails, seen, seen_axis, seen_bands, seen_bars,
+    seen_plans, seen_table, seen_uses, set_date, submit, texts, wait_idle, wait_plan, wait_text,
 )
 from pictures import smaller
 from programs import Wrong, plan, same, talk
-from senses import same_order, same_senses
+from senses import same_fingers, same_order, same_senses
 
 DESK, KEY, FIRST_KEY = "trial", "trial-key-2", "trial-key-1"
 SHOP_RULES = ["mwkr", "spt", "fcfs"]
@@ -106,10 +106,12 @@ def visit_help(browser):
     """The help panel explains each rule and each column of the date table."""
     browser.click("#help-button")
     terms = texts(browser, "#terms dt")
-    for term in (*RULES, *SHOP_RULES, "ES", "LF", "TF", "FF", "Slack", "Makespan"):
+    rules = [f"{RULE_NAMES[rule]} ({rule})" for rule in {*RULES, *SHOP_RULES}]
+    for term in (*rules, "ES", "LF", "TF", "FF", "Slack", "Makespan"):
         same(f"the term {term}", terms.count(term), 1)
     words = dict(zip(terms, texts(browser, "#terms dd")))
-    same("lft", "least latest finish" in words["lft"], True)
+    same("lft", words["latest finish first (lft)"], "the activity that must end first")
+    same("the top of the panel", browser.run("return document.getElementById('help').scrollTop"), 0)
     browser.press(ESCAPE)
     browser.wait("no panel", "return !document.getElementById('help').open")
 
@@ -255,6 +257,43 @@ def visit_bars(browser):
     same("where slack is from", "slack by the plan's file and the changes set here" in legend, True)
 
 
+# what the page of a desk gets in the place of the program, and how it says so
+NO_PROGRAM = {
+    "new Response('', { status: 404 })": "the server answers 404 for plan.wasm",
+    "Promise.reject(new TypeError('cut off'))": "plan.wasm can't be fetched",
+    "new Response('other')": "plan.wasm is another module than this page expects",
+}
+
+
+def visit_unloaded(browser):
+    """Without the program one sentence in the place of the chart says why there is none and what to do, and
+    the tables stay. With the program the chart is there again."""
+    browser.open(browser.run("return location.href"))
+    browser.wait("the first page", "return document.querySelector('#door fieldset:enabled')")
+    sign_in(browser)
+    wait_text(browser, "#plans", "house")
+    house = os.path.join(TOP, HOUSE)
+    lines = printed("schedule", "lft", house)
+    rows = rows_of(lines)
+    browser.run("window.real = window.fetch")
+    for answer, why in NO_PROGRAM.items():
+        browser.run("window.fetch = async (path, ...more) =>"
+                    f" path === 'plan.wasm' ? {answer} : window.real(path, ...more)")
+        open_plan(browser, 1)
+        same("what is said in the place of a chart", texts(browser, "#chart .refusal > *"), [
+            f"Reload the page, or tell the office: the program can't be loaded, because {why}; until then"
+            " there is no chart."])
+        same("whether it is said twice", browser.run("return note.checkVisibility()"), False)
+        same("what else there is of the chart", texts(browser, "#drawing svg, #use > *, #legend li"), [])
+        same("the starts", column(browser, "start"), [row[2] for row in rows])
+        same_dates(browser, printed("cpm", house))
+        same("the makespan", seen(browser, "#drawn label").strip(), f"{RULE_NAMES['lft']} {makespan_of(lines)}")
+    same_senses("a plan without a chart", browser)
+    browser.run("window.fetch = window.real")
+    open_plan(browser, 1)
+    same_bars("the chart with the program", browser, [[row[0], row[2], row[3]] for row in rows], makespan_of(lines))
+
+
 def bar_classes(browser):
     """The first class of each bar behind `bar`, in the order of the chart."""
     return browser.run("return [...document.querySelectorAll('#drawing .bar')].map("
@@ -291,6 +330,9 @@ def visit_slack(browser):
         slack = slack_in(text, lines)
         same_table(browser, lines, text.encode(), slack=slack)
         same(f"the colours by {rule}", bar_classes(browser), ["loose" if s else "tight" for s in slack])
+        rows = rows_of(lines)
+        same_bars(f"two sites by {rule}", browser, [[row[0], row[2], row[3]] for row in rows], makespan_of(lines))
+        same_tails(browser, [[row[0], int(row[3]), s] for row, s in zip(rows, slack)], int(makespan_of(lines)))
         stars = [row[-1] == "*" for row in rows_of(printed("cpm", "-", given=text.encode()))]
         differ += sum(star != (s == 0) for star, s in zip(stars, slack))
     same("a star is another thing than no slack", differ > 3, True)
@@ -298,16 +340,21 @@ def visit_slack(browser):
 
 
 def visit_use(browser):
-    """The steps below the chart are the use of the resource."""
+    """The area below the chart is the use of the resource, and a line is its capacity."""
     lines = printed("schedule", "lft", "-", given=two_sites().encode())
     model = model_of(two_sites())
     starts = [int(row[2]) for row in rows_of(lines)]
-    found = browser.run("return [...document.querySelectorAll('#use rect')].map((bar) =>"
-                        " [Number(bar.dataset.time), Number(bar.dataset.used), bar.classList[0]])")
-    times = sorted({time for s, d in zip(starts, model["durations"]) for time in (s, s + d)})
+    found = browser.run("""
+        const { x1, x2 } = document.querySelector("#drawing .thread");
+        const left = x1.baseVal.value, width = x2.baseVal.value - left;
+        const path = document.querySelector("#use .use").getAttribute("d");
+        return [...path.matchAll(/H([0-9.]+)V([0-9]+)/g)].map(([, x, y]) => [(x - left) / width, (108 - y) / 80]);
+    """)
+    last = int(makespan_of(lines))
     use = lambda time: sum(need[0] for need, s, d in zip(model["needs"], starts, model["durations"])
                            if s <= time < s + d)
-    same("the use", found, [[time, use(time), "used"] for time in times if use(time)])
+    wanted = [[time, use(time)] for time in range(last) if use(time) != (use(time - 1) if time else 0)]
+    same("the use", [[round(part * last), round(amount * 2)] for part, amount in found], [*wanted, [last, 0]])
     same("the capacity", "capacity 2" in browser.run(
         "return document.querySelector('#use svg').getAttribute('aria-label')"), True)
 
@@ -357,7 +404,7 @@ def visit_calendar(browser):
     set_date(browser, "#calendar [name=start]", start)
     submit(browser, "calendar")
     wait_text(browser, "#calendar .answer", "From 2024-03-01 on; working days Mo, Tu, We, Th, Fr.")
-    same("set here", f"Set here on {datetime.date.today()}; the office doesn't"
+    same("set here", f"Set here on {datetime.date.today()}. The page can't see what is set elsewhere."
          in seen(browser, "#calendar-set"), True)
     for rule in RULES:
         browser.click(f"#drawn [value={rule}]")
@@ -372,17 +419,13 @@ def visit_calendar(browser):
     browser.click("#drawn [value=lft]")
     span = places_in(start, marks, 45)(0, 45)[2]
     axis = seen_axis(browser)
-    same("the first date of the axis", axis[0], ["2024-03-01", 0])
+    same("the first date of the axis", axis[0], ["Fri 1 Mar", 0])
     for words, part in axis[1:]:
-        day = datetime.date.fromisoformat(words)
+        day = datetime.datetime.strptime(f"{words} 2024", "%a %d %b %Y").date()
         same(f"the day {words}", (day.weekday(), round(part * span)),
              (0, (day - datetime.date(2024, 3, 1)).days))
     same("weeks with a date", len(axis) > 4, True)
-    bands = browser.run("""
-        const thread = document.querySelector(".thread"), width = thread.x2.baseVal.value - thread.x1.baseVal.value;
-        return [...document.querySelectorAll("#drawing .free")].map((band) =>
-            [(band.x.baseVal.value - thread.x1.baseVal.value) / width, band.width.baseVal.value / width]);
-    """)
+    bands = seen_bands(browser)
     weekends = [at for at in range(span) if (datetime.date(2024, 3, 1)
                                              + datetime.timedelta(at)).weekday() == 5]
     same("the shaded days", [[round(a * span), round(b * span)] for a, b in bands],
@@ -401,7 +444,7 @@ def visit_today(browser):
         const width = thread.x2.baseVal.value - thread.x1.baseVal.value;
         return (line.x1.baseVal.value - thread.x1.baseVal.value) / width;
     """)
-    same("the place of today", round(part * 45, 3), 14)
+    same("the place of today", round(part * 45, 1), 14)
     for box in range(1, 8):
         browser.run("const box = document.querySelectorAll('#marks input')[arguments[0]];"
                     " if (box.checked) box.click();", box - 1)
@@ -457,7 +500,17 @@ def visit_lag(browser):
     for link in model["arcs"]:
         link["lag"] = 5 if (link["from"], link["to"]) == (1, 2) else 0
     starts = [int(cell) for cell in column(browser, "start")]
-    same("the slack with a lag", column(browser, "slack"), [str(s) for s in brute_slack(model, starts)])
+    slack = brute_slack(model, starts)
+    same("the slack with a lag", column(browser, "slack"), [str(s) for s in slack])
+    late = [start + 2 * (at > 1) for at, start in enumerate(starts)]
+    browser.run("check.elements.starts.value = arguments[0]", " ".join(map(str, late)))
+    submit(browser, "check")
+    slack = brute_slack(model, late)
+    same("the slack before a lag", slack[1], 2)
+    ends = [int(cell) for cell in column(browser, "end")]
+    same_tails(browser, [[str(at + 1), end, s] for at, (end, s) in enumerate(zip(ends, slack))], 52,
+               places_in("2024-03-01", "1111100", 52))
+    open_tab(browser, "changes")
     browser.type("#lag [name=lag]", "0")
     submit(browser, "lag")
     wait_text(browser, "#lag-set", "2 to 3: 0 (set here on")
@@ -492,6 +545,7 @@ def visit_elsewhere(browser, office):
     wait_text(browser, "#note", "Bind or set the lag here too to see slack: the office's plan differs from the file")
     same("a column of slack", "slack" in seen_table(browser, "#table")[0], False)
     same("the colours", set(bar_classes(browser)), {"plain"})
+    same("thin lines", texts(browser, "#drawing .tail"), [])
     sent(office.server.port, "POST", path + "lag", KEY, b'{"from":2,"to":3,"lag":0}')
     sent(office.server.port, "POST", path + "bind", KEY, b'{"place":1,"code":"crew-a"}')
     open_plan(browser, 2)
@@ -594,6 +648,24 @@ def values_set(browser):
                        " lag.elements.lag, calendar.elements.start].map((field) => field.value)")
 
 
+def overuse_words(name, time):
+    return f"Start an activity that needs {name} at time {time} later. More of it is needed then than there is."
+
+
+def same_uses(browser, model, starts, names):
+    """The use of each resource has the colour of errors where more is used than there is, and nowhere else.
+    A sentence above it names the resource and the first of these instants."""
+    work = list(zip(starts, model["durations"], model["needs"]))
+    last = max(start + d for start, d, _ in work)
+    used = lambda time, place: sum(need[place] for start, d, need in work if start <= time < start + d)
+    over = [[time for time in range(last) if used(time, place) > capacity]
+            for place, capacity in enumerate(model["capacities"])]
+    wanted = [[overuse_words(name, times[0]) if times else "", times, bool(times)] for name, times in zip(names, over)]
+    same(f"the overuse by {starts}", seen_uses(browser, last), wanted)
+    same(f"the overuse by {starts} in the legend", "more of a resource than there is" in " ".join(
+        texts(browser, "#legend li")), any(over))
+
+
 def visit_check(browser):
     """Start times get the verdicts of `plan check`, with the makespan, and their place is shown."""
     drop(browser, "six.sm", file_of("examples/six.sm").decode())
@@ -613,6 +685,9 @@ def visit_check(browser):
         named = f"own {max(ends)}" + (" (not feasible)" if found == "refusal" else "")
         same("its name", seen(browser, "#drawn label:last-child").strip(), named)
         same("its caption", named in seen(browser, "#caption"), True)
+        rows = [[str(at + 1), start, str(end)] for at, (start, end) in enumerate(zip(starts.split(), ends))]
+        same_bars(f"the start times {starts}", browser, rows, max(ends))
+        same_uses(browser, model_of(file_of("examples/six.sm").decode()), list(map(int, starts.split())), ["resource 1"])
         if line.startswith("activity"):
             wait_text(browser, "#told", f"Activity {line.split()[1]}: ")
     browser.choose("#check-file", example("late.txt"))
@@ -804,10 +879,36 @@ def check_early(browser):
           "activity 3 starts before 2 ends"])
     starts_are(browser, "0 0 4 4 13 23", "at time 4 more of resource 1 is needed than there is")
     wait_text(browser, "#check-answer strong", "Start an activity that needs crew at time 4 later.")
+    check_overuse(browser)
+    same_senses("start times that aren't feasible", browser)
     starts_are(browser, "0 0 4 10 14 24", "activity 5 can start earlier")
     wait_text(browser, "#check-answer strong", "Start D Walls, north earlier, if you like.")
     starts_are(browser, "0 0 4 10 13 24", "activity 6 can start earlier")
     wait_text(browser, "#check-answer strong", "Start the end earlier, if you like.")
+
+
+def check_overuse(browser):
+    """More use than there is has the colour of errors, with its resource and its instant, also on paper. What
+    else is wrong is said too."""
+    later = "Start B Foundation later. It starts before A Excavation ends."
+    model = model_of("\n".join(printed("import", "tests/tables/list.csv")))
+    for starts, line, told in (
+        ("0 0 4 4 13 23", "at time 4 more of resource 1 is needed than there is", [overuse_words("crew", 4)]),
+        # of the crew 8, 10 and then 11; two diggers
+        ("0 0 0 2 4 30", "activity 3 starts before 2 ends",
+         [later, overuse_words("crew", 0), overuse_words("digger", 2)]),
+        ("0 0 3 10 13 23", "activity 3 starts before 2 ends", [later, overuse_words("crew", 3)]),
+    ):
+        starts_are(browser, starts, line)
+        same(f"what is wrong with {starts}", texts(browser, "#use .fault"), told)
+        same_uses(browser, model, list(map(int, starts.split())), ["crew", "digger"])
+        same("the names of the uses", texts(browser, "#use .name title"), ["crew", "digger"])
+        browser.run("dispatchEvent(new Event('beforeprint'))")
+        same(f"what is wrong with {starts} on paper", texts(browser, "#paper .fault"), told)
+        red = browser.run("return [...document.querySelectorAll('#paper [role=img]')].map((image) => ["
+                          "image.previousElementSibling.matches('.fault'), Boolean(image.querySelector('.over'))])")
+        same(f"the uses on paper by {starts}", red, [["needs crew" in " ".join(told)] * 2, ["digger" in " ".join(told)] * 2])
+        browser.run("dispatchEvent(new Event('afterprint'))")
 
 
 def visit_need(browser, office):
@@ -868,6 +969,12 @@ def visit_names(browser):
     wait_text(browser, "#note", "Add the file of this plan below to see slack: this page hasn't read it.")
     same("the colours", set(bar_classes(browser)), {"plain"})
     same("the use without a file", texts(browser, "#use svg"), [])
+    # the calendar of this plan isn't known here any more
+    open_plan(browser, 1)
+    rows = [[cell.strip("*") for cell in row] for row in zip(*(column(browser, head)
+                                                               for head in ("number", "start", "end")))]
+    last = max(int(row[2]) for row in rows)
+    same_bars("a calendar that was set elsewhere", browser, rows, last, places_in("2024-03-01", "1111100", last))
     open_plan(browser, 4)
     submit(browser, "best")
     wait_text(browser, "#best-answer .refusal", "E11 S5 too large")
@@ -929,6 +1036,21 @@ def visit_other(browser, office):
 # ---- job shops
 
 
+def same_printing(browser):
+    """The tables, and the bars on the lines of jobs and of machines, are those of the shop "printing"."""
+    for rule in SHOP_RULES:
+        browser.click(f"#drawn [value={rule}]")
+        lines = printed("shop", rule, example("shops.txt"), "printing")
+        rows = rows_of(lines)
+        slack = brute_slack(shop_model(rows), [int(row[4]) for row in rows])
+        same("the table", seen_table(browser, "#table")[1:],
+             [[row[0], row[1], row[2], row[4], row[5], str(s)] for row, s in zip(rows, slack)])
+        for by, place, names in (("job", 0, ["job 1", "job 2"]), ("machine", 2, ["machine 0", "machine 1"])):
+            browser.click(f"#lines option[value={by}]")
+            same_bars(f"{by} by {rule}", browser, [[row[place], row[4], row[5]] for row in rows], makespan_of(lines))
+            same(f"the names of each {by}", texts(browser, "#drawing .name title"), names)
+
+
 def visit_shop(browser):
     """A job shop is imported by the name of its instance; a line is a machine, or a job."""
     browser.choose("#file", example("shops.txt"))
@@ -946,17 +1068,7 @@ def visit_shop(browser):
     submit(browser, "import")
     wait_plan(browser, 7)
     wait_text(browser, "#plans", "job shop")
-    for rule in SHOP_RULES:
-        browser.click(f"#drawn [value={rule}]")
-        lines = printed("shop", rule, example("shops.txt"), "printing")
-        rows = rows_of(lines)
-        same_bars(rule, browser, [[row[2], row[4], row[5]] for row in rows], makespan_of(lines))
-        slack = brute_slack(shop_model(rows), [int(row[4]) for row in rows])
-        same("the table", seen_table(browser, "#table")[1:],
-             [[row[0], row[1], row[2], row[4], row[5], str(s)] for row, s in zip(rows, slack)])
-    browser.click("#lines option[value=job]")
-    same_bars("jobs", browser, [[row[0], row[4], row[5]] for row in rows], makespan_of(lines))
-    browser.click("#lines option[value=mach]")
+    same_printing(browser)
     submit(browser, "best")
     wait_text(browser, "#best-answer", "optimal 6:")
     open_tab(browser, "changes")
@@ -985,7 +1097,7 @@ def visit_colours(browser):
     found = column(browser, "slack")
     same("the slack of the steps", [found[at] for at in places], [str(number) for number in slack])
     same("some slack", any(slack), True)
-    for lines, count, other in (("mach", 10, 15), ("job", 15, 10)):
+    for lines, count, other in (("machine", 10, 15), ("job", 15, 10)):
         browser.click(f"#lines option[value={lines}]")
         bars = browser.run("""
             return [...document.querySelectorAll("#drawing .bar")].map((bar) => [Number(bar.dataset.line),
@@ -995,16 +1107,24 @@ def visit_colours(browser):
         same(f"the lines of {lines}", (order, len(set(order))), (sorted(order), count))
         starts = [bar[:2] for bar in bars]
         same("the bars of each line", starts, sorted(starts))
+        same("the bars by keys", browser.run("""
+            const chart = document.querySelector("#drawing [role=application]");
+            return [...document.querySelectorAll("#drawing .bar")].map(() => {
+                chart.dispatchEvent(new KeyboardEvent("keydown", { key: "ArrowRight" }));
+                const { line, start } = document.querySelector("#drawing .told").dataset;
+                return [Number(line), Number(start)];
+            });
+        """), starts)
         same("the colours", len({bar[2] for bar in bars}), other)
-        key = 1 if lines == "mach" else 2
+        key = 1 if lines == "machine" else 2
         words = [bar[3].replace(",", "").replace(":", "").split() for bar in bars]
         by = {}
         for bar, word in zip(bars, words):
             name = word[1] if key == 1 else word[word.index("machine") + 1]
             same(f"the colour of {lines} {name}", by.setdefault(name, bar[2]), bar[2])
         same("orders in tooltips", all(" order 47" in bar[3] for bar in bars), True)
-    browser.click("#lines option[value=mach]")
-    same("the press", "M0 press" in texts(browser, "#drawing .name")[0], True)
+    browser.click("#lines option[value=machine]")
+    same("the press", "0 press" in texts(browser, "#drawing .name")[0], True)
 
 
 def visit_links(browser):
@@ -1242,7 +1362,9 @@ def visit_sizes(browser):
             listed, top = browser.run("return [document.getElementById('plans').checkVisibility(),"
                                       " document.getElementById('chart').getBoundingClientRect().top]")
             same(f"the list beside the plan, at {width}", listed, width == 1600)
-            same(f"the chart is on the first screen, at {width}", top < height, True)
+            same(f"the chart begins above the fold, at {width}", top < height, True)
+            if width < 640:
+                same_fingers(f"plan {n} at {width}", browser)
     paper = "return getComputedStyle(document.body).backgroundColor.match(/[0-9]+/g).map(Number)"
     for scheme, is_dark in (("dark", True), ("light", False)):
         browser.darken(scheme)
@@ -1386,7 +1508,10 @@ def visit_orders(browser, office):
     # worked out by hand: a step too early, the saw twice, a feasible schedule, and the press later
     starts_are(browser, "0 0 0 0 0 0 0 0 0", "step 2 of job 1 starts before step 1 ends")
     starts_are(browser, "0 3 5 1 7 8 12 16 19", "at time 1 more than one step is on machine 0")
+    same("what is wrong", texts(browser, "#use .fault"),
+         ["Start a step on saw at time 1 later. More than one is on it then."])
     starts_are(browser, "0 3 5 3 7 8 12 16 19", "active")
+    same("what is wrong with an active one", texts(browser, "#use .fault"), [])
     starts_are(browser, "0 3 5 3 7 8 13 17 20", "step 1 of job 3 can start earlier")
     wait_text(browser, "#told", "Job 3 order 4713, step 1, machine 1 press: 13 to 17")
     wait_text(browser, "#check-answer", "makespan 20.")
@@ -1502,6 +1627,51 @@ def visit_keep(browser, office):
         same(f"the office's schedule {rule}", [row[2] for row in rows], starts)
 
 
+def visit_lags(browser, office):
+    """The rows and the bars of a list with lags are those that `plan` prints, also for start times that aren't
+    feasible."""
+    n = max(listed(office.server)) + 1
+    text = "id,name,duration,predecessors,crew\nA,Dig,2,,1\nB,Pour,3,A+2,1\nC,Paint,1,A B+1,1\ncapacity,,,,1\n"
+    given = "\n".join([*printed("import", "-", given=text.encode()), ""]).encode()
+    drop(browser, "lags.csv", text)
+    wait_text(browser, "#preview", "lags.csv becomes a project")
+    submit(browser, "import")
+    wait_plan(browser, n)
+    # waits aren't shown, also if this release of the program prints them
+    rows = [[row[0], row[2]] for row in id_rows(printed("schedule", "lft", "--names", "-", given=given))
+            if not row[0].startswith("wait+")]
+    bars = "return [...document.querySelectorAll('#drawing .bar')].map(({ dataset }) => dataset.start)"
+    ids = [cell.strip("*") for cell in column(browser, "id")]
+    same("the rows", list(map(list, zip(ids, column(browser, "start")))), rows)
+    same("the bars", browser.run(bars), [row[1] for row in rows])
+    same("the dates", [row[0] for row in seen_table(browser, "#dates")[1:]], ids)
+    drop(browser, *downloaded(browser, office, "csv"))
+    wait_text(browser, "#check-answer code", "active")
+    count = len(rows_of(printed("schedule", "lft", "-", given=given)))
+    browser.run("check.elements.starts.value = arguments[0]", " ".join(["0"] * count))
+    submit(browser, "check")
+    wait_text(browser, "#check-answer", "Not feasible")
+    same("the bars at 0", browser.run(bars), ["0"] * len(rows))
+    open_tab(browser, "table")
+
+
+def visit_most(browser, office):
+    """A schedule of 520 steps is drawn; one that isn't feasible isn't, and a sentence says why."""
+    n = max(listed(office.server)) + 1
+    rows = [" ".join(f"{(job + step) % 20} 1" for step in range(20)) for job in range(26)]
+    drop(browser, "most.txt", "instance most\nmany steps\n26 20\n" + "\n".join(rows) + "\n")
+    wait_plan(browser, n)
+    same("the bars", len(bar_classes(browser)), 520)
+    browser.run("check.elements.starts.value = arguments[0]", " ".join(["0"] * 520))
+    submit(browser, "check")
+    wait_text(browser, "#check-answer", "Not feasible")
+    same("what is said in the place of a chart", texts(browser, "#chart .refusal > *"), [
+        "Correct the start times: a schedule of more than 502 steps is drawn if it is feasible; until then there"
+        " is no chart."])
+    same("the table", column(browser, "start"), ["0"] * 520)
+    open_tab(browser, "table")
+
+
 def visit_module(browser):
     """A module of another digest is refused; the page goes on without slack."""
     state = lambda script: browser.call("POST", "/execute/async", {"script": script, "args": []})
@@ -1526,6 +1696,26 @@ def visit_module(browser):
         }
     """)
     same("another worker", found, "TypeError")
+
+
+def visit_policy(browser):
+    """At a desk the policy for addresses of scripts passes the worker's alone."""
+    browser.devtools("Page.addScriptToEvaluateOnNewDocument", source="""
+        const { trustedTypes: types } = window, create = types.createPolicy.bind(types);
+        types.createPolicy = (name, rules) => (window.policy = create(name, rules));
+    """)
+    browser.open(browser.run("return location.href"))
+    browser.wait("the first page", "return document.querySelector('#door fieldset:enabled')")
+    passed = browser.run("""
+        return ["worker", "cache", "plan-cache.js"].map((name) => {
+            try {
+                return String(window.policy.createScriptURL(name));
+            } catch (fault) {
+                return fault.name;
+            }
+        });
+    """)
+    same("the addresses of scripts", passed, ["worker.js", "TypeError", "TypeError"])
 
 
 def visit_quiet(browser):
@@ -1640,10 +1830,10 @@ def named_house():
 
 VISIT = [
     visit_door, visit_help, visit_office, visit_upgrade, visit_desk, visit_left, visit_import, visit_bars,
-    visit_slack, visit_use, visit_sort, visit_calendar, visit_today, visit_bind, visit_lag, visit_elsewhere,
+    visit_unloaded, visit_slack, visit_use, visit_sort, visit_calendar, visit_today, visit_bind, visit_lag, visit_elsewhere,
     visit_best, visit_large, visit_check, visit_save, visit_table, visit_capacity, visit_need,
     visit_names, visit_other,
     visit_shop, visit_colours, visit_links, visit_focus, visit_closed, visit_refused, visit_keys, visit_back, visit_delete,
     visit_lost, visit_found, visit_waiting, visit_sizes, visit_senses, visit_paper, visit_orders,
-    visit_cancel, visit_whole, visit_keep, visit_quiet, visit_module, visit_pictures,
+    visit_cancel, visit_whole, visit_keep, visit_lags, visit_most, visit_quiet, visit_module, visit_pictures, visit_policy,
 ]

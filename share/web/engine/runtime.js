@@ -22,7 +22,7 @@ export async function digestOf(bytes) {
 // Compiles a module. Throws an error if its SHA-256 is another one than `digest`.
 export async function load(bytes, digest) {
   if ((await digestOf(bytes)) !== digest) {
-    throw new Error("plan.wasm is another module than this page expects: reload the page");
+    throw new Error("plan.wasm is another module than this page expects");
   }
   return WebAssembly.compile(bytes);
 }
