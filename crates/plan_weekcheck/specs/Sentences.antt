@@ -2,7 +2,8 @@
 use Rattle.std.specs.Prelude.{ℕ, ◌+◌, ◌==◌, if◌then◌else◌, List, [], ◌∷◌, ◌++◌, Option, Some, None}
 use Rattle.std.specs.Prelude.{codes, length, option_map, slice_get}
 use Rattle.std.specs.Fmt.{decimal}
-use Rattle.plan_documents.specs.NamedVerdicts.{activity_called, labelled_broken_text}
+use Rattle.plan_documents.specs.Labels.{activity_called}
+use Rattle.plan_documents.specs.NamedVerdicts.{labelled_broken_text}
 use Rattle.plan_table.specs.Table.{Activity, Resource}
 use Rattle.plan_week.specs.declared.overload.Overload.{Overload}
 use Rattle.plan_weekfile.specs.Lines as lines

@@ -3,6 +3,7 @@
 ghost use Rattle.std.specs.Prelude.{◌≡◌, ◌++◌, IfOk, OnOk, codes, map, option_map};
 ghost use Rattle.std.specs.Prelude.{string_bytes};
 ghost use Rattle.std.specs.Fmt.{decimal};
+ghost use Rattle.plan_documents.specs.Labels as labels;
 ghost use Rattle.plan_documents.specs.NamedVerdicts as named;
 ghost use Rattle.plan_table.specs.Table.{activity_of, resource_of};
 ghost use Rattle.plan_weekcheck.specs.Sentences as spec;
@@ -45,7 +46,7 @@ fn label_at(
 // Appends an activity by its label, or else by its number.
 fn push_activity(text: &mut String, n: u64, label: &Option<String>) -> Result<(), AllocError>
     ensures { OnOk result (string_bytes text.new ≡ string_bytes text.old
-        ++ named.activity_called n (option_map string_bytes label.now)) }
+        ++ labels.activity_called n (option_map string_bytes label.now)) }
 {
     match label {
         Some(label) => text.push_str(label.as_str()),
