@@ -1,9 +1,10 @@
-use Rattle.std.proofs.Common.{map, subst}
+use Rattle.std.proofs.Common.{◌∙◌, ap, map, subst}
 use Rattle.plan_table.specs.Listing.{rows_read}
 use Rattle.plan_table.specs.Reading.{Fails, fault_of}
 use Rattle.plan_table.specs.declared.fault.ReadError.{ReadError}
 use Rattle.plan_weekback.specs.Entries.{entry_of}
 use Rattle.std.proofs.lemmas.Result.{err_from_is_err_and}
+use Rattle.plan_spreadsheet.specs.Rows.{filled}
 use Rattle.plan_table.specs.Csv.{row_of}
 use Rattle.plan_weekback.proofs.BackLemmas.{no_back, no_rows}
 use Rattle.plan_weekback.proofs.back.with_texts.Goals as goal
@@ -20,4 +21,5 @@ returns-in_err-made-clause-refused c =
     rw (error.1, error.2)
     (no_back c.args.late (map entry_of c.args.entries.now) c.args.file.now c.utf8-text.result.now c.in_ok-decoded.decoded
     (map row_of c.in-Ok.rows.items) (map row_of c.in_ok-rows-in-Ok.rows.items) (map row_of c.in_ok-rows.rows.items) c.in_err-made.field-0.0
-    c.utf8-text.ensures c.in_ok-decoded.ensures.text c.in-Ok.ensures c.in_ok-rows-in-Ok.ensures c.in_ok-rows.ensures c.in_err-made.ensures.refused)
+    c.utf8-text.ensures c.in_ok-decoded.ensures.text c.in-Ok.ensures
+    (c.in_ok-rows-in-Ok.ensures ∙ ap (λ v. filled (map row_of v)) c.deref.ensures.value) c.in_ok-rows.ensures c.in_err-made.ensures.refused)
