@@ -2,6 +2,7 @@ use Rattle.std.proofs.Common.{◌∙◌, ap, map, subst}
 use Rattle.plan_table.specs.Listing.{rows_read}
 use Rattle.plan_table.specs.Reading.{Fails, fault_of}
 use Rattle.plan_table.specs.declared.fault.ReadError.{ReadError}
+use Rattle.plan_weekback.specs.Columns.{with_plan}
 use Rattle.plan_weekback.specs.Entries.{entry_of}
 use Rattle.std.proofs.lemmas.Result.{err_from_is_err_and}
 use Rattle.plan_spreadsheet.specs.Rows.{filled}
@@ -22,4 +23,6 @@ returns-in_err-made-clause-refused c =
     (no_back c.args.late (map entry_of c.args.entries.now) c.args.file.now c.utf8-text.result.now c.in_ok-decoded.decoded
     (map row_of c.in-Ok.rows.items) (map row_of c.in_ok-rows-in-Ok.rows.items) (map row_of c.in_ok-rows.rows.items) c.in_err-made.field-0.0
     c.utf8-text.ensures c.in_ok-decoded.ensures.text c.in-Ok.ensures
-    (c.in_ok-rows-in-Ok.ensures ∙ ap (λ v. filled (map row_of v)) c.deref.ensures.value) c.in_ok-rows.ensures c.in_err-made.ensures.refused)
+    (c.in_ok-rows-in-Ok.ensures ∙ ap (λ v. filled (map row_of v)) c.deref.ensures.value)
+    (c.in_ok-rows.ensures ∙ ap (λ v. with_plan c.args.late (map entry_of c.args.entries.now) (map row_of v)) c.deref-2.ensures.value)
+    c.in_err-made.ensures.refused)
