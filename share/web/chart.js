@@ -260,7 +260,7 @@ function usesOf({ plan: { kind, model, ...plan }, drawings: { uses, capacities, 
 const wrongNodes = ({ plan: { labels } }, line) =>
   (line ? [say(verdictWords(line, labels).join(" "), { class: "fault" })] : []);
 
-// what is wrong with start times, if no use shows it
+// the sentence on wrong start times, unless it stands above the use of a resource
 function otherWrong(view) {
   const { plan, drawings: { over } } = view;
   const { wrong } = plan.schedules.get(plan.drawn);

@@ -1,4 +1,4 @@
-// What a file is, as the program reads it: a list, a project, a job shop, or start times.
+// The kind of a file, by the program's reading: a list, a project, a job shop, or start times.
 
 import { Refusal } from "./api.js";
 import { printed, printedWith } from "./program.js";
@@ -64,7 +64,7 @@ async function isShop(bytes) {
 const STARTS = /^\s*(\d|\{|"?(act|job|id|optimal|between|budget|makespan)\b)/;
 const SIZES = /^[ \t]*\d+[ \t]+\d+[ \t]*\r?$/m;
 
-/** Returns what a file is: `list` is set for a list, `instances` for a job shop. */
+/** Returns the kind of a file: `list` is set for a list, `instances` for a job shop. */
 export async function recognized({ name, bytes, text, given }) {
   const isProject = /^\s*PRECEDENCE RELATIONS/m.test(text) || /\.sm$/i.test(name);
   const list = isProject ? null : await listOf(name, bytes, given);

@@ -1,5 +1,5 @@
-// What a changed list moves: the drawn schedule of its plan beside one of the list as it is now, as
-// `plan compare --old` prints them. It is made by the same rule, or by a search of a second.
+// The activities that a changed list moves. `plan compare --old` compares the drawn schedule of the
+// plan with one of the changed list, by the same rule or by a search of a second.
 
 import { Refusal, tableOf } from "./api.js";
 import { make, say, tableNode, wideNode } from "./dom.js";
@@ -32,8 +32,8 @@ async function movesOf({ kind, model, subject, schedules, drawn, labels }, text,
     make("details", { class: "moved" }, make("summary", {}, "What moves"), movedTable(moves, readProject(text)))];
 }
 
-/** Returns what a list, if it is the changed one of a plan, moves in it; nothing for a list with
- * dates, or if no schedule of it is found. */
+/** Returns the sentence and the table of the moved activities, if a list is the changed one of a
+ * plan; nothing for a list with dates, or if no schedule of it is found. */
 export async function movedNodes({ from, list: { text, begins } }) {
   const { plan } = page;
   if (!from || plan?.n !== from || !plan.model || begins) return [];

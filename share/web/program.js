@@ -19,8 +19,8 @@ if (inside("worker-text")) {
   address = URL.createObjectURL(text);
 }
 
-// the policy passes the address of the worker, and in a plan.html that is served also the address of
-// what keeps it
+// the policy passes the address of the worker, and in a plan.html that is served also that of the
+// script that keeps the page for later
 const addresses = { worker: address };
 const isServed = globalThis.location?.protocol.startsWith("http");
 if (inside("worker-text") && isServed) addresses.cache = "plan-cache.js";
