@@ -82,7 +82,7 @@ pub enum FileOrder<'a> {
         instance: Option<&'a str>,
     },
     /// A sheet to print, with the time limit of a search for the schedule, in seconds, and with the
-    /// options of a list with dates, if it is a report of the best schedule.
+    /// options of a list with dates, if it is a report or a calendar file of the best schedule.
     Print(Print<'a>, Option<u32>, Option<WeekWords<'a>>),
     /// A table to start from.
     New(Template),
@@ -940,9 +940,10 @@ fn report_order<'a>(arguments: &'a ArgMatches<'_>, lists: Lists<'a>) -> Option<P
     })
 }
 
-// Returns the options of a list with dates, if a command prints a report of the best schedule.
+// Returns the options of a list with dates, if a command prints a report or a calendar file of the
+// best schedule.
 fn print_week<'a>(name: &str, arguments: &'a ArgMatches<'_>) -> Option<WeekWords<'a>> {
-    if name == "report" && arguments.get_flag("solve") {
+    if matches!(name, "report" | "days") && arguments.get_flag("solve") {
         return Some(week_words(arguments, None));
     }
     None

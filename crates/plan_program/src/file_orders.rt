@@ -9,6 +9,7 @@ use crate::verification::do_verify;
 use crate::week_check::do_check_file;
 use crate::week_compare::do_compare_files;
 use crate::week_days::do_days_file;
+use crate::week_events::do_events_file;
 use crate::week_report::{Shown, do_report_file};
 use crate::weeks::do_solve_file;
 use plan_cli::{
@@ -169,6 +170,9 @@ fn do_print(
                 by_job,
             };
             do_report_file(rt, print, shown, words, &mut line)?
+        }
+        (Some(words), Sheet::Events { dates, events }) => {
+            do_events_file(rt, print, dates, events, words, &mut line)?
         }
         _ => do_plain_print(rt, print, &mut line)?,
     }

@@ -16,6 +16,7 @@ mod verification;
 mod week_check;
 mod week_compare;
 mod week_days;
+mod week_events;
 mod week_report;
 mod weeks;
 

@@ -96,17 +96,15 @@ fn do_week_report(
     write_text(&mut StdSink::new(io::writer(rt)), page.as_bytes())
 }
 
-// Returns what a report asks of a list with dates; `None` for a job shop, or without a search.
-fn report_order<'a>(report: Report<'a>, today: Option<u32>) -> Option<WeekOrder<'a>> {
-    match report.print.origin {
+/// Returns what a print asks of a list with dates; `None` for a job shop, or without a search.
+pub(crate) fn print_week<'a>(
+    print: Print<'a>,
+    words: WeekWords<'_>,
+    today: Option<u32>,
+) -> Option<WeekOrder<'a>> {
+    match print.origin {
         NamedOrigin::Solved { conflicts } => {
-            week_order(
-                report.print.subject,
-                conflicts,
-                Rows::Plain,
-                report.words,
-                today,
-            )
+            week_order(print.subject, conflicts, Rows::Plain, words, today)
         }
         NamedOrigin::Rule(_) | NamedOrigin::Default | NamedOrigin::Starts(_) => None,
     }
@@ -120,7 +118,7 @@ fn do_read(
     line: &mut ProgressLine<'_>,
 ) -> Result<(), FileFault> {
     let today = today_in(rt, report.words.now, calendar)?;
-    if let Some(order) = report_order(report, today) {
+    if let Some(order) = print_week(report.print, report.words, today) {
         let reading = WeekReading {
             options: report.print.options,
             calendar,
@@ -140,7 +138,7 @@ fn do_undated(
     fault: CliFault,
     line: &mut ProgressLine<'_>,
 ) -> Result<(), FileFault> {
-    if let Some(order) = report_order(report, None) {
+    if let Some(order) = print_week(report.print, report.words, None) {
         let reading = WeekReading {
             options: report.print.options,
             calendar: None,

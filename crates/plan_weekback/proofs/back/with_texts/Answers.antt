@@ -1,4 +1,4 @@
-use Rattle.std.proofs.Common.{◌∙◌, ap, map, subst}
+use Rattle.std.proofs.Common.{◌∙◌, List, ap, map, subst}
 use Rattle.plan_table.specs.Listing.{rows_read}
 use Rattle.plan_table.specs.Reading.{Fails, fault_of}
 use Rattle.plan_table.specs.declared.fault.ReadError.{ReadError}
@@ -6,7 +6,9 @@ use Rattle.plan_weekback.specs.Columns.{with_plan}
 use Rattle.plan_weekback.specs.Entries.{entry_of}
 use Rattle.std.proofs.lemmas.Result.{err_from_is_err_and}
 use Rattle.plan_spreadsheet.specs.Rows.{filled}
+use Rattle.plan_list_back.specs.Texts.{IsUnwritten, text_with}
 use Rattle.plan_table.specs.Csv.{row_of}
+use Rattle.plan_table.specs.declared.records.Row as declared
 use Rattle.plan_weekback.proofs.BackLemmas.{no_back, no_rows}
 use Rattle.plan_weekback.proofs.back.with_texts.Goals as goal
 
@@ -25,4 +27,6 @@ returns-in_err-made-clause-refused c =
     c.utf8-text.ensures c.in_ok-decoded.ensures.text c.in-Ok.ensures
     (c.in_ok-rows-in-Ok.ensures ∙ ap (λ v. filled (map row_of v)) c.deref.ensures.value)
     (c.in_ok-rows.ensures ∙ ap (λ v. with_plan c.args.late (map entry_of c.args.entries.now) (map row_of v)) c.deref-2.ensures.value)
-    c.in_err-made.ensures.refused)
+    (subst
+    (λ (v : List declared.Row). IsUnwritten (text_with c.args.file.now c.utf8-text.result.now (map row_of v)) (map row_of v) c.in_err-made.field-0.0)
+    c.deref-3.ensures.value c.in_err-made.ensures.refused))
