@@ -78,21 +78,6 @@ list_check_is : (kind : Option ListKind) (t : Task) (starts : Bor (List ℕ)) (s
 list_check_is None t starts s e = absurd (none_some e)
 list_check_is (Some kind) t starts s e = check_is t starts s e
 
--- the text of the check of a list
-pub check_shows : {X E : Type 0} (view : X → List ℕ) (kind : Option ListKind) (r : Rows) (t : Task) (s of : Subject) (starts : Bor (List ℕ))
-    (file : List ℕ) (result : Result X E)
-    → list_check kind t ≡ Some (starts, of) → IfOk result (λ x. IsNamedCheck r starts.now of file (view x))
-    → IfOk result (λ x. ShowsKind kind r t s file (view x))
-check_shows view kind r t s of starts file result is named =
-    subst (λ (o : Option (Bor (List ℕ) × Subject)). IfOk result (λ x. ShowsChecked o kind r t s file (view x))) (sym is) named
-
--- the text of another task
-pub other_shows : {X E : Type 0} (view : X → List ℕ) (kind : Option ListKind) (r : Rows) (t : Task) (s : Subject) (file : List ℕ) (result : Result X E)
-    → list_check kind t ≡ None → IfOk result (λ x. ShowsChecked None kind r t s file (view x))
-    → IfOk result (λ x. ShowsKind kind r t s file (view x))
-other_shows view kind r t s file result is shown =
-    subst (λ (o : Option (Bor (List ℕ) × Subject)). IfOk result (λ x. ShowsChecked o kind r t s file (view x))) (sym is) shown
-
 -- the error of the check of a list
 pub check_refused : {X : Type 0} (kind : Option ListKind) (t : Task) (s : Subject) (starts : Bor (List ℕ)) (file : List ℕ) (result : Result X CliFault)
     → list_check kind t ≡ Some (starts, s) → IfErr result (Refuses (IsLineOf (task.Check starts s) file))

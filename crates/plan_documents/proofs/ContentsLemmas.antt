@@ -15,15 +15,9 @@ use Rattle.plan_spreadsheet.specs.declared.list.PlainList.{PlainList}
 use Rattle.plan_documents.specs.Contents.{HasContents, is_in_activities, is_in_orders, IsActivityList, IsListWith, IsOrderList}
 use Rattle.plan_documents.specs.Spreadsheets.{IsPlainOf}
 
-pub activities_read : (text : List ℕ) (t : Table) → table_read text ≡ Ok t → IsActivityList text
-activities_read text t is = inl (t, is)
-
 pub activities_refused : (text : List ℕ) (first : TableFault) → IsRefused text (errors.Fault first)
     → is_in_activities first.code ≡ true → IsActivityList text
 activities_refused text first refused is = inr (first, refused, is)
-
-pub orders_read : (text : List ℕ) (t : ShopTable) → shop_table_read text ≡ Ok t → IsOrderList text
-orders_read text t is = inl (t, is)
 
 pub orders_refused : (text : List ℕ) (first : TableFault) → shop_table_read text ≡ Err (fault_of first)
     → is_in_orders first.code ≡ true → IsOrderList text

@@ -25,10 +25,7 @@ fn is_dated(
     let Some(order) = print_week(print, words, None) else {
         return Ok(false);
     };
-    let calendar = match instants_in(rt, dates) {
-        Ok(calendar) => Some(calendar),
-        Err(_) => None,
-    };
+    let calendar = instants_in(rt, dates).ok();
     let reading = WeekReading {
         options: print.options,
         calendar: calendar.as_ref(),

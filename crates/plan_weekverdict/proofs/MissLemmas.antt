@@ -93,12 +93,6 @@ misses_at week starts i start s miss inside same is misses = (
   subst (λ (x : ℕ). Misses week.today x (state_of week i) miss) same (subst (λ (x : State). Misses week.today start x miss) is misses),
 )
 
--- it doesn't
-pub misses_not : (week : Week) (starts : List ℕ) (i start : ℕ) (s : State) → start ≡ get_or starts i 0 → s ≡ state_of week i
-    → ((miss : Miss) → Misses week.today start s miss → ⊥) → (miss : Miss) → MissesAt week starts i miss → ⊥
-misses_not week starts i start s same is none miss has =
-    none miss (subst (λ (x : ℕ). Misses week.today x s miss) (sym same) (subst (λ (x : State). Misses week.today (get_or starts i 0) x miss) (sym is) has.1))
-
 -- it is the first one
 pub first_miss_at : (week : Week) (starts : List ℕ) (i : ℕ) (miss : Miss) → ((h : ℕ) → h < i → (other : Miss) → MissesAt week starts h other → ⊥)
     → MissesAt week starts i miss → IsFirstMiss week starts i miss
