@@ -30,7 +30,7 @@ impl<'a> Room<'a> {
         format!(in self.rt.alloc(); "{folder}/{name}")
     }
 
-    /// Removes the folder and its files. What can't be removed stays.
+    /// Removes the folder and its files. A file that can't be removed stays.
     pub(crate) fn remove(self) {
         let _ = fs::remove_dir_all(self.rt, self.path.as_str());
     }

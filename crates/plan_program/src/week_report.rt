@@ -16,8 +16,8 @@ use plan_weekfile::WeekOrder;
 use plan_weeksheet::{PageDays, week_report};
 use std::io;
 
-/// What a report shows: its title, its calendar and the form of its days, and what has a line of the
-/// chart of a job shop.
+/// The contents of a report: its title, its calendar, the form of its days, and whether the chart
+/// of a job shop has a line for each job.
 #[derive(Clone, Copy)]
 pub(crate) struct Shown<'a> {
     pub title: &'a str,

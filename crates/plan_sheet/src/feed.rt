@@ -57,7 +57,7 @@ impl<'a> Events<'a> {
     }
 }
 
-/// What the events of a plan are about.
+/// The work that the events of a plan show.
 #[derive(Clone, Copy, Drop)]
 pub struct Work<'a> {
     /// The digest of its file.

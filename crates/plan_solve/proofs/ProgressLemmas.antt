@@ -1,4 +1,4 @@
--- What a watcher hears in several calls, and that it is true of a problem.
+-- The reports that a watcher receives in several calls are true of a problem.
 use Rattle.std.proofs.Common.{◌≡◌, ◌∙◌, ◌≤◌, ℕ, inl, inr, max, List, sym, subst, arith}
 use Rattle.plan_sgs.specs.Problem.{Problem}
 use Rattle.plan_kernel.specs.declared.input.Input.{Input}

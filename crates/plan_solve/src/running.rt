@@ -28,8 +28,8 @@ const DECISIONS_BETWEEN: u32 = 64;
 /// How many bytes of lines a log gets together at least, but for the last ones.
 const LINES_TOGETHER: usize = 65_536;
 
-/// What a search comes to: the starts of the best schedule, a lower bound, and how many conflicts
-/// there were.
+/// The outcome of a search: the starts of the best schedule, a lower bound, and the number of
+/// conflicts.
 #[derive(Drop)]
 pub struct Found {
     pub starts: Vec<u32>,

@@ -17,7 +17,7 @@ use crate::watches::literal_at;
 use plan_kernel::{Kernel, LIMIT, Lesson, Literal};
 use std::alloc::{AllocError, Global};
 
-/// A search. What it holds beside the kernel decides how long it takes, and nothing else.
+/// A search. Its parts beside the kernel decide how long it takes, and nothing else.
 #[derive(Drop)]
 pub struct Search {
     pub prover: Prover,

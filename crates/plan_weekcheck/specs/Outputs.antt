@@ -22,8 +22,8 @@ sentence_text (Some format) sentence = format_text format (verdict_view_of sente
 abbrev pub verdict_text : Option Format → ListedWeek → WeekVerdict → List ℕ
 verdict_text format listed verdict = sentence_text format (sentence_of listed verdict)
 
--- The verdict on the starts in a text: on those of the activities that are open. What has begun or
--- is done is where its state says.
+-- The verdict on the starts in a text, for the activities that are open. Begun and done activities
+-- are where their states say.
 abbrev pub IsVerdictOn : ListedWeek → List ℕ → WeekVerdict → Type 0
 IsVerdictOn listed starts verdict =
     (given : List ℕ) × (all : List ℕ) × SaysOpenStarts listed starts given

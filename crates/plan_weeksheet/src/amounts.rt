@@ -1,4 +1,4 @@
-//! What activities need, and what is missing.
+//! The amounts of resources that activities need and that are missing.
 
 ghost use Rattle.std.specs.Prelude.{◌≡◌, IfOk};
 ghost use Rattle.plan_weekfile.specs.Links.{needs_at as needed};

@@ -14,7 +14,7 @@ use Rattle.plan_weekverdict.specs.declared.verdict.Miss.TheVariants.{Past, Early
 use Rattle.plan_weekverdict.specs.declared.verdict.WeekVerdict.{WeekVerdict}
 use Rattle.plan_weekverdict.specs.declared.verdict.WeekVerdict.TheVariants.{Misplaced, Broken, Over, Feasible}
 
--- A start for each activity. What isn't open is where its state says: nobody chooses its start.
+-- A start for each activity. Activities that aren't open are where their states say.
 pub record HasSettled (week : Week) (starts : List ℕ) : Type 0 where
   pub each_started : length starts ≡ count (project_of week)
   pub settled : (i : ℕ) → i < count (project_of week) → IsFalse (is_open (state_of week i))
