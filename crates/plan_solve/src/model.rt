@@ -1,6 +1,6 @@
 //! The numbers of a problem, by what propagation looks up.
 
-use crate::lists::{at, empty_rows, mark, push_to, row};
+use crate::arrays::{at, empty_rows, mark, push_to, row};
 use plan_kernel::{Absence, Input, Order};
 use std::alloc::{AllocError, Global};
 

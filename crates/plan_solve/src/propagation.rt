@@ -1,12 +1,12 @@
 //! The consequences of bounds that have risen.
 
-use crate::lists::{Waiting, is_marked, row};
+use crate::arrays::{Waiting, is_marked, row};
 use crate::literals::{at_least, at_most, negated};
 use crate::model::Model;
-use crate::parts::Parts;
 use crate::stop::{Cause, Stop};
-use crate::table;
+use crate::timetable;
 use crate::trail::{Entry, Trail};
+use crate::usage::Parts;
 use crate::watches::Watches;
 use crate::windows::Windows;
 use plan_kernel::{Kernel, Literal};
@@ -228,7 +228,7 @@ impl State {
             let Some(activity) = self.stale.pop() else {
                 break;
             };
-            table::propagate(model, &mut self.parts, &mut self.trail, activity)?;
+            timetable::propagate(model, &mut self.parts, &mut self.trail, activity)?;
         }
         for _ in 0..model.kinds {
             if self.trail.work.is_due() {

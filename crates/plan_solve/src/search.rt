@@ -4,7 +4,7 @@ ghost use Rattle.std.specs.Prelude.{◌≡◌, ◌≤◌, IfOk};
 
 use crate::activity::Activity;
 use crate::analysis::{Analysis, greatest_level};
-use crate::lists::at;
+use crate::arrays::at;
 use crate::literals::{at_most, negated};
 use crate::model::Model;
 use crate::propagation::State;

@@ -9,10 +9,10 @@ ghost use Rattle.plan_solve.specs.Solutions as spec;
 
 use crate::fault::SolveFault;
 use crate::log::{Log, Unlogged};
-use crate::running::Session;
 use crate::schedules::shorter;
+use crate::sessions::Session;
+use crate::solutions::{Solved, check, searched, searched_from, unsearched};
 use crate::solvable::Solvable;
-use crate::solving::{Solved, check, searched, searched_from, unsearched};
 use crate::watcher::{Unwatched, Watcher};
 use plan_active::{active_shop_schedule, shop_bound};
 use plan_kernel::{Input, Order};
