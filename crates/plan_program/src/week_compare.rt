@@ -27,7 +27,7 @@ struct Comparison<'a> {
     new: &'a [u8],
 }
 
-// Returns the calendar of two lists, if dates are given.
+// Returns the calendar for two lists, if `--start` and `--days` are given.
 fn calendar_of(
     rt: &HostRuntime,
     words: WeekWords<'_>,
@@ -87,7 +87,7 @@ fn do_lists(
     do_plain(rt, None, task, rows, line, &mut Unlogged, new)
 }
 
-// Writes the comparison of two files, for which this is asked.
+// Writes the comparison of two files, which may be lists with dates.
 fn do_asked(
     rt: &HostRuntime,
     comparison: Comparison<'_>,
@@ -116,7 +116,7 @@ fn do_asked(
 }
 
 /// Compares a schedule of an old file with one of the file with this name, and writes to standard
-/// output. The names of the old file and of the starts are those of texts.
+/// output. `texts` names the old file, the starts and the holidays.
 pub(crate) fn do_compare_files(
     rt: &HostRuntime,
     subject: Subject<'_>,

@@ -16,7 +16,7 @@ use plan_weekfile::WeekOrder;
 use plan_weekview::days_output;
 use std::io;
 
-/// Reads the text with this role, which an error is about; no bytes if there is none.
+/// Reads the text with this role, or returns no bytes if there is none. Errors name `about`.
 pub(crate) fn text_in(
     rt: &HostRuntime,
     texts: &[NamedText<'_>],
@@ -60,7 +60,7 @@ fn with_dates<'a>(task: Task<'a>, dates: Dates<'a>) -> Task<'a> {
     }
 }
 
-// Returns what a task of `days` asks of a list with dates; `None` for a job shop.
+// Returns the order of a task of `days` for a list with dates; `None` for a job shop.
 fn days_order<'a>(
     task: Task<'a>,
     rows: Rows,
@@ -135,8 +135,8 @@ fn do_read(
     }
 }
 
-// Runs a task of `days` whose dates are those of no calendar, for this reason, on a file that was
-// read. In a file without a week another error can come first.
+// Runs a task of `days` whose dates give no calendar, because of this error, on a file that was
+// read. For a file without a week another error can come first.
 fn do_undated(
     rt: &HostRuntime,
     options: Option<Options<'_>>,
@@ -181,8 +181,8 @@ fn do_dated(
     }
 }
 
-/// Runs a task of `days` for the best schedule found on the file with this name, or on standard
-/// input if the name is `-`, and writes to standard output. The holidays are read first. `dates` are
+/// Runs a task of `days` for the best schedule found, and writes to standard output. The file has
+/// this name, or is standard input if the name is `-`. The holidays are read first. `dates` are
 /// those of the task.
 pub(crate) fn do_days_file(
     rt: &HostRuntime,

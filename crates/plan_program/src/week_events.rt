@@ -14,7 +14,7 @@ use plan_print::{Events, Print, Sheet, print_on_named};
 use plan_weekback::WeekReading;
 use std::io;
 
-// Whether a file is a list with dates. If `dates` are those of no calendar, its dates are instants.
+// Whether a file is a list with dates. If `dates` give no calendar, its dates are read as instants.
 fn is_dated(
     rt: &HostRuntime,
     print: Print<'_>,
@@ -33,7 +33,7 @@ fn is_dated(
     Ok(week_in(rt, &order, &reading, file)?.is_some())
 }
 
-// Writes a calendar file of a file that was read.
+// Writes the calendar file of a file that was read.
 fn do_read(
     rt: &HostRuntime,
     print: Print<'_>,

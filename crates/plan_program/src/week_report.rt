@@ -16,8 +16,8 @@ use plan_weekfile::WeekOrder;
 use plan_weeksheet::{PageDays, week_report};
 use std::io;
 
-/// The contents of a report: its title, its calendar, the form of its days, and whether the chart
-/// of a job shop has a line for each job.
+/// The title of a report, its dates, and the style of its days. If `by_job`, the chart of a job
+/// shop has a line for each job, else for each machine.
 #[derive(Clone, Copy)]
 pub(crate) struct Shown<'a> {
     pub title: &'a str,
@@ -29,7 +29,7 @@ pub(crate) struct Shown<'a> {
 /// A report of a file that was read.
 #[derive(Clone, Copy)]
 struct Report<'a> {
-    /// The print, which names no holidays.
+    /// The print. It names no file of holidays, because they were read.
     print: Print<'a>,
     shown: Shown<'a>,
     words: WeekWords<'a>,
@@ -96,7 +96,7 @@ fn do_week_report(
     write_text(&mut StdSink::new(io::writer(rt)), page.as_bytes())
 }
 
-/// Returns what a print asks of a list with dates; `None` for a job shop, or without a search.
+/// Returns the order of a print for a list with dates; `None` for a job shop, or without a search.
 pub(crate) fn print_week<'a>(
     print: Print<'a>,
     words: WeekWords<'_>,
@@ -130,7 +130,7 @@ fn do_read(
     Ok(do_plain_report(rt, report, line)?)
 }
 
-// Writes a report whose dates are those of no calendar, for this reason. In a file without a week
+// Writes a report whose dates give no calendar, because of this error. For a file without a week
 // another error can come first.
 fn do_undated(
     rt: &HostRuntime,

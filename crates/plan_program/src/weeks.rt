@@ -1,4 +1,4 @@
-//! `plan solve` on a file, which may be a list with dates.
+//! `plan solve` on a file, which may be a list with dates, and steps that other commands share.
 
 use crate::errors::FileFault;
 use crate::file_log::FileLog;
@@ -19,7 +19,7 @@ use plan_weekfile::{WeekOrder, has_week, week_notes, week_output};
 use std::alloc::AllocError;
 use std::io;
 
-/// Keeps the line about what is ignored in a list with dates, for the end.
+/// Keeps the line of notes on a list with dates, to print it at the end.
 pub(crate) fn keep_note(
     rt: &HostRuntime,
     order: &WeekOrder<'_>,
@@ -44,7 +44,7 @@ pub(crate) fn list_options<'a>(
     }
 }
 
-/// Returns what a search within a conflict limit asks of a list with dates, from an instant on;
+/// Returns the order of a search within a conflict limit for a list with dates, from an instant on;
 /// `None` for a job shop.
 pub(crate) fn week_order<'a>(
     subject: Subject<'a>,
@@ -81,8 +81,8 @@ pub(crate) fn no_list(rt: &HostRuntime, order: &WeekOrder<'_>) -> Result<FileFau
     }
 }
 
-/// Returns a file as a list with dates is read, or `None` if it has none. It must be a list of
-/// activities if the order asks for an instant or a goal.
+/// Returns the text that is read in place of a file, or `None` if it isn't a list with dates. It
+/// must be a list of activities if the order gives an instant or a goal.
 pub(crate) fn week_in(
     rt: &HostRuntime,
     order: &WeekOrder<'_>,
@@ -168,7 +168,8 @@ fn do_week_task(
     }
 }
 
-/// Returns the calendar of `solve` or `check`, if dates are given. The holidays are read first.
+/// Returns the calendar of `solve` or `check`, if `--start` and `--days` are given. It reads the
+/// holidays first.
 pub(crate) fn calendar_in(
     rt: &HostRuntime,
     words: WeekWords<'_>,
@@ -188,7 +189,7 @@ pub(crate) fn calendar_in(
     Ok(Some(instants_in(rt, dates)?))
 }
 
-// Returns what a task of `solve` asks of a list with dates; `None` for a job shop.
+// Returns the order of a task of `solve` for a list with dates; `None` for a job shop.
 fn solve_order<'a>(
     task: Task<'a>,
     rows: Rows,
@@ -206,7 +207,7 @@ fn solve_order<'a>(
     }
 }
 
-// Runs a task of `solve` on a file that was read. Dates are read for this calendar.
+// Runs a task of `solve` on a file that was read. Dates are read with this calendar.
 fn do_read(
     rt: &HostRuntime,
     options: Option<Options<'_>>,
@@ -234,8 +235,8 @@ fn do_read(
     Ok(do_week_task(rt, task, order, &reading, &read, line, file)?)
 }
 
-/// Runs a task of `solve` on the file with this name, or on standard input if the name is `-`, and
-/// writes to standard output and to a log.
+/// Runs a task of `solve`, and writes to standard output and to a log. The file has this name, or
+/// is standard input if the name is `-`.
 pub(crate) fn do_solve_file(
     rt: &HostRuntime,
     options: Option<Options<'_>>,

@@ -44,7 +44,7 @@ abbrev pub row_with : Field → List Entry → ℕ → Row → Row
 row_with field entries k row =
     record { line = row.line; cells = put k (text_for field entries row) row.cells }
 
--- where a column is in the rows under a header, once the header has it
+-- the place of a column in the rows under a header, once the header has the column
 abbrev pub place_of : Field → Row → ℕ
 place_of field first = place_or (length first.cells) (place_in (word_of field) first.cells)
 
@@ -54,7 +54,7 @@ with_column field entries [] = []
 with_column field entries (first ∷ rows) =
     header_with (word_of field) first ∷ map (row_with field entries (place_of field first)) rows
 
--- rows with the column of the tardiness, if it is asked for
+-- rows, with the column of the tardiness if the flag is true
 abbrev pub with_late : Bool → List Entry → List Row → List Row
 with_late false entries rows = rows
 with_late true entries rows = with_column fields.Late entries rows
@@ -88,8 +88,8 @@ FailsLayout late entries file fault = (rows : List Row) × (rows_read (utf8_of f
     × IsUnwritten (text_with file (utf8_of file) (with_plan late entries (filled rows)))
     (with_plan late entries (filled rows)) fault
 
--- why there is no such list: the file isn't read as rows, or the text with the columns is too long
--- or isn't read as its rows; out of memory may come at any time
+-- a file has no such list for this reason: it isn't read as rows, or the text with the columns is
+-- too long or isn't read as its rows; memory can run out at any time
 abbrev pub IsNoBack : Bool → List Entry → List ℕ → ListBackFault → Type 0
 IsNoBack late entries file faults.Memory = Unit {0}
 IsNoBack late entries file faults.NoList = HasNoRows file

@@ -50,13 +50,13 @@ is_open earliest fixed (Open other appointment) =
 is_open earliest fixed (Begun began remaining) = false
 is_open earliest fixed (Done ended) = false
 
--- it is that of one that has begun
+-- a state is that of an activity that has begun
 abbrev pub is_begun : ℕ → ℕ → State → Bool
 is_begun began remaining (Open earliest fixed) = false
 is_begun began remaining (Begun other rest) = began == other && remaining == rest
 is_begun began remaining (Done ended) = false
 
--- it is that of one that is done
+-- a state is that of an activity that is done
 abbrev pub is_done : ℕ → State → Bool
 is_done ended (Open earliest fixed) = false
 is_done ended (Begun began remaining) = false

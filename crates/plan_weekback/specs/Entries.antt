@@ -41,13 +41,13 @@ entry_of e = record {
   late = string_bytes e.late;
 }
 
--- the calendar behind a reference, if there is one
+-- the calendar that a reference refers to, if it is given
 abbrev pub days_in : Option (Bor Workdays) → Option Workdays
 days_in calendar = option_map (λ c. c.now) calendar
 
 -- ---- instants
 
--- the instant at which an activity began, if its row has it
+-- the instant at which an activity began, if its row gives it
 abbrev pub began_in : Beginning → Option ℕ
 began_in Missing = None
 began_in Interrupted = None
@@ -136,19 +136,19 @@ abbrev pub IsStartBeyond : Option Workdays → Option ℕ → ℕ → Type 0
 IsStartBeyond None begin ends = ⊥
 IsStartBeyond (Some calendar) begin ends = IsFirstBeyond calendar begin ends
 
--- its last day would be
+-- the last day of an activity would be after 9999-12-31
 abbrev pub IsFinishBeyond : Option Workdays → Option ℕ → ℕ → Type 0
 IsFinishBeyond None begin ends = ⊥
 IsFinishBeyond (Some calendar) begin ends = IsLastBeyond calendar begin ends
 
--- a day of activity k would be
+-- a day of activity k would be after 9999-12-31
 abbrev pub IsEntryBeyond : Option Workdays → Bool → List DatedRow → Week → List ℕ → ℕ → Activity
     → Type 0
 IsEntryBeyond days own rows week starts k a =
     IsStartBeyond days (known_begin own rows week starts k a) (end_of week starts k)
     ⊎ IsFinishBeyond days (begins_at week starts k) (end_of week starts k)
 
--- a day of an activity would be, and all activities before it have their texts
+-- a day of an activity would be after 9999-12-31, and all activities before it have their texts
 abbrev pub HasEntryBeyond : Option Workdays → Table → List DatedRow → Week → List ℕ → Type 0
 HasEntryBeyond days t rows week starts =
     FirstFails (IsEntry days t.own_ids rows week starts)

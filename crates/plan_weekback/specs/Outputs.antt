@@ -24,7 +24,7 @@ use Rattle.plan_weeklist.specs.Rows.{week_rows_of}
 use Rattle.plan_weeks.specs.declared.planning.WeekPlan.{WeekPlan}
 use Rattle.plan_weekview.specs.DaysOutputs.{IsPlanOfOrder, TellsDays}
 
--- texts are those of a plan of the week that a list says
+-- texts are those of a plan of the week of a list
 abbrev pub AreTextsOf : Option Workdays → Option ℕ → List ℕ → ListedWeek → WeekPlan → List Entry
     → Type 0
 AreTextsOf calendar today text listed plan entries =
@@ -39,8 +39,8 @@ ShowsPlan calendar today text listed plan file made = (entries : List Entry)
     × AreTextsOf calendar today text listed plan entries
     × IsBack (is_some plan.lateness) entries file made
 
--- A text is the list of a file with the columns of a plan for the goal of an order, of the week
--- that the list says. The text is read as the same table and the same week.
+-- A text is the list of a file with the columns of a plan of its week for the goal of an order. The
+-- text is read as the same table and the same week.
 pub record IsWeekBack (order : WeekOrder) (reading : WeekReading) (calendar : Option Workdays)
     (file made text : List ℕ) (listed : ListedWeek) (plan : WeekPlan) : Type 0 where
   pub read : IsRead reading file text
@@ -55,7 +55,7 @@ ShowsWeekBack order reading calendar file made =
 
 -- ---- errors of the columns
 
--- the line of the error of a list that isn't given back
+-- the line of the error of a list that can't be printed with the columns
 abbrev pub TellsBack : ListBackFault → List ℕ → Type 0
 TellsBack backs.Memory line = ⊥
 TellsBack backs.NoList line = line ≡ codes "T3 no column duration"
@@ -67,8 +67,8 @@ abbrev pub TellsNoBack : Bool → List Entry → List ℕ → List ℕ → Type 
 TellsNoBack late entries file line =
     (fault : ListBackFault) × IsNoBack late entries file fault × TellsBack fault line
 
--- the error of a list that can't be read with its columns: that of its reading if it says that a
--- text is too long, else that a column has a meaning
+-- The error of a list that can't be read with its columns. If reading it fails because a text is
+-- too long, it is that error. Otherwise a column has a meaning in the list.
 abbrev pub change_if : Bool → ListBackFault
 change_if true = backs.TooLong
 change_if false = backs.Changed
@@ -116,7 +116,7 @@ HasLateText calendar today text listed plan =
     × HasEntryBeyond calendar listed.table (week_rows_of list.rows).rows listed.week
     plan.starts.items
 
--- a line reports this
+-- a line reports such a day
 abbrev pub TellsLateText : Option Workdays → Option ℕ → List ℕ → ListedWeek → WeekPlan → List ℕ
     → Type 0
 TellsLateText calendar today text listed plan line =
@@ -127,7 +127,7 @@ abbrev pub TellsNoDates : Option ℕ → List ℕ → List ℕ → Type 0
 TellsNoDates today text line = (fault : WeekFault)
     × IsNoWeekList [] today (utf8_of text) (errors.Fault fault) × TellsDates (fault_of fault) line
 
--- why there are no texts of a plan
+-- a line gives the reason why a plan has no texts
 abbrev pub TellsNoTexts : Option Workdays → Option ℕ → List ℕ → ListedWeek → WeekPlan → List ℕ
     → Type 0
 TellsNoTexts calendar today text listed plan line =
@@ -135,14 +135,14 @@ TellsNoTexts calendar today text listed plan line =
 
 -- ---- errors of the list
 
--- why there is no list with a plan of its week
+-- a line gives the reason why a file has no list with a plan of its week
 abbrev pub TellsNoList : WeekOrder → WeekReading → Option Workdays → List ℕ → ListedWeek
     → WeekPlan → List ℕ → List ℕ → Type 0
 TellsNoList order reading calendar text listed plan file line =
     TellsNoTexts calendar order.today text listed plan line
     ⊎ TellsNoPlanColumns order reading calendar text listed plan file line
 
--- a plan for the goal of an order has no list: a day is too late, or the columns cannot be added
+-- a plan for the goal of an order has no list: a day is too late, or the columns can't be added
 abbrev pub TellsNoListOf : WeekOrder → WeekReading → Option Workdays → List ℕ → List ℕ → List ℕ
     → Type 0
 TellsNoListOf order reading calendar text file line =
@@ -155,8 +155,8 @@ abbrev pub RefusesText : WeekOrder → WeekReading → Option Workdays → List 
 RefusesText order reading calendar file line = (text : List ℕ) × IsRead reading file text
     × (RefusesWeek order text line ⊎ TellsNoListOf order reading calendar text file line)
 
--- why there is no list with a plan: an error of the file or of its week, a day that is too late, or
--- a list that can't have the columns
+-- a line gives the reason why a file has no list with a plan: an error of the file or of its week,
+-- a day that is too late, or a list that can't have the columns
 abbrev pub RefusesWeekBack : WeekOrder → WeekReading → Option Workdays → List ℕ → List ℕ → Type 0
 RefusesWeekBack order reading calendar file line =
     TellsNoText reading file line ⊎ RefusesText order reading calendar file line

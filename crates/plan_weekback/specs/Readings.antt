@@ -1,4 +1,4 @@
--- How a file is read as a list with a week: with the options of lists, and a calendar for dates.
+-- The reading of a file as a list with a week: with the options of lists, and a calendar for dates.
 use Rattle.std.specs.Prelude.{◌≡◌, ◌⊎◌, ℕ, List, [], Option, Some, None}
 use denote.Ref.{Bor}
 use Rattle.plan_calendar.specs.WorkingDay.{Workdays}

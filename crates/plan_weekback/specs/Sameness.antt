@@ -1,4 +1,4 @@
--- Files that are read as the same table and week, or as others.
+-- Files that are read as the same table and week, or as another table or week.
 use Rattle.std.specs.Prelude.{◌≡◌, ℕ, List, Option, map}
 use Rattle.plan_documents.specs.declared.capacities.Capacity.{Capacity}
 use Rattle.plan_week.specs.declared.week.Week.{Week}

@@ -65,8 +65,8 @@ pub fn list_with(
     }
 }
 
-/// Checks that a file is read as the table and the week of another list. Errors: `T1` (its reading
-/// says that a text is too long), `T4` (it isn't read so).
+/// Checks that a file is read as the table and the week of another list. Errors: `T1` (reading it
+/// fails because a text is too long), `T4` (reading it fails otherwise, or gives another list).
 #[tactic(auto, using(crate::proofs::BackLemmas::unread_told))]
 pub fn check_same(
     alloc: Global,

@@ -1,4 +1,4 @@
-//! Columns of a plan behind those of a list, or in their place.
+//! The columns of a plan in the rows of a list. They follow its columns, or replace some of them.
 
 ghost use Rattle.std.specs.Prelude.{◌≡◌, ◌++◌, map, IfOk, OnOk};
 ghost use Rattle.plan_table.specs.Csv.{row_of};
@@ -10,7 +10,7 @@ use plan_list_back::{header_with, place_in, put};
 use plan_table::Row;
 use std::alloc::{AllocError, Global};
 
-// Returns where a column is under a header.
+// Returns the place of a column in the rows under a header.
 fn place_of(field: Field, first: &Row) -> usize
     ensures { result ≡ spec.place_of field (row_of first.now) }
 {
@@ -83,7 +83,7 @@ fn with_column(
     Ok(all)
 }
 
-// Returns rows with the column of the tardiness, if it is asked for.
+// Returns rows, with the column of the tardiness if `late`.
 fn with_late(
     alloc: Global,
     late: bool,
@@ -100,8 +100,8 @@ fn with_late(
     }
 }
 
-/// Returns rows with the columns of a plan: the start and the finish, and the tardiness if it is
-/// asked for. The first row is the header.
+/// Returns rows with the columns of a plan: the start, the finish, and if `late` the tardiness. The
+/// first row is the header.
 pub fn with_plan(
     alloc: Global,
     late: bool,

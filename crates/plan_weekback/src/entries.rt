@@ -8,9 +8,9 @@ ghost use Rattle.plan_weekback.specs.Entries.{entry_of};
 use plan_list_back::has_id;
 use plan_table::Row;
 
-/// The start, the finish and the tardiness of an activity in a plan, as texts. Its row begins in a
-/// line and has a cell with its id. Lines are numbered from 1. Without a column of ids the id is
-/// empty.
+/// The start, the finish and the tardiness of an activity in a plan, as texts. `line` is the line
+/// in which its row begins, numbered from 1. `id` is its id, which is empty if the list has no
+/// column of ids.
 #[derive(Drop)]
 pub struct Entry {
     pub line: u64,
@@ -57,7 +57,7 @@ fn is_of(row: &Row, texts: &Entry) -> bool
     texts.line == row.line && has_id(texts.id.as_bytes(), &row.cells)
 }
 
-/// Returns the text of a column for a row: that of its first activity, or an empty one.
+/// Returns the text of a column for a row: that of the first activity of the row, or an empty text.
 pub fn text_for<'a>(field: Field, entries: &'a [Entry], row: &Row) -> &'a [u8]
     ensures { result.now ≡ spec.text_for field (map entry_of entries.now) (row_of row.now) }
 {

@@ -23,7 +23,7 @@ fn long_refusal(alloc: Global) -> CliFault
     refuse_words(alloc, Code::LongTable, About::List, "too long")
 }
 
-/// Returns the error of a list that means something else with the columns.
+/// Returns the error of a list that is read as another table or week with the columns.
 pub fn changed_refusal(alloc: Global) -> CliFault
     ensures { Refuses (spec.TellsBack faults.Changed) result }
 {
@@ -31,7 +31,7 @@ pub fn changed_refusal(alloc: Global) -> CliFault
     refuse_words(alloc, Code::ColumnTwice, About::List, words)
 }
 
-/// Returns the error of a list that isn't given back.
+/// Returns the error of a list that can't be printed with the columns.
 pub fn back_refusal(alloc: Global, fault: ListBackFault) -> CliFault
     ensures { Refuses (spec.TellsBack fault) result }
 {
@@ -43,15 +43,15 @@ pub fn back_refusal(alloc: Global, fault: ListBackFault) -> CliFault
     }
 }
 
-// Whether the line of an error says that a text is too long.
+// Whether the line of an error is that of a text that is too long.
 fn is_long(why: &str) -> bool
     ensures { result ≡ bytes_eq why.now (codes "T1 too long") }
 {
     why == "T1 too long"
 }
 
-/// Returns the error of a list that can't be read with the columns. `why` is the line of the error
-/// of its reading.
+/// Returns the error of a list that can't be read with the columns. `why` is the error line of
+/// reading it.
 #[tactic(auto, using(crate::proofs::BackLemmas::long_change, crate::proofs::BackLemmas::meaning_change))]
 pub fn change_refusal(alloc: Global, why: &str) -> CliFault
     ensures { Refuses (spec.TellsChange why.now) result }

@@ -33,7 +33,7 @@ fn days_refusal(alloc: Global, fault: DaysFault) -> CliFault
     }
 }
 
-// Returns the texts of a plan of the week that a list says.
+// Returns the texts of a plan of the week of a list.
 #[tactic(auto, using(crate::proofs::OutputLemmas::dates_told))]
 fn texts_of(
     alloc: Global,
@@ -88,8 +88,8 @@ fn list_for(
 /// Returns the list of a file with the columns of a plan: `start`, `finish`, and `late` for the
 /// goal of the tardiness. The starts and the finishes are instants, or with a calendar days.
 ///
-/// The file is read with `reading`. The list that is returned means the same: read again, it gives
-/// the same table and the same week. The watcher is called during the searches, and can end them.
+/// The file is read with `reading`. If the returned list is read again, it gives the same table and
+/// the same week. The watcher is called during the searches, and can end them.
 /// Errors: those of [`week_text`] and [`plan_weekfile::week_output`], `G3` (a day after
 /// 9999-12-31), `T1` and `T4` (a list that can't have the columns), `T3` (no rows).
 #[tactic(auto, using(crate::proofs::OutputLemmas::text_refused, crate::proofs::OutputLemmas::week_refused, crate::proofs::OutputLemmas::plan_refused, crate::proofs::OutputLemmas::list_refused, crate::proofs::OutputLemmas::list_shown))]

@@ -26,7 +26,7 @@ fn at(list: &[u32], place: usize) -> u32
     if place < list.len() { list[place] } else { 0 }
 }
 
-// Returns the instant at which an activity begins or began in a plan with its start, if known.
+// Returns the instant at which an activity with this start begins or began, if it is known.
 fn begin_of(state: State, start: u32) -> Option<u32>
     ensures { result ≡ week_days.begin_of state start }
 {
@@ -37,7 +37,7 @@ fn begin_of(state: State, start: u32) -> Option<u32>
     }
 }
 
-// Returns the instant at which an activity began, if its row has it.
+// Returns the instant at which an activity began, if its row gives it.
 fn began_in(begun: Beginning) -> Option<u32>
     ensures { result ≡ spec.began_in begun }
 {
@@ -54,7 +54,7 @@ fn has_id(id: &[u8], row: &DatedRow) -> bool
     same(&row.id, id)
 }
 
-// Returns the instant at which the activity with an id began, if its row has it.
+// Returns the instant at which the activity with an id began, if its row gives it.
 fn began_by(id: &[u8], rows: &[DatedRow]) -> Option<u32>
     ensures { result ≡ spec.began_if (find (spec.has_id id.now) (map dated_of rows.now)) }
 {
@@ -66,7 +66,7 @@ fn began_by(id: &[u8], rows: &[DatedRow]) -> Option<u32>
     None
 }
 
-// Returns the instant at which the activity of row `k` began, if the row has it.
+// Returns the instant at which the activity of row `k` began, if the row gives it.
 #[tactic(auto, using(crate::proofs::EntryLemmas::began_inside, crate::proofs::EntryLemmas::began_outside))]
 fn began_at(rows: &[DatedRow], k: usize) -> Option<u32>
     ensures { result ≡ spec.began_if (slice_get (map dated_of rows.now) k) }
@@ -78,7 +78,7 @@ fn began_at(rows: &[DatedRow], k: usize) -> Option<u32>
     }
 }
 
-// Returns the instant at which activity `k` began, if its row has it. If `own`, it has an id.
+// Returns the instant at which activity `k` began, if its row gives it. If `own`, the list has ids.
 fn began_of(own: bool, rows: &[DatedRow], k: usize, id: &[u8]) -> Option<u32>
     ensures { result ≡ spec.began_if (spec.row_for own (map dated_of rows.now) k id.now) }
 {
@@ -99,7 +99,7 @@ fn known_or(begin: Option<u32>, in_row: Option<u32>) -> Option<u32>
     }
 }
 
-// Returns the id of an activity, no text in a list without ids.
+// Returns the id of an activity, or an empty text for a list without ids.
 fn id_of(alloc: Global, own: bool, activity: &Activity) -> Result<String, AllocError>
     ensures { IfOk result (λ id. string_bytes id ≡ spec.id_if own (activity_of activity.now).id) }
 {

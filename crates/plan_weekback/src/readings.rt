@@ -1,4 +1,4 @@
-//! How a file is read as a list with a week.
+//! The reading of a file as a list with a week.
 
 ghost use Rattle.std.specs.Prelude.{◌≡◌, IfErr, IfOk};
 ghost use Rattle.plan_errors.specs.Output.{Refuses};
@@ -12,7 +12,7 @@ use plan_weeklist::ListedWeek;
 use plan_weekview::list_of_instants;
 use std::alloc::Global;
 
-/// How a file is read as a list with a week.
+/// The options and the calendar with which a file is read as a list with a week.
 #[derive(Clone, Copy, Drop)]
 pub struct WeekReading<'a> {
     /// The options of lists (`--map`, `--ignore`, `--unit`), if there are any.
@@ -30,7 +30,7 @@ pub struct WeekText {
 }
 
 impl WeekText {
-    /// Returns the text that is read. `file` are the bytes of the file.
+    /// Returns the text that is read. `file` holds the bytes of the file.
     pub fn text<'b>(&'b self, file: &'b [u8]) -> &'b [u8]
         ensures { result.now ≡ spec.text_of self.now file.now }
     {
@@ -61,7 +61,7 @@ fn dated_by(
 }
 
 /// Returns the text that is read in place of a file. Errors: `T3` (no column has the header of an
-/// option), `T20` (no date), `T21` (begun or done before the first date), `T1`.
+/// option), `T20` (not a date), `T21` (begun or done before the first date), `T1` (too long).
 #[tactic(auto, using(crate::proofs::ReadingLemmas::text_read, crate::proofs::ReadingLemmas::file_refused, crate::proofs::ReadingLemmas::dates_refused))]
 pub fn week_text(
     alloc: Global,

@@ -1,4 +1,4 @@
-//! Lists with the same table and the same week.
+//! The comparison of two lists: whether they have the same table and the same week.
 
 ghost use Rattle.std.specs.Prelude.{◌≡◌, bytes_eq, map, IsFalse, IsTrue};
 ghost use Rattle.std.specs.Cmp.Lexicographic.{pointwise};
@@ -310,7 +310,7 @@ fn same_week(a: &Week, b: &Week) -> bool
         && a.today == b.today
 }
 
-// Whether two lists are the same by the tests.
+// Whether two lists pass the tests for the same table and the same week.
 fn compared(a: &ListedWeek, b: &ListedWeek) -> bool
     ensures { result ≡ tests.same_list a.now b.now }
 {

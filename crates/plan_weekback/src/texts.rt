@@ -20,7 +20,7 @@ fn day_text(alloc: Global, calendar: &Calendar, t: u64) -> Result<String, DaysFa
     }
 }
 
-// Returns the digits of an instant, if it is known.
+// Returns the digits of an instant, or an empty text if it isn't known.
 fn instant_text(alloc: Global, t: Option<u32>) -> Result<String, AllocError>
     ensures { IfOk result (λ text. string_bytes text ≡ spec.instant_text t) }
 {
@@ -30,7 +30,7 @@ fn instant_text(alloc: Global, t: Option<u32>) -> Result<String, AllocError>
     }
 }
 
-// Returns the day of a begin; no text if it isn't known, or if the activity takes no time.
+// Returns the day of a begin, or an empty text if it isn't known or the activity takes no time.
 fn first_text(
     alloc: Global,
     calendar: &Calendar,
@@ -58,7 +58,7 @@ fn takes_time(begin: Option<u32>, ends: u64) -> bool
     }
 }
 
-// Returns the day of the last instant before an end; no text if the activity takes no time.
+// Returns the day of the last instant before an end. It is empty if the activity takes no time.
 fn last_text(
     alloc: Global,
     calendar: &Calendar,
@@ -96,7 +96,7 @@ pub fn start_text(
 }
 
 /// Returns the text of a finish: the instant, or with a calendar the day of the last instant before
-/// it. `begin` is when the activity begins or began, if the plan says so.
+/// it. `begin` is the instant at which the activity begins or began, if the plan gives it.
 pub fn finish_text(
     alloc: Global,
     calendar: Option<&Calendar>,

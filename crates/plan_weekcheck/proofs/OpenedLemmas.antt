@@ -6,14 +6,14 @@ use Rattle.plan_week.specs.declared.week.Week.{Week}
 use Rattle.plan_week.specs.Weeks.{state_of, is_open}
 use Rattle.plan_weekcheck.specs.Opened.{open_from, settled_from}
 
--- what is left begins with an activity that is open
+-- the activities from place k on begin with one that is open
 pub open_next : {X : Type 0} (week : Week) (k : ℕ) (all : List X) (d : X) → k < length all → is_open (state_of week k) ≡ true
     → open_from week k (drop k all) ≡ get_or all k d ∷ open_from week (k + 1) (drop (k + 1) all)
 open_next {X} week k all d inside is =
     ap (λ (xs : List X). open_from week k xs) (drop_more all k d inside)
     ∙ cond-true (is_open (state_of week k)) (get_or all k d ∷ open_from week (k + 1) (drop (k + 1) all)) (open_from week (k + 1) (drop (k + 1) all)) is
 
--- with another one
+-- the activities from place k on begin with one that isn't open
 pub open_passed : {X : Type 0} (week : Week) (k : ℕ) (all : List X) (d : X) → k < length all → is_open (state_of week k) ≡ false
     → open_from week k (drop k all) ≡ open_from week (k + 1) (drop (k + 1) all)
 open_passed {X} week k all d inside is =

@@ -61,7 +61,7 @@ pub tells_starts : (listed : ListedWeek) (durations text : List ℕ) (e : CliFau
 tells_starts listed durations text e told =
     refuses_as (TellsNoStarts (open_sheet listed durations) (open_text listed text)) (TellsNoOpen listed durations text) e (λ line tells. inr tells) told
 
--- the starts in a text, by the sheet and the text that the program has
+-- the starts in a text, by the sheet and the text in the program
 pub said_open : (listed : ListedWeek) (durations text kept : List ℕ) (net : Net) (ids : List Name) (all starts : List ℕ)
     → net ≡ network_of durations → ids ≡ open_ids listed.week (activities_of listed) → kept ≡ open_text listed text
     → SaysStarts (id_sheet ids net) kept all → starts ≡ inner all → SaysOpen listed durations text starts
@@ -73,7 +73,7 @@ said_open listed durations text kept net ids all starts same_net same_ids same_t
   is,
 )
 
--- and its error
+-- the error of the starts in a text
 pub told_open : (listed : ListedWeek) (durations text kept : List ℕ) (net : Net) (ids : List Name) (error : ReadError) (e : CliFault)
     → net ≡ network_of durations → ids ≡ open_ids listed.week (activities_of listed) → kept ≡ open_text listed text
     → Fails error (starts_in (id_sheet ids net) kept) → IsStartsError error e → Refuses (TellsNoOpen listed durations text) e

@@ -27,27 +27,27 @@ is_id_head (first ∷ second ∷ rest) =
     bytes_eq first (codes "id") && bytes_eq second (codes "d")
 is_id_head _ = false
 
--- the line with the names of the columns
+-- cells are those of the line with the names of the columns
 abbrev pub is_head : List (List ℕ) → List (List ℕ) → Bool
 is_head words fields = is_id_head words || is_id_head fields
 
 abbrev pub is_head_line : List ℕ → Bool
 is_head_line line = is_head (words line) (slice_split is_separator line)
 
--- the line with the tardiness: `tardiness optimal N` or `tardiness between N M`
+-- words are those of the line with the tardiness: `tardiness optimal N`, `tardiness between N M`
 abbrev pub is_tardiness : List (List ℕ) → Bool
 is_tardiness (first ∷ second ∷ rest) =
     bytes_eq first (codes "tardiness")
     && (bytes_eq second (codes "optimal") || bytes_eq second (codes "between"))
 is_tardiness _ = false
 
--- the line with the number of activities that are late: `late N of M`
+-- words are those of the line with the number of activities that are late: `late N of M`
 abbrev pub is_late : List (List ℕ) → Bool
 is_late (first ∷ second ∷ third ∷ rest) =
     bytes_eq first (codes "late") && bytes_eq third (codes "of")
 is_late _ = false
 
--- the lines that aren't kept
+-- a line isn't kept
 abbrev pub is_left_out_by : List (List ℕ) → List (List ℕ) → List (List ℕ) → Bool
 is_left_out_by ids words fields =
     if is_head words fields then false
@@ -56,14 +56,14 @@ is_left_out_by ids words fields =
 abbrev pub is_left_out : List (List ℕ) → List ℕ → Bool
 is_left_out ids line = is_left_out_by ids (words line) (slice_split is_separator line)
 
--- a line, empty if it isn't kept, so that the numbers of the others stay
+-- a line, or an empty line if it isn't kept, so that the other lines keep their numbers
 abbrev pub kept_line : List (List ℕ) → List ℕ → List ℕ
 kept_line ids line = (if is_left_out ids line then [] else line) ++ 10 ∷ []
 
 abbrev pub kept_lines : List (List ℕ) → List NumberedLine → List ℕ
 kept_lines ids all = flat_map (λ line. kept_line ids line.text) all
 
--- a line has the names of the columns
+-- some line has the names of the columns
 abbrev pub has_head : List NumberedLine → Bool
 has_head all = list_any (λ line. is_head_line line.text) all
 
@@ -71,7 +71,7 @@ has_head all = list_any (λ line. is_head_line line.text) all
 abbrev pub is_table : List ℕ → Bool
 is_table text = is_short text && has_head (lines (without_mark text))
 
--- a table with ids loses lines; any other text stays, and so does one that is too long to be read
+-- the kept lines of a table with ids; any other text, and one too long to be read, is unchanged
 abbrev pub kept_text : List (List ℕ) → List ℕ → List ℕ
 kept_text ids text =
     if is_table text then kept_lines ids (lines (without_mark text)) else text

@@ -22,14 +22,14 @@ sentence_text (Some format) sentence = format_text format (verdict_view_of sente
 abbrev pub verdict_text : Option Format → ListedWeek → WeekVerdict → List ℕ
 verdict_text format listed verdict = sentence_text format (sentence_of listed verdict)
 
--- The verdict on the starts in a text, for the activities that are open. Begun and done activities
--- are where their states say.
+-- The verdict on the starts in a text, which are those of the activities that are open. The starts
+-- of the other activities follow from their states.
 abbrev pub IsVerdictOn : ListedWeek → List ℕ → WeekVerdict → Type 0
 IsVerdictOn listed starts verdict =
     (given : List ℕ) × (all : List ℕ) × SaysOpenStarts listed starts given
     × AreAllStarts listed.week given all × IsWeekVerdict listed.week all verdict
 
--- an output shows the verdict on the starts in a text, for the week that a list says
+-- an output shows the verdict on the starts in a text, for the week of a list
 pub record ShowsOf (order : WeekOrder) (starts text : List ℕ) (listed : ListedWeek)
     (verdict : WeekVerdict) (output : List ℕ) : Type 0 where
   pub week : IsWeekWith order.capacities.now order.today text listed
@@ -40,7 +40,7 @@ abbrev pub ShowsVerdict : WeekOrder → List ℕ → List ℕ → WeekVerdict �
 ShowsVerdict order starts text verdict output =
     (listed : ListedWeek) × ShowsOf order starts text listed verdict output
 
--- a line gives the reason why there is no verdict: an error of the list, or of the starts
+-- a list has a week, and a line gives the error of the starts for it
 abbrev pub TellsNoVerdict : WeekOrder → List ℕ → List ℕ → List ℕ → Type 0
 TellsNoVerdict order starts text line =
     (listed : ListedWeek) × IsWeekWith order.capacities.now order.today text listed

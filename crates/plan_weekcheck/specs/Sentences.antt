@@ -1,4 +1,4 @@
--- Verdicts on starts of a week in sentences with the ids and the names of its list.
+-- Verdicts on starts of a week, as sentences with the ids and the names of its list.
 use Rattle.std.specs.Prelude.{ℕ, ◌+◌, ◌==◌, if◌then◌else◌, List, [], ◌∷◌, ◌++◌, Option, Some, None}
 use Rattle.std.specs.Prelude.{codes, length, option_map, slice_get}
 use Rattle.std.specs.Fmt.{decimal}
@@ -21,7 +21,7 @@ called a = if length a.name == 0 then a.id else a.id ++ codes " " ++ a.name
 abbrev pub label_at : List Activity → ℕ → Option (List ℕ)
 label_at activities place = option_map called (slice_get activities place)
 
--- how an activity misses its dates
+-- the way in which an activity misses its dates
 abbrev pub miss_text : Miss → List ℕ
 miss_text (misses.Past day) = codes " starts before --now " ++ decimal day
 miss_text (misses.Early date) = codes " starts before its earliest start " ++ decimal date
@@ -37,11 +37,11 @@ abbrev pub broken_text : List Activity → ℕ → ℕ → List ℕ
 broken_text activities i j =
     labelled_broken_text (i + 2) (label_at activities i) (j + 2) (label_at activities j)
 
--- the name of a resource, an empty one if there is none
+-- the name of the resource at a place, or an empty name if there is none
 abbrev pub name_at : List Resource → ℕ → List ℕ
 name_at resources k = lines.name_at resources k
 
--- more of a resource is needed and absent at an instant than there is
+-- needs and absences of a resource at an instant together are above its capacity
 abbrev pub over_text : List Resource → Overload → List ℕ
 over_text resources o =
     codes "at time " ++ decimal o.instant ++ codes " more of " ++ name_at resources o.resource

@@ -1,4 +1,4 @@
--- The starts in a text of the activities of a week that are open.
+-- The starts that a text gives for the activities of a week that are open.
 use Rattle.std.specs.Prelude.{◌≡◌, ◌⊎◌, ℕ, ◌-◌, List, [], ◌∷◌, codes, drop, length, take}
 use Rattle.plan_documents.specs.Starts.{TellsNoStarts}
 use Rattle.plan_net.specs.Network.{Net, unlagged}
@@ -27,7 +27,7 @@ abbrev pub open_sheet : ListedWeek → List ℕ → Sheet
 open_sheet listed durations =
     id_sheet (open_ids listed.week (activities_of listed)) (network_of durations)
 
--- a table without the rows of what has begun or is done
+-- a table without the rows of activities that have begun or are done
 abbrev pub open_text : ListedWeek → List ℕ → List ℕ
 open_text listed text = kept_text (settled_ids listed.week (activities_of listed)) text
 
@@ -41,7 +41,7 @@ SaysOpen listed durations text starts =
     (all : List ℕ) × SaysStarts (open_sheet listed durations) (open_text listed text) all
     × (starts ≡ inner all)
 
--- the text isn't read if none is open
+-- the same; if no activity is open, the text isn't read
 abbrev pub SaysFor : ListedWeek → List ℕ → List ℕ → List ℕ → Type 0
 SaysFor listed [] text starts = starts ≡ []
 SaysFor listed (first ∷ more) text starts = SaysOpen listed (first ∷ more) text starts
@@ -55,7 +55,7 @@ SaysOpenStarts listed = SaysFor listed (open_durations listed.week)
 abbrev pub limit_line : List ℕ
 limit_line = codes "T12 limit line 0"
 
--- a line gives an error of a network, which isn't that of memory
+-- a line gives an error of a network other than that of memory
 abbrev pub TellsLimit : NetFault → List ℕ → Type 0
 TellsLimit net.NoMemory line = ⊥
 TellsLimit fault line = line ≡ limit_line

@@ -1,4 +1,4 @@
-//! The lines and the cells of a table, and whether a line is a row of an activity.
+//! The cells of a line of a table, and the kind of the line by its cells.
 
 ghost use Rattle.std.specs.Prelude.{◌≡◌, ◌++◌, IfOk, OnOk, map};
 ghost use Rattle.std.specs.List.{flat_map, slice_split};
@@ -34,7 +34,7 @@ pub(crate) fn words_of(alloc: Global, line: &[u8]) -> Result<Vec<&[u8]>, AllocEr
     Ok(cells)
 }
 
-/// Returns the text of a line between commas or semicolons.
+/// Returns the fields of a line, which commas or semicolons separate.
 pub(crate) fn fields_of(alloc: Global, line: &[u8]) -> Result<Vec<&[u8]>, AllocError>
     ensures { IfOk result (λ cells. cells_of cells.items ≡ slice_split starts.is_separator line.now) }
 {
@@ -42,7 +42,7 @@ pub(crate) fn fields_of(alloc: Global, line: &[u8]) -> Result<Vec<&[u8]>, AllocE
         .collect(alloc)
 }
 
-// Appends an id, each quote in it twice.
+// Appends an id with each of its quotes doubled.
 fn push_doubled(text: &mut Vec<u8>, id: &[u8]) -> Result<(), AllocError>
     ensures { OnOk result (text.new.items ≡ text.old.items ++ flat_map rows.doubled id.now) }
 {

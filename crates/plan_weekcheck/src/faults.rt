@@ -37,14 +37,14 @@ fn code_of(code: FileCode) -> Code
     }
 }
 
-// Returns the line of an error.
+// Returns the line number of an error.
 fn line_parts(alloc: Global, line: u64) -> Result<Vec<Part>, AllocError>
     ensures { IfOk result (λ list. parts_text list.items ≡ codes " line " ++ decimal line) }
 {
     Ok(Vec::from_array(alloc, [Part::Number(Key::Line, line)])?)
 }
 
-// Returns the line of the error of a cycle, and its activities.
+// Returns the line number of the error of a cycle, and the activities of the cycle.
 fn cycle_parts(alloc: Global, line: u64, cycle: &[u32]) -> Result<Vec<Part>, AllocError>
     ensures { IfOk result (λ list.
         parts_text list.items ≡ places.place_by FileCode.Cycle line cycle.now) }
@@ -94,7 +94,7 @@ pub(crate) fn read_refusal(alloc: Global, error: ReadError) -> CliFault
     starts_refusal(alloc, &FileFault::of(alloc, error))
 }
 
-// Returns words and line 0, which is the whole list.
+// Returns the parts of the error of a limit. Line 0 stands for the whole list.
 fn limit_parts(alloc: Global) -> Result<Vec<Part>, AllocError>
     ensures { IfOk result (λ list.
         name_of Code.TableLimit ++ parts_text list.items ≡ spec.limit_line) }

@@ -23,7 +23,7 @@ fn is_left_out(alloc: Global, ids: &[&[u8]], line: &[u8]) -> Result<bool, AllocE
     Ok(is_tardiness(&words) || is_late(&words) || is_row_among(alloc, ids, &words, &fields)?)
 }
 
-// Appends a line, empty if it isn't kept.
+// Appends a line, or an empty line if it isn't kept.
 fn push_line(
     alloc: Global,
     text: &mut Vec<u8>,
@@ -87,7 +87,7 @@ fn is_table(alloc: Global, text: &[u8]) -> Result<bool, AllocError>
 }
 
 /// Returns a table without the rows of activities with these ids, and without the lines about
-/// tardiness. The numbers of the other lines stay. A text that is no table with ids stays.
+/// tardiness. The other lines keep their numbers. A text that isn't a table with ids is unchanged.
 pub(crate) fn kept_text(alloc: Global, ids: &[&[u8]], text: &[u8]) -> Result<Vec<u8>, AllocError>
     ensures { IfOk result (λ kept.
         kept.items ≡ spec.kept_text (map (λ id. id.now) ids.now) text.now) }

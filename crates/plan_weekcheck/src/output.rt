@@ -22,7 +22,7 @@ pub struct CheckedWeek {
     pub verdict: WeekVerdict,
 }
 
-// Returns the text of a sentence: with a format as CSV or JSON.
+// Returns the text of a sentence, as CSV or JSON if a format is given.
 fn sentence_text(
     alloc: Global,
     format: Option<Format>,
@@ -61,9 +61,9 @@ fn verdict_text(
     sentence_text(alloc, format, sentence.as_str())
 }
 
-/// Returns the text of a check of a list with dates, and its verdict. Starts are those of the
-/// activities that have neither begun nor ended; rows of others are ignored. Errors: those of the
-/// list, then `S8` (no such resource), `T12` (durations above a limit), and those of the starts.
+/// Returns the text of a check of a list with dates, and its verdict. The starts are those of the
+/// activities that have neither begun nor ended. Rows of other activities are ignored. Errors:
+/// those of the list, `S8` (no such resource), `T12` (durations above a limit), and of the starts.
 #[tactic(auto, using(crate::proofs::OutputLemmas::no_week, crate::proofs::OutputLemmas::no_starts, crate::proofs::OutputLemmas::shown_check))]
 pub fn checked_week(
     alloc: Global,

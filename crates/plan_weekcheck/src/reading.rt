@@ -1,4 +1,4 @@
-//! The starts in a text of the activities that are open.
+//! The starts that a text gives for the activities that are open.
 
 ghost use Rattle.std.specs.Prelude.{◌≡◌, All, IfErr, IfOk};
 ghost use Rattle.plan_errors.specs.Output.{Refuses};
@@ -44,7 +44,7 @@ fn inner(alloc: Global, all: &[u64]) -> Result<Vec<u32>, AllocError>
     Ok(starts)
 }
 
-// Returns the table of starts without the rows of what has begun or is done.
+// Returns the table of starts without the rows of activities that have begun or are done.
 fn open_text(alloc: Global, listed: &ListedWeek, text: &[u8]) -> Result<Vec<u8>, AllocError>
     ensures { IfOk result (λ kept. kept.items ≡ spec.open_text listed.now text.now) }
 {
@@ -75,7 +75,7 @@ fn read_open(
 }
 
 /// Reads the starts of the activities that are open, one after another. If none is open, the text
-/// isn't read. Errors: `T12` (a limit), and those of a text of starts.
+/// isn't read. Errors: `T12` (durations above a limit), and those of a text of starts.
 #[tactic(auto, using(crate::proofs::StartLemmas::says_some, crate::proofs::StartLemmas::says_none, crate::proofs::StartLemmas::tells_some))]
 pub fn read_open_starts(
     alloc: Global,

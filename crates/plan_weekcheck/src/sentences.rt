@@ -1,4 +1,4 @@
-//! The verdict on starts of a week in a sentence with the ids and the names of the list.
+//! The verdict on starts of a week, as a sentence with the ids and the names of the list.
 
 ghost use Rattle.std.specs.Prelude.{◌≡◌, ◌++◌, IfOk, OnOk, codes, map, option_map};
 ghost use Rattle.std.specs.Prelude.{string_bytes};
@@ -82,7 +82,7 @@ fn push_predecessor(
     }
 }
 
-// Appends how an activity misses its dates.
+// Appends the way in which an activity misses its dates.
 fn push_miss(text: &mut String, miss: Miss) -> Result<(), AllocError>
     ensures { OnOk result (string_bytes text.new ≡ string_bytes text.old ++ spec.miss_text miss) }
 {
@@ -95,7 +95,7 @@ fn push_miss(text: &mut String, miss: Miss) -> Result<(), AllocError>
     }
 }
 
-// Returns the sentence that an activity misses its dates.
+// Returns the sentence for an activity that misses its dates.
 fn misplaced(
     alloc: Global,
     activities: &[Activity],
@@ -112,7 +112,7 @@ fn misplaced(
     Ok(text)
 }
 
-// Returns the sentence that an activity starts before its predecessor ends, both with their labels.
+// Returns the sentence for an activity that starts before its predecessor ends, by their labels.
 fn labelled_broken(
     alloc: Global,
     activity: u64,
@@ -132,7 +132,7 @@ fn labelled_broken(
     Ok(text)
 }
 
-// Returns the sentence that an activity starts before a predecessor ends.
+// Returns the sentence for an activity that starts before a predecessor ends.
 fn broken(
     alloc: Global,
     activities: &[Activity],
@@ -153,7 +153,7 @@ fn broken(
     )
 }
 
-// Returns the name of a resource, an empty one if there is none.
+// Returns the name of the resource at a place, or an empty name if there is none.
 fn resource_name(resources: &[Resource], place: usize) -> &str
     ensures { result.now ≡ spec.name_at (map resource_of resources.now) place }
 {
@@ -163,7 +163,7 @@ fn resource_name(resources: &[Resource], place: usize) -> &str
     }
 }
 
-// Returns the sentence of an overload.
+// Returns the sentence for an overload.
 fn overloaded(
     alloc: Global,
     resources: &[Resource],
@@ -180,8 +180,8 @@ fn overloaded(
     Ok(text)
 }
 
-/// Returns the sentence of a verdict on starts of the week of a list. Activities have their ids and
-/// names, resources their names.
+/// Returns the sentence of a verdict on starts of the week of a list. It contains the ids and names
+/// of activities, and the names of resources.
 pub(crate) fn sentence_of(
     alloc: Global,
     listed: &ListedWeek,

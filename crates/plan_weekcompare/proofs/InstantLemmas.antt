@@ -133,7 +133,7 @@ pushed_early : (rows : List DatedRow) (row : DatedRow) → AreEarlyRows rows →
 pushed_early [] row early also = (also, tt)
 pushed_early (first ∷ rows) row early also = (early.0, pushed_early rows row early.1 also)
 
--- a row, by what it is
+-- a row, by its kind: passed, an absence or an activity
 row_by : (today : Option ℕ) (columns : Columns) (heads : List Head) (read more : WeekRows) (row : Row) (passed absence : Bool)
     → (if passed then Ok read else if absence then (absence_read columns heads row >>= λ a. Ok (with_absence read a))
     else dated_read today columns row >>= λ dated. Ok (with_row read dated)) ≡ Ok more

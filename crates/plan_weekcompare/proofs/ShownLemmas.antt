@@ -6,7 +6,7 @@ use Rattle.plan_table.specs.declared.table.Activity as declared
 use Rattle.plan_week.specs.declared.week.Week.{Week}
 use Rattle.plan_weekcompare.specs.Shown.{shown_at, shown_from, shown_row}
 
--- what is left begins with an activity
+-- the rows from place k on begin with that of activity k
 next : (week : Week) (starts : List ℕ) (k : ℕ) (all : List declared.Activity) (d : declared.Activity) → k < length all
     → shown_from week starts k (map activity_of (drop k all))
     ≡ shown_row (activity_of (get_or all k d)).id (shown_at week starts k) ++ shown_from week starts (k + 1) (map activity_of (drop (k + 1) all))

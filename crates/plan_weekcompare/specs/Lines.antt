@@ -12,7 +12,7 @@ use Rattle.plan_weekcompare.specs.declared.faults.Side.TheVariants as side
 abbrev pub named_line : List ℕ → List ℕ → List ℕ
 named_line words line = line ++ codes " " ++ words
 
--- the line of an error of a list; that of the old list says so
+-- the line of an error of a list; that of the old list names it
 abbrev pub list_line : Side → List ℕ → List ℕ
 list_line side.Old line = named_line (codes "of the old list") line
 list_line side.New line = line
@@ -29,11 +29,11 @@ starts_line which line =
     if bytes_eq line limit_line then list_line which line
     else named_line (schedule_of which) line
 
--- a line shows a line of some kind this way
+-- a line is the view of a line of some kind
 abbrev pub IsLineAs : (List ℕ → List ℕ) → (List ℕ → Type 0) → List ℕ → Type 0
 IsLineAs view IsLine line = (plain : List ℕ) × IsLine plain × (line ≡ view plain)
 
--- the same for an error: only a line is shown in another way, and memory can run out for it
+-- the same for an error: only its line changes, and memory can run out for the new line
 abbrev pub IsShownAs : (List ℕ → List ℕ) → CliFault → CliFault → Type 0
 IsShownAs view (fault.Refused refusal) shown =
     Refuses (λ told. told ≡ view (refusal_line refusal)) shown

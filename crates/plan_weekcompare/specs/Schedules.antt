@@ -11,7 +11,7 @@ use Rattle.plan_weekfile.specs.Weeks.{IsWeekWith, TellsNoWeek}
 use Rattle.plan_weeklist.specs.declared.listed.ListedWeek.{ListedWeek}
 use Rattle.plan_weekverdict.specs.Starts.{AreAllStarts}
 
--- the week that a list with a column of ids says
+-- the week of a list with a column of ids
 pub record IsNamedWeek (order : WeekOrder) (text : List ℕ) (listed : ListedWeek) : Type 0 where
   pub week : IsWeekWith order.capacities.now order.today text listed
   pub named : listed.table.own_ids ≡ true
@@ -34,7 +34,7 @@ pub record IsSchedule (order : WeekOrder) (given : ScheduledList) (schedule : Li
 
 -- ---- errors
 
--- a line says that a list has no column of ids
+-- a line reports that a list has no column of ids
 abbrev pub TellsNoIds : ListedWeek → List ℕ → Type 0
 TellsNoIds listed line =
     (listed.table.own_ids ≡ false) × (line ≡ codes "T3 no column id")
@@ -45,7 +45,7 @@ TellsNoNames order text line =
     (listed : ListedWeek) × IsWeekWith order.capacities.now order.today text listed
     × TellsNoIds listed line
 
--- a line gives the first check that a list fails, whose file it doesn't name
+-- a line gives the first check that a list fails; the line doesn't name the list
 abbrev pub TellsNoNamedWeek : WeekOrder → List ℕ → List ℕ → Type 0
 TellsNoNamedWeek order text line =
     TellsNoWeek order.capacities.now order.today text line ⊎ TellsNoNames order text line

@@ -17,7 +17,7 @@ abbrev pub start_in : Cell → Option ℕ
 start_in (number n) = Some n
 start_in _ = None
 
--- the start that the table of a plan shows for the activity at a place; none for what is done
+-- the start that the table of a plan shows for the activity at a place; none if it is done
 abbrev pub shown_at : Week → List ℕ → ℕ → Option ℕ
 shown_at week starts k = start_in (start_cell (state_of week k) (get_or starts k 0))
 
@@ -26,13 +26,13 @@ abbrev pub shown_row : List ℕ → Option ℕ → List IdStart
 shown_row id None = []
 shown_row id (Some start) = record { id = id; start = start } ∷ []
 
--- those of some activities, of which the first one has the place k
+-- the shown rows of some activities; the first activity has the place k
 abbrev pub shown_from : Week → List ℕ → ℕ → List Activity → List IdStart
 shown_from week starts k [] = []
 shown_from week starts k (a ∷ others) =
     shown_row a.id (shown_at week starts k) ++ shown_from week starts (k + 1) others
 
--- those of the activities of the week of a list, which start then
+-- the shown rows of the activities of the week of a list, for these starts
 abbrev pub shown_starts : ListedWeek → List ℕ → List IdStart
 shown_starts listed starts =
     shown_from listed.week starts 0 (planned listed.week listed.table.activities)

@@ -16,7 +16,7 @@ pub(crate) enum Side {
     New,
 }
 
-// Returns an error with words behind its line. It is about this argument.
+// Returns an error with words behind its line. Its hint names the argument `about`.
 #[tactic(auto, using(crate::proofs::LineLemmas::named_parts))]
 fn named_refusal(mut refusal: Refusal, words: &'static str, about: About) -> CliFault
     ensures told { Refuses
@@ -30,7 +30,7 @@ fn named_refusal(mut refusal: Refusal, words: &'static str, about: About) -> Cli
     CliFault::Refused(refusal)
 }
 
-// Returns the error of a list. That of the old list says so.
+// Returns the error of a list. The line of the old list ends with `of the old list`.
 fn list_refusal(refusal: Refusal, side: Side) -> CliFault
     ensures { Refuses (λ told. told ≡ spec.list_line side (refusal_line refusal)) result }
 {
@@ -40,7 +40,7 @@ fn list_refusal(refusal: Refusal, side: Side) -> CliFault
     }
 }
 
-// Returns the error of the starts of a schedule: A is that of the old list, B that of the new one.
+// Returns the error of the starts of a schedule: `A` for the old list, `B` for the new one.
 fn schedule_refusal(refusal: Refusal, side: Side) -> CliFault
     ensures { Refuses
         (λ told. told ≡ spec.named_line (spec.schedule_of side) (refusal_line refusal)) result }
@@ -70,7 +70,7 @@ fn starts_refusal(alloc: Global, refusal: Refusal, side: Side) -> CliFault
     }
 }
 
-/// Returns the error of a list. That of the old list says so.
+/// Returns the error of a list. The line of the old list ends with `of the old list`.
 pub(crate) fn list_fault(fault: CliFault, side: Side) -> CliFault
     ensures { spec.IsShownAs (spec.list_line side) fault result }
 {

@@ -15,7 +15,7 @@ use plan_views::id_comparison_view;
 use plan_weekfile::WeekOrder;
 use std::alloc::{AllocError, Global};
 
-// Returns the text of the comparison of two schedules: with a format as CSV or JSON.
+// Returns the text of the comparison of two schedules, as CSV or JSON if a format is given.
 fn rows_text(
     alloc: Global,
     format: Option<Format>,
@@ -52,13 +52,13 @@ fn weeks_text(
 
 /// Returns the text of the comparison of two lists with dates by the ids of their activities. A row
 /// has the id, the old start, the new start and the shift. Begun work has the instant at which it
-/// began, and done work has no row. Below the rows are how many activities moved, and the ids that
-/// were added and removed. Both lists are read with the capacities of the order, from its `today`
-/// on.
+/// began. Done work counts as missing, so work done since the old list is removed. The number of
+/// activities that moved, and the ids that were added and removed, follow the rows. Both lists are
+/// read with the capacities of the order, from its `today` on.
 ///
-/// Errors: those of the old list, then `T3` (no ids), then `T12` (durations above a limit) or those
-/// of its starts, then the same for the new list. An error of the old list ends with
-/// `of the old list`, one of starts with `A` or `B`.
+/// Errors of the old list, in this order: those of the list, `T3` (no ids), `T12` (durations above
+/// a limit), and those of its starts. The same errors of the new list follow. An error of the old
+/// list ends with `of the old list`, one of starts with `A` or `B`.
 #[tactic(auto, using(crate::proofs::OutputLemmas::no_old, crate::proofs::OutputLemmas::no_new))]
 pub fn compared_weeks(
     alloc: Global,

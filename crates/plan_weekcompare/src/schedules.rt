@@ -44,7 +44,7 @@ impl<'a> WeekSchedule<'a> {
         Ok(())
     }
 
-    /// Returns it as a value of plan_views.
+    /// Returns the schedule as a value of plan_views.
     pub fn by_ids(&self) -> IdSchedule<'_>
         ensures ids { map name_of result.ids.now ≡ map name_of self.now.ids.items }
         ensures starts { result.starts.now ≡ self.now.starts.items }

@@ -19,7 +19,7 @@ fn at(list: &[u32], place: usize) -> u32
     if place < list.len() { list[place] } else { 0 }
 }
 
-// Returns the start of an activity as `plan solve` shows it. That of a done activity is unknown.
+// Returns the start of an activity as `plan solve` shows it. A done activity has none.
 fn shown_start(state: State, start: u32) -> Option<u64>
     ensures { result ≡ spec.start_in (start_cell state start) }
 {
@@ -30,7 +30,7 @@ fn shown_start(state: State, start: u32) -> Option<u64>
     }
 }
 
-// Returns those of some activities that aren't done, with the starts that `plan solve` shows.
+// Returns the ones of some activities that aren't done, with the starts that `plan solve` shows.
 #[tactic(auto, using(crate::proofs::ShownLemmas::next_shown, crate::proofs::ShownLemmas::next_hidden))]
 fn schedule_of<'a>(
     alloc: Global,
@@ -52,7 +52,7 @@ fn schedule_of<'a>(
 }
 
 /// Returns the activities of a week that aren't done, with the starts that `plan solve` shows: the
-/// start of what is open, and the instant at which begun work began.
+/// start of an open activity, and the instant at which begun work began.
 pub(crate) fn week_schedule<'a>(
     alloc: Global,
     listed: &'a ListedWeek,

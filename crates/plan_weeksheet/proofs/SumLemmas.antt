@@ -16,7 +16,7 @@ lasts_seen (r ∷ rs) =
     let right = sum_by-cons (λ (x : declared.Rectangle). x.lasts) r rs in
     omega (arith, rest, left, right)
 
--- what is left of a limit behind the durations so far is less than the next one
+-- the rest of a limit behind the durations so far is less than the next duration
 pub above_all : (rs : List declared.Rectangle) (k rest limit : ℕ) (r : declared.Rectangle) → k < length rs → r ≡ get_or rs k r
     → rest + sum_by (λ (x : Rectangle). x.lasts) (map rectangle_of (take k rs)) ≡ limit → rest < r.lasts
     → nat_le (sum_by (λ (x : Rectangle). x.lasts) (map rectangle_of rs)) limit ≡ false

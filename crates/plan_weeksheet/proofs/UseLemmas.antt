@@ -26,7 +26,7 @@ use Rattle.plan_weeksheet.proofs.StepLemmas.{range_more}
 
 -- ---- sums
 
--- what one rectangle takes
+-- the sum over one rectangle
 alone : (f : Rectangle → ℕ) (r : Rectangle) → sum_by f (r ∷ []) ≡ f r
 alone f r =
     let first = sum_by-cons f r [] in
@@ -50,7 +50,7 @@ sums_total f g h (suc n) each =
 
 -- ---- activities
 
--- an activity takes as much from an earlier instant on, if that is over
+-- at an instant from its start on, an activity takes as much from an earlier begin on
 same_taken : (from start t ends a : ℕ) → from ≤ start → start ≤ ends → (start ≤ t) ⊎ (from ≡ start)
     → cond (nat_le from t && nat_lt t (from + (ends - from))) a 0 ≡ cond (nat_le start t && nat_lt t ends) a 0
 same_taken from start t ends a early late (inl over) =
@@ -115,7 +115,7 @@ same_part from until m t before = by_begin (cases_lt t from)
         and_left (nat_le from t) _ (lt-leb from t early) ∙ sym (and_left (nat_le from t) (nat_lt t until) (lt-leb from t early))
     by_begin (inr begun) = ap (λ b. nat_le from t && b) (by_end begun (cases_lt t until))
 
--- numbers are compared in any order
+-- the order of compared numbers doesn't matter
 same_eq : (a b : ℕ) → nat_eq a b ≡ nat_eq b a
 same_eq a b = by_case (cases_eq a b)
   where

@@ -17,7 +17,7 @@ use Rattle.plan_weeksheet.specs.Pages.{IsPage, IsPageOf, TellsBeyond, TellsNoPag
 use Rattle.plan_weeksheet.specs.Rectangles.{Rectangle}
 use Rattle.plan_weeksheet.proofs.FitLemmas.{needs_fit, starts_count, starts_small}
 
--- what is within the limits
+-- the numbers and the sizes of rectangles within the limits
 pub few_within : (capacities : List ℕ) (rs : List Rectangle) (makespan : ℕ) → is_within capacities rs makespan ≡ true → are_few capacities rs ≡ true
 few_within capacities rs makespan is = (and_parts (are_few capacities rs) _ is).0
 
@@ -34,7 +34,7 @@ pub record AreDrawn (capacities : List ℕ) (rs : List Rectangle) (makespan : �
 abbrev Holds : (Project → List ℕ → List ℕ → Type 0) → List ℕ → List Rectangle → ℕ → Type 0
 Holds P capacities rs makespan = P (project_of (list_of capacities rs)) (drawn_capacities capacities) (drawn_starts rs makespan)
 
--- what holds of the project of rectangles holds of a project that is drawn
+-- a property of the project of rectangles is one of a project that is drawn
 there : (P : Project → List ℕ → List ℕ → Type 0) (capacities : List ℕ) (rs : List Rectangle) (makespan : ℕ) (p : Project) (available starts : List ℕ)
     → AreDrawn capacities rs makespan p available starts → Holds P capacities rs makespan → P p available starts
 there P capacities rs makespan p available starts are holds =
@@ -42,7 +42,7 @@ there P capacities rs makespan p available starts are holds =
     (subst (λ (xs : List ℕ). P (project_of (list_of capacities rs)) xs starts) (sym are.available_are)
     (subst (λ (xs : List ℕ). P (project_of (list_of capacities rs)) (drawn_capacities capacities) xs) (sym are.starts_are) holds))
 
--- and the other way
+-- the other way round
 back : (P : Project → List ℕ → List ℕ → Type 0) (capacities : List ℕ) (rs : List Rectangle) (makespan : ℕ) (p : Project) (available starts : List ℕ)
     → AreDrawn capacities rs makespan p available starts → P p available starts → Holds P capacities rs makespan
 back P capacities rs makespan p available starts are holds =

@@ -11,11 +11,11 @@ use Rattle.plan_table.specs.Limits.{most_rows}
 use Rattle.plan_table.specs.Table.{Activity, Resource, Table}
 use Rattle.plan_weeksheet.specs.Rectangles.{Rectangle}
 
--- what is drawn of the need of resource k: at most its capacity
+-- the drawn need of resource k: at most its capacity
 abbrev pub drawn_need : List ℕ → List ℕ → ℕ → ℕ
 drawn_need capacities needs k = min (slice_index needs k) (slice_index capacities k)
 
--- the same of all resources
+-- the drawn needs of all resources
 abbrev pub drawn_needs : List ℕ → List ℕ → List ℕ
 drawn_needs capacities needs =
     map (drawn_need capacities needs) (range_with_len 0 (length capacities))
@@ -31,7 +31,7 @@ row_of capacities r = record {
   needs = drawn_needs capacities r.needs;
 }
 
--- a resource of which there is so much
+-- a resource with this capacity
 abbrev pub supply_of : ℕ → Resource
 supply_of capacity = record { name = codes "R"; capacity = capacity }
 
@@ -56,7 +56,7 @@ drawn_project capacities rectangles =
 abbrev pub drawn_starts : List Rectangle → ℕ → List ℕ
 drawn_starts rectangles makespan = 0 ∷ map (λ r. r.from) rectangles ++ makespan ∷ []
 
--- the latest start of a chart
+-- the latest start of a chart, in time units
 abbrev pub latest : ℕ
 latest = 10000000
 

@@ -13,8 +13,8 @@ numbered_from n [] = []
 numbered_from n (text ∷ others) =
     record { number = n; name = text } ∷ numbered_from (n + 1) others
 
--- An empty id of nothing. So there are ids even without a rectangle, and the dummies, which have no
--- id, aren't shown.
+-- An empty id with the number 0, which no activity has. With it the list of ids is never empty, so
+-- the dummies, which have no id, aren't shown.
 abbrev pub no_id : Name
 no_id = record { number = 0; name = [] }
 

@@ -24,8 +24,8 @@ links_in listed =
 abbrev pub rectangles_in : ListedWeek → WeekPlan → List Rectangle
 rectangles_in listed p = week_rectangles listed (links_in listed) p
 
--- The lower bound of the makespans of all plans. If a plan is among the least tardy, its bound is
--- one of these plans only, and the page has none.
+-- The lower bound of the makespans of all plans. For the goal of the tardiness, the bound of a plan
+-- holds only for the least tardy plans, and so the page has none.
 abbrev pub bound_if : ℕ → Option Lateness → Option ℕ
 bound_if lower None = Some lower
 bound_if lower (Some lateness) = None
@@ -40,18 +40,18 @@ ShowsPage title days listed p text =
     IsPageOf title (bound_of p) days (sheet_names listed.table.resources (rectangles_in listed p))
     listed.week.capacities.items (rectangles_in listed p) p.makespan text
 
--- a line says why a plan of a week has no page
+-- a line gives the reason why a plan of a week has no page
 abbrev pub HidesPage : Option PageDays → ListedWeek → WeekPlan → List ℕ → Type 0
 HidesPage days listed p =
     TellsNoPage days listed.week.capacities.items (rectangles_in listed p) p.makespan
 
--- a text is the page of a plan for the goal of an order, of the week that the list says
+-- a text is the page of a plan of the week of a list, for the goal of an order
 abbrev pub ShowsReport : WeekOrder → List ℕ → Option PageDays → List ℕ → List ℕ → Type 0
 ShowsReport order title days text output =
     (listed : ListedWeek) × (plan : WeekPlan) × IsPlanOfOrder order text listed plan
     × ShowsPage title days listed plan output
 
--- a line says why such a plan has no page
+-- a line gives the reason why such a plan has no page
 abbrev pub TellsHidden : WeekOrder → Option PageDays → List ℕ → List ℕ → Type 0
 TellsHidden order days text line =
     (listed : ListedWeek) × (plan : WeekPlan) × IsPlanOfOrder order text listed plan

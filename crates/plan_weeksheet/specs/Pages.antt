@@ -27,7 +27,7 @@ IsPage title lower (Some on) names drawn starts text =
     IsDatedReport title lower names (activities drawn) starts no_margins on.style.now
     on.calendar.now text
 
--- a day that it shows would be after 9999-12-31
+-- a day on the page would be after 9999-12-31
 abbrev pub IsPageBeyond : Option PageDays → Planned → List ℕ → Type 0
 IsPageBeyond None drawn starts = ⊥
 IsPageBeyond (Some on) drawn starts =
@@ -38,7 +38,7 @@ abbrev pub TellsDays : DaysFault → List ℕ → Type 0
 TellsDays faults.NoMemory line = ⊥
 TellsDays faults.BeyondCalendar line = line ≡ codes "G3 beyond calendar"
 
--- a line says that a day of the page would be after 9999-12-31
+-- a line reports that a day of the page would be after 9999-12-31
 abbrev pub TellsBeyond : Option PageDays → Planned → List ℕ → List ℕ → Type 0
 TellsBeyond days drawn starts line =
     IsPageBeyond days drawn starts × TellsDays faults.BeyondCalendar line
@@ -64,12 +64,12 @@ abbrev pub TellsText : TextFault → List ℕ → Type 0
 TellsText texts.Memory line = ⊥
 TellsText texts.TooLong line = line ≡ limit_line
 
--- a line says that the project file of rectangles is too long
+-- a line reports that the project file of rectangles is too long
 abbrev pub TellsLong : List ℕ → List Rectangle → List ℕ → Type 0
 TellsLong capacities rectangles line =
     IsTooLong capacities rectangles × TellsText texts.TooLong line
 
--- a line says that they are above a limit
+-- a line reports that rectangles are above a limit
 abbrev pub TellsAbove : List ℕ → List Rectangle → ℕ → List ℕ → Type 0
 TellsAbove capacities rectangles makespan line =
     AreAbove capacities rectangles makespan × (line ≡ limit_line)
@@ -81,7 +81,7 @@ IsPageOf title lower days names capacities rectangles makespan =
     IsPage title lower days names (drawn_project capacities rectangles)
     (drawn_starts rectangles makespan)
 
--- a line says why there is none: they are above a limit, or a day is too late
+-- a line gives the reason why rectangles have no page: a limit, or a day that is too late
 abbrev pub TellsNoPage : Option PageDays → List ℕ → List Rectangle → ℕ → List ℕ → Type 0
 TellsNoPage days capacities rectangles makespan line =
     TellsAbove capacities rectangles makespan line

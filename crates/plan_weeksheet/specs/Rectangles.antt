@@ -2,8 +2,8 @@
 use Rattle.std.specs.Prelude.{ℕ, List}
 use Rattle.plan_weeksheet.specs.declared.rectangle.Rectangle as declared
 
--- A rectangle of a chart: the id and the name of what it stands for, the ids of its predecessors,
--- its first instant, how long it lasts, and what it needs of each resource.
+-- A rectangle of a chart, for an activity or an absence: its id and name, the ids of its
+-- predecessors, its first instant, its length in time units, and its need of each resource.
 pub record Rectangle : Type 0 where
   pub id : List ℕ
   pub name : List ℕ

@@ -17,8 +17,8 @@ takes t k r =
 abbrev pub drawn_use : List Rectangle → ℕ → ℕ → ℕ
 drawn_use rectangles t k = sum_by (takes t k) rectangles
 
--- From today to the end of a plan its rectangles take at each instant what the activities need and
--- what is missing, which is what the plan compares with the capacities.
+-- From today to the end of a plan its rectangles take at each instant the needs of the activities
+-- plus the missing amounts. A plan keeps this sum within the capacities.
 unfoldable pub DrawsUse : Type 0
 DrawsUse =
     (listed : ListedWeek) (links : List Links) (p : WeekPlan) (t k : ℕ)

@@ -15,7 +15,7 @@ use Rattle.plan_weeksheet.specs.Rectangles.{Rectangle}
 
 -- ---- activities
 
--- the activity at a place of a list; one without an id and a name if there is none
+-- the activity at a place beyond the end of a list
 abbrev pub no_activity : Activity
 no_activity =
     record { line = 0; id = []; name = []; duration = 0; predecessors = []; needs = [] }
@@ -38,15 +38,15 @@ rectangle_at listed links k begin ends = record {
   needs = needs_at listed.week k;
 }
 
--- the same from its shown begin, at the latest from its start in a plan; none if its begin isn't
--- known
+-- the rectangle of activity k from its shown begin, at the latest from its start in a plan; none if
+-- its begin isn't known
 abbrev pub rectangle_if : ListedWeek → List Links → ℕ → Option ℕ → ℕ → ℕ → List Rectangle
 rectangle_if listed links k None start ends = []
 rectangle_if listed links k (Some begin) start ends =
     rectangle_at listed links k (min begin start) ends ∷ []
 
 -- The rectangle of activity k in a plan: from its start, or from the instant at which it began, to
--- its end. A done activity has none. (A list can say that work began after today. It occupies its
+-- its end. A done activity has none. (In a list, work can begin after today. It occupies its
 -- resources from today on, and so it is drawn.)
 abbrev pub activity_rectangle : ListedWeek → List Links → List ℕ → ℕ → List Rectangle
 activity_rectangle listed links starts k =
@@ -79,7 +79,7 @@ absence_part n makespan a = record {
   needs = missing_amounts n a;
 }
 
--- an absence that begins after the plan has none
+-- the same; an absence that begins at the end of the plan or later has none
 abbrev pub absence_rectangle : ℕ → ℕ → Absence → List Rectangle
 absence_rectangle n makespan a =
     if nat_lt a.from makespan then absence_part n makespan a ∷ [] else []

@@ -1,4 +1,4 @@
-//! The amounts of resources that activities need and that are missing.
+//! The needs of activities, and the missing amounts of absences.
 
 ghost use Rattle.std.specs.Prelude.{◌≡◌, IfOk};
 ghost use Rattle.plan_weekfile.specs.Links.{needs_at as needed};
@@ -8,7 +8,7 @@ use plan_kernel::Absence;
 use plan_week::Week;
 use std::alloc::{AllocError, Global};
 
-// Returns amounts as wider numbers.
+// Returns amounts as 64-bit numbers.
 fn wide(alloc: Global, needs: &[u32]) -> Result<Vec<u64>, AllocError>
     ensures { IfOk result (λ list. list.items ≡ needs.now) }
 {
@@ -19,7 +19,7 @@ fn wide(alloc: Global, needs: &[u32]) -> Result<Vec<u64>, AllocError>
     Ok(list)
 }
 
-/// Returns what activity `k` needs of each resource.
+/// Returns the needs of activity `k`, one for each resource.
 pub(crate) fn needs_at(alloc: Global, week: &Week, k: usize) -> Result<Vec<u64>, AllocError>
     ensures { IfOk result (λ list. list.items ≡ needed week.now k) }
 {
@@ -40,7 +40,7 @@ fn missing_amount(absence: &Absence, k: usize) -> u64
     }
 }
 
-/// Returns the missing amount of each of `count` resources.
+/// Returns the amount that an absence takes of each of `count` resources.
 pub(crate) fn missing_amounts(
     alloc: Global,
     count: usize,

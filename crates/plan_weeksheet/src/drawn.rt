@@ -23,7 +23,7 @@ fn at(list: &[u64], place: usize) -> u64
     if place < list.len() { list[place] } else { 0 }
 }
 
-// Returns what is drawn of the need of resource `k`.
+// Returns the drawn need of resource `k`: at most its capacity.
 #[tactic(auto, using(crate::proofs::ListLemmas::small_at))]
 fn drawn_need(capacities: &[u64], needs: &[u64], k: usize) -> u32
     requires { list_all (λ capacity. nat_le capacity greatest) capacities.now ≡ true }
@@ -32,7 +32,7 @@ fn drawn_need(capacities: &[u64], needs: &[u64], k: usize) -> u32
     at(needs, k).min(at(capacities, k)) as u32
 }
 
-// Returns what is drawn of needs.
+// Returns the drawn needs, one for each resource.
 fn drawn_needs(alloc: Global, capacities: &[u64], needs: &[u64]) -> Result<Vec<u32>, AllocError>
     requires { list_all (λ capacity. nat_le capacity greatest) capacities.now ≡ true }
     ensures { IfOk result (λ v. v.items ≡ spec.drawn_needs capacities.now needs.now) }
@@ -84,7 +84,7 @@ fn rows_of(
     Ok(rows)
 }
 
-// Returns the resources.
+// Returns the resources with these capacities.
 fn supplies_of(alloc: Global, capacities: &[u64]) -> Result<Vec<Resource>, AllocError>
     requires { list_all (λ capacity. nat_le capacity greatest) capacities.now ≡ true }
     ensures { IfOk result (λ v. map resource_of v.items ≡ map spec.supply_of capacities.now) }
@@ -118,7 +118,7 @@ pub(crate) fn list_of(
     })
 }
 
-/// Returns the project of a list, by its text: a project file is the only way to a project.
+/// Returns the project of a list. It is read from a project file, as there is no other way to one.
 #[tactic(auto, using(crate::proofs::ProjectLemmas::read_as))]
 pub(crate) fn project_in(alloc: Global, table: &Table) -> Result<ProjectDoc, TextFault>
     ensures project { IfOk result (λ doc. doc ≡ project_of table.now) }

@@ -1,4 +1,4 @@
-//! `plan report --solve` for a list with dates: the page of its week.
+//! `plan report --solve` for a list with dates: from the bytes of the list to the page of its plan.
 #![tactic(auto)]
 
 mod amounts;

@@ -1,4 +1,4 @@
-//! Whether a chart is within the limits.
+//! The limits of a chart, and the tests of them.
 
 ghost use Rattle.std.specs.Prelude.{◌≡◌, map, nat_le};
 ghost use Rattle.std.specs.List.{list_all, sum_by};
@@ -16,7 +16,7 @@ const MOST_ROWS: usize = 500;
 
 const MOST_RESOURCES: usize = 16;
 
-// The latest start of a chart.
+// The latest start of a chart, in time units.
 const LATEST: u64 = 10_000_000;
 
 // Whether no capacity is above the greatest amount of a project file.
@@ -38,7 +38,7 @@ fn is_drawable(rectangle: &Rectangle<'_>) -> bool
     rectangle.lasts <= LONGEST_DURATION && rectangle.from <= LATEST
 }
 
-// Whether all rectangles are.
+// Whether all rectangles are within the limits.
 fn are_drawable(rectangles: &[Rectangle<'_>]) -> bool
     ensures { result ≡ list_all spec.is_drawable (map rectangle_of rectangles.now) }
 {
@@ -79,7 +79,7 @@ fn are_few(capacities: &[u64], rectangles: &[Rectangle<'_>]) -> bool
     rectangles.len() <= MOST_ROWS && capacities.len() <= MOST_RESOURCES
 }
 
-/// Returns whether a chart is within the limits.
+/// Whether a chart is within the limits.
 pub(crate) fn is_within(capacities: &[u64], rectangles: &[Rectangle<'_>], makespan: u64) -> bool
     ensures { result ≡ spec.is_within capacities.now (map rectangle_of rectangles.now) makespan }
 {

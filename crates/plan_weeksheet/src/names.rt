@@ -34,7 +34,7 @@ pub(crate) fn resource_names<'a>(
     Ok(lines)
 }
 
-// Returns texts with their numbers, behind other ones.
+// Appends texts with the numbers of rectangles to other ones.
 fn numbered_behind<'a>(
     mut lines: Vec<NameLine<'a>>,
     texts: &[&'a [u8]],
@@ -51,7 +51,7 @@ fn numbered_behind<'a>(
     Ok(lines)
 }
 
-// Returns texts with their numbers.
+// Returns texts with the numbers of rectangles, from 2 on.
 fn numbered<'a>(alloc: Global, texts: &[&'a [u8]]) -> Result<Vec<NameLine<'a>>, AllocError>
     ensures { IfOk result (λ v. map name_of v.items
         ≡ spec.numbered_from 2 (map (λ text. text.now) texts.now)) }
@@ -59,7 +59,7 @@ fn numbered<'a>(alloc: Global, texts: &[&'a [u8]]) -> Result<Vec<NameLine<'a>>, 
     numbered_behind(Vec::new(alloc), texts)
 }
 
-// Returns an empty id of nothing.
+// Returns an empty id with the number 0, which no activity has.
 fn no_ids<'a>(alloc: Global) -> Result<Vec<NameLine<'a>>, AllocError>
     ensures { IfOk result (λ v. map name_of v.items ≡ spec.no_id ∷ []) }
 {

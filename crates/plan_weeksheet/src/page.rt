@@ -28,7 +28,7 @@ use plan_sheet::{DayStyle, Heading, Layout, Margins, SheetNames, dated_report, r
 use plan_table::TextFault;
 use std::alloc::{AllocError, Global};
 
-/// The calendar of a page, and how it shows days.
+/// The calendar of a page, and the style of its days.
 #[derive(Clone, Copy, Drop)]
 pub struct PageDays<'a> {
     pub calendar: &'a Calendar,
@@ -87,7 +87,7 @@ fn instance_of<'a>(project: &'a ProjectDoc, capacities: &'a [u64]) -> Instance<'
     }
 }
 
-// Returns words and line 0, which is the whole list.
+// Returns the parts of the error of a limit. Line 0 stands for the whole list.
 fn limit_parts(alloc: Global) -> Result<Vec<Part>, AllocError>
     ensures { IfOk result (λ list.
         name_of Code.TableLimit ++ parts_text list.items ≡ spec.limit_line) }
@@ -102,7 +102,7 @@ fn above_limit(alloc: Global) -> CliFault
     refuse(Code::TableLimit, About::List, limit_parts(alloc))
 }
 
-// Returns the error of a text of a project.
+// Returns the error of the project file of a list.
 fn text_refusal(alloc: Global, fault: TextFault) -> CliFault
     ensures { Refuses (spec.TellsText fault) result }
 {

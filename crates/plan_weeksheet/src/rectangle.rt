@@ -1,7 +1,7 @@
 //! A rectangle of a chart.
 
-/// A rectangle of a chart: the id and the name of what it stands for, the ids of its predecessors,
-/// its first instant, how long it lasts, and what it needs of each resource.
+/// A rectangle of a chart, for an activity or an absence: its id and name, the ids of its
+/// predecessors, its first instant, its length in time units, and its need of each resource.
 #[derive(Drop)]
 pub struct Rectangle<'a> {
     pub id: &'a [u8],

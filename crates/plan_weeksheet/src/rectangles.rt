@@ -182,7 +182,7 @@ fn push_absences(
     Ok(())
 }
 
-/// Returns the rectangles of a plan of a week. `links` has the predecessors of its activities.
+/// Returns the rectangles of a plan of a week. `links` holds the predecessors of its activities.
 pub(crate) fn week_rectangles<'a>(
     alloc: Global,
     listed: &'a ListedWeek,

@@ -128,7 +128,7 @@ found_more week starts arcs arc (Some first) result found breaks is = elim (case
 pub found_first : (week : Week) (starts : List ℕ) → IsFoundAmong week starts [] None
 found_first week starts i j (arc, inside, breaks, to, from) = omega (arith, inside.1)
 
--- what the search for the first broken arc tells
+-- the result of the search for the first broken arc
 pub found_broken : (week : Week) (starts : List ℕ) (found : Option (ℕ × ℕ)) → IsFoundAmong week starts week.arcs.items found → IfSome found (λ pair. IsFirstBroken week starts pair.0 pair.1)
 found_broken week starts None found = tt
 found_broken week starts (Some pair) found = found
@@ -147,7 +147,7 @@ found_step week starts items arcs i d found result same inside before step =
     (subst (λ (xs : List Arc). IsFoundAmong week starts xs result) (sym (take_more items i d inside))
     (step (take i items) (subst (λ (xs : List Arc). IsFoundAmong week starts (take i xs) found) (sym same) before)))
 
--- that of all arcs
+-- the first broken arc of all arcs
 pub found_all : (week : Week) (starts : List ℕ) (arcs : List Arc) (i : ℕ) (found : Option (ℕ × ℕ)) → length arcs ≤ i
     → IsFoundAmong week starts (take i arcs) found → IsFoundAmong week starts arcs found
 found_all week starts arcs i found all found_so_far = subst (λ (xs : List Arc). IsFoundAmong week starts xs found) (take_all i arcs all) found_so_far

@@ -63,7 +63,7 @@ miss_once today start (Open earliest fixed) (Moved instant date) (Moved other da
 miss_once today start (Begun began remaining) a b misses others = absurd misses
 miss_once today start (Done ended) a b misses others = absurd misses
 
--- how a start misses an appointment, if it is neither before today nor too early
+-- the miss of an appointment, for a start that is neither before today nor too early
 pub moved_misses : (today start earliest : ℕ) (fixed : Option ℕ) (result : Option Miss) → today ≤ start → earliest ≤ start
     → IsMoveFrom fixed start result → IfSome result (Misses today start (Open earliest fixed))
 moved_misses today start earliest None result since after is =
@@ -85,7 +85,7 @@ not_moved today start earliest (Some date) result since after is = elim (cases_e
   | inr other ↦ subst (λ (r : Option Miss). IfNone r ((miss : Miss) → Misses today start (Open earliest (Some date)) miss → ⊥)) (sym (is.1 other)) tt
 ]
 
--- the activity at a place misses its dates, by the values that the program has
+-- the activity at a place misses its dates, by the values in the program
 pub misses_at : (week : Week) (starts : List ℕ) (i start : ℕ) (s : State) (miss : Miss) → i < count (project_of week) → start ≡ get_or starts i 0 → s ≡ state_of week i
     → Misses week.today start s miss → MissesAt week starts i miss
 misses_at week starts i start s miss inside same is misses = (

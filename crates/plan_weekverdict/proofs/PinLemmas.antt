@@ -41,7 +41,7 @@ same_capacities week pinned starts is = is.capacities
 same_missing : (week pinned : Week) (starts : List ℕ) (t k : ℕ) → IsPinned week starts pinned → missing pinned t k ≡ missing week t k
 same_missing week pinned starts t k is = ap (λ (xs : List Absence). sum_by (taken_by t k) xs) is.absences
 
--- a start as an appointment changes no rest
+-- a start as an appointment doesn't change the remaining time
 rest_pinned : (lasts start : ℕ) (s : State) → rest lasts (pin start s) ≡ rest lasts s
 rest_pinned lasts start (Open earliest fixed) = refl
 rest_pinned lasts start (Begun began remaining) = refl
@@ -58,7 +58,7 @@ same_rest week pinned starts i is inside =
     ∙ rest_pinned (duration (project_of pinned) i) (get_or starts i 0) (state_of week i)
     ∙ ap (λ (d : ℕ). rest d (state_of week i)) (same_duration week pinned starts i is)
 
--- what takes no time needs nothing
+-- an activity that takes no time needs nothing
 idle : (start t amount : ℕ) → cond (nat_le start t && nat_lt t (start + 0)) amount 0 ≡ 0
 idle start t amount = elim (cases_lt t start) [
   | inl early ↦
@@ -67,7 +67,7 @@ idle start t amount = elim (cases_lt t start) [
       cond-false (nat_le start t && nat_lt t (start + 0)) amount 0 (and_right (nat_le start t) (nat_lt t (start + 0)) (le-ltb t (start + 0) (omega (arith, late))))
 ]
 
--- what is held from an appointment on is what is needed from the start on
+-- an activity holds from its appointment on the amount that it needs from its start on
 held_pinned : (week : Week) (today t k i start lasts : ℕ) (s : State) → rest_of week i ≡ rest lasts s → (IsFalse (is_open s) → KeepsState today start s)
     → held_from week t k i (settled_start today (pin start s)) ≡ cond (nat_le start t && nat_lt t (start + rest_of week i)) (need (project_of week) i k) 0
 held_pinned week today t k i start lasts (Open earliest fixed) same settled = refl
@@ -76,7 +76,7 @@ held_pinned week today t k i start lasts (Begun began remaining) same settled =
 held_pinned week today t k i start lasts (Done ended) same settled =
     sym (ap (λ (x : ℕ). cond (nat_le start t && nat_lt t (start + x)) (need (project_of week) i k) 0) same ∙ idle start t (need (project_of week) i k))
 
--- what one activity holds is what it needs
+-- one activity holds the amount that it needs
 held_needed : (week pinned : Week) (starts : List ℕ) (t k i : ℕ) → IsPinned week starts pinned → HasSettled week starts → i < count (project_of week)
     → held_by pinned t k i ≡ needed_by week starts t k i
 held_needed week pinned starts t k i is settled inside =
@@ -87,7 +87,7 @@ held_needed week pinned starts t k i is settled inside =
     ∙ ap (λ (x : ℕ). cond (nat_le start t && nat_lt t (start + x)) (need (project_of pinned) i k) 0) (same_rest week pinned starts i is inside)
     ∙ ap (λ (x : ℕ). cond (nat_le start t && nat_lt t (end_of week starts i)) x 0) (same_need week pinned starts i k is)
 
--- what all hold is what all need
+-- all activities together hold the amount that they need
 held_is : (week pinned : Week) (starts : List ℕ) (t k : ℕ) → IsPinned week starts pinned → HasSettled week starts → held pinned t k ≡ needed week starts t k
 held_is week pinned starts t k is settled =
     ap (λ (n : ℕ). total n (held_by pinned t k)) (same_count week pinned starts is)
@@ -133,7 +133,7 @@ first_over_is week pinned starts o is settled found = record {
         inr (same, found.least k (subst (λ (x : ℕ). IsOverload pinned k x) (sym same) over))
   ]
 
--- what the search for the first overload tells
+-- the result of the search for the first overload
 pub over_found : (week pinned : Week) (starts : List ℕ) (found : Option Overload) → IsPinned week starts pinned → HasSettled week starts
     → IfSome found (IsFirstOverload pinned) → IfSome found (IsFirstOver week starts)
 over_found week pinned starts None is settled found = tt

@@ -11,7 +11,7 @@ use Rattle.plan_week.specs.Weeks.{project_of, state_of, is_open, KeepsState}
 use Rattle.plan_weekverdict.specs.Starts.{open_before, start_by, AreAllStarts}
 use Rattle.plan_weekverdict.specs.Verdicts.{HasSettled}
 
--- what holds at each place of a list and of one element more
+-- a property of each element of a list, and of a list with one element more
 pub each_more : {X : Type 0} (P : ℕ → X → Type 0) (xs ys : List X) (x d : X) (n : ℕ) → length xs ≡ n → ys ≡ xs ++ x ∷ []
     → ((i : ℕ) → i < n → P i (get_or xs i d)) → P n x → (i : ℕ) → i < n + 1 → P i (get_or ys i d)
 each_more {X} P xs ys x d n whole added before here i below = elim (cases_eq i n) [
@@ -27,7 +27,7 @@ each_more {X} P xs ys x d n whole added before here i below = elim (cases_eq i n
 pub length_more : {X : Type 0} (xs ys : List X) (x : X) (n : ℕ) → length xs ≡ n → ys ≡ xs ++ x ∷ [] → length ys ≡ n + 1
 length_more {X} xs ys x n whole added = omega (arith, whole, ap (λ (l : List X). length l) added, length-append xs (x ∷ []))
 
--- the start of what isn't open is where its state says
+-- the start of an activity that isn't open follows from its state
 settled_by : (today given : ℕ) (s : State) → IsFalse (is_open s) → KeepsState today (start_by today given s) s
 settled_by today given (Open earliest fixed) closed = absurd (both_ways true closed refl)
 settled_by today given (Begun began remaining) closed = refl

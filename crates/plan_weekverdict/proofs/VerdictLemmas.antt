@@ -1,4 +1,4 @@
--- At most one verdict is that on starts, and starts without a violation are a plan.
+-- Starts have at most one verdict, and starts without a violation are a plan.
 use Rattle.std.proofs.Common.{◌≡◌, ◌∙◌, ℕ, ◌+◌, ◌≤◌, ◌<◌, inl, inr, Bool, true, false, if◌then◌else◌, nat_lt, List, Option, Some, None, get_or, refl, sym, ap, subst, arith}
 use Rattle.std.specs.Option.{IfSome, IfNone}
 use Rattle.std.proofs.lemmas.Bool.{cases_lt, lt-ltb, le-ltb}
@@ -95,7 +95,7 @@ by_test : {X : Type 0} (P : X → Type 0) (b : Bool) (x y : X) → P x → P y �
 by_test P true x y one other = one
 by_test P false x y one other = other
 
--- what the first miss and the first broken arc make
+-- the verdict of the first miss and the first broken arc
 pub first_wrong : (week : Week) (starts : List ℕ) (miss : Option (ℕ × Miss)) (arc : Option (ℕ × ℕ))
     → IfSome miss (λ found. IsFirstMiss week starts found.0 found.1) → IfNone miss (HasNoMiss week starts)
     → IfSome arc (λ pair. IsFirstBroken week starts pair.0 pair.1) → IfNone arc (HasNoBroken week starts)
@@ -110,7 +110,7 @@ first_wrong week starts (Some miss) (Some arc) some none broken kept = elim (cas
       (some, λ h j has. omega (arith, most, no_later_first arc.0 arc.1 h j (broken.first h j has)))
 ]
 
--- without any there is neither
+-- without such a verdict there is neither a miss nor a broken arc
 pub none_dates : (week : Week) (starts : List ℕ) (miss : Option (ℕ × Miss)) (arc : Option (ℕ × ℕ))
     → IfNone miss (HasNoMiss week starts) → IfNone (first_of miss arc) (HasNoMiss week starts)
 none_dates week starts None None none = none

@@ -1,4 +1,4 @@
--- A week in which each activity has its start as an appointment. No public clause cites these words.
+-- A week in which each activity has its start as an appointment. No public clause cites it.
 use Rattle.std.specs.Prelude.{◌≡◌, ℕ, ◌<◌, List, length, get_or, map, Option, Some, None}
 use Rattle.plan_sgs.specs.Problem.{count}
 use Rattle.plan_week.specs.declared.week.State.{State}
@@ -6,7 +6,7 @@ use Rattle.plan_week.specs.declared.week.State.TheVariants.{Open, Begun, Done}
 use Rattle.plan_week.specs.declared.week.Week.{Week}
 use Rattle.plan_week.specs.Weeks.{project_of, state_of}
 
--- a start as the appointment of what is open
+-- a state; an open activity has the start as its appointment
 abbrev pub pin : ℕ → State → State
 pin start (Open earliest fixed) = Open earliest (Some start)
 pin start (Begun began remaining) = Begun began remaining

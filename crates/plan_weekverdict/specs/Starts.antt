@@ -6,7 +6,7 @@ use Rattle.plan_week.specs.declared.week.State.TheVariants.{Open, Begun, Done}
 use Rattle.plan_week.specs.declared.week.Week.{Week}
 use Rattle.plan_week.specs.Weeks.{project_of, state_of, is_open}
 
--- how many activities before place n are open
+-- the number of open activities before place n
 abbrev pub open_before : Week → ℕ → ℕ
 open_before week n = total n (λ i. cond (is_open (state_of week i)) 1 0)
 

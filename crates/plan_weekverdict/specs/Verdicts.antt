@@ -14,7 +14,7 @@ use Rattle.plan_weekverdict.specs.declared.verdict.Miss.TheVariants.{Past, Early
 use Rattle.plan_weekverdict.specs.declared.verdict.WeekVerdict.{WeekVerdict}
 use Rattle.plan_weekverdict.specs.declared.verdict.WeekVerdict.TheVariants.{Misplaced, Broken, Over, Feasible}
 
--- A start for each activity. Activities that aren't open are where their states say.
+-- A start for each activity. If an activity isn't open, its start follows from its state.
 pub record HasSettled (week : Week) (starts : List ℕ) : Type 0 where
   pub each_started : length starts ≡ count (project_of week)
   pub settled : (i : ℕ) → i < count (project_of week) → IsFalse (is_open (state_of week i))
@@ -88,7 +88,7 @@ pub record IsFirstIn (week : Week) (starts : List ℕ) (arcs : List Arc) (i j : 
 abbrev pub IsFirstBroken : Week → List ℕ → ℕ → ℕ → Type 0
 IsFirstBroken week starts = IsFirstIn week starts week.arcs.items
 
--- an overload at an instant; there is none before it, nor of a resource before it at that instant
+-- an overload; none is at an earlier instant, or at the same instant of an earlier resource
 pub record IsFirstOver (week : Week) (starts : List ℕ) (over : Overload) : Type 0 where
   pub here : IsOver week starts over.resource over.instant
   pub first : (k t : ℕ) → IsOver week starts k t → IsNoLater over.instant over.resource t k
@@ -105,7 +105,7 @@ IsWeekVerdict week starts (Over over) =
     HasNoMiss week starts × HasNoBroken week starts × IsFirstOver week starts over
 IsWeekVerdict week starts Feasible = IsWeekPlan week starts
 
--- at most one verdict is that on starts
+-- starts have at most one verdict
 unfoldable pub AtMostOneVerdict : Type 0
 AtMostOneVerdict =
     (week : Week) (starts : List ℕ) (v w : WeekVerdict)
@@ -120,7 +120,7 @@ PlansHaveNoViolation =
 
 -- ---- results of the parts of a check; no public clause cites these
 
--- that a start isn't an appointment, or none if it is, or if there is none
+-- the miss of an appointment, or none if the start is at it, or if there is no appointment
 abbrev pub IsMoveFrom : Option ℕ → ℕ → Option Miss → Type 0
 IsMoveFrom None start result = result ≡ None
 IsMoveFrom (Some date) start result =
@@ -139,7 +139,7 @@ abbrev pub IsFoundAmong : Week → List ℕ → List Arc → Option (ℕ × ℕ)
 IsFoundAmong week starts arcs None = (i j : ℕ) → HasBrokenIn week starts arcs i j → ⊥
 IsFoundAmong week starts arcs (Some found) = IsFirstIn week starts arcs found.0 found.1
 
--- the verdict of a miss and a broken arc, of which the first activity decides
+-- the verdict of a miss and a broken arc: the one of the first activity, or the miss in a tie
 abbrev pub first_of : Option (ℕ × Miss) → Option (ℕ × ℕ) → Option WeekVerdict
 first_of None None = None
 first_of None (Some arc) = Some (Broken arc.0 arc.1)

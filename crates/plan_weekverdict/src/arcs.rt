@@ -36,7 +36,7 @@ fn earlier(found: Option<(u32, u32)>, pair: (u32, u32)) -> (u32, u32)
     if pair.1 < first.1 { pair } else { first }
 }
 
-// Returns the first broken arc of those before this one and of this one.
+// Returns the first broken arc among the earlier arcs and this one.
 fn with_arc(week: &Week, starts: &[u32], found: Option<(u32, u32)>, arc: Arc) -> Option<(u32, u32)>
     ensures { (arcs : List Link) → spec.IsFoundAmong week.now starts.now arcs found
         → spec.IsFoundAmong week.now starts.now (arcs ++ arc ∷ []) result }

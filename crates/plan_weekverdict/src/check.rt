@@ -1,4 +1,4 @@
-//! Check of starts of a week.
+//! The check of starts of a week.
 
 ghost use Rattle.std.specs.Prelude.{◌≡◌, IfNone, IfOk, IfSome};
 ghost use Rattle.plan_weekverdict.specs.Verdicts as spec;
@@ -48,11 +48,12 @@ fn first_wrong(week: &Week, starts: &[u32]) -> Option<WeekVerdict>
     first_of(first_miss(week, starts), first_broken(week, starts))
 }
 
-/// Returns the first violation of starts of a week, or that they are a plan. There is a start for
-/// each activity; that of what has begun is today, and that of what is done its end.
+/// Returns the first violation of starts of a week, or that they are a plan. `starts` has a start
+/// for each activity: today if it has begun, and its end, at most today, if it is done.
+/// [`all_starts`](crate::all_starts) returns such starts.
 ///
-/// The violations, in this order: an activity misses its dates, or starts before a predecessor ends;
-/// a resource is overloaded from today on. [`all_starts`](crate::all_starts) makes such a list.
+/// First comes an activity that misses its dates or starts before a predecessor ends, then an
+/// overload of a resource from today on.
 #[tactic(auto, using(crate::proofs::VerdictLemmas::without_violation))]
 pub fn check_week(alloc: Global, week: &Week, starts: &[u32]) -> Result<WeekVerdict, AllocError>
     requires { spec.HasSettled week.now starts.now }

@@ -9,7 +9,7 @@ use crate::state::at;
 use crate::verdict::Miss;
 use plan_week::{State, Week, state_of};
 
-// Returns that a start isn't the appointment, if it isn't.
+// Returns the miss of an appointment, if the start isn't at it.
 fn moved(start: u32, fixed: Option<u32>) -> Option<Miss>
     ensures { spec.IsMoveFrom fixed start result }
 {
@@ -28,7 +28,7 @@ fn moved(start: u32, fixed: Option<u32>) -> Option<Miss>
     }
 }
 
-// Returns how an activity that is open misses its dates, if it does.
+// Returns the way in which an open activity misses its dates, if it does.
 fn open_miss(today: u32, start: u32, earliest: u32, fixed: Option<u32>) -> Option<Miss>
     ensures some { IfSome result (spec.Misses today start (Open earliest fixed)) }
     ensures none { IfNone result
@@ -43,7 +43,7 @@ fn open_miss(today: u32, start: u32, earliest: u32, fixed: Option<u32>) -> Optio
     moved(start, fixed)
 }
 
-// Returns how an activity with this state misses its dates, if it does.
+// Returns the way in which an activity with this state misses its dates, if it does.
 fn miss_of(today: u32, start: u32, state: State) -> Option<Miss>
     ensures some { IfSome result (spec.Misses today start state) }
     ensures none { IfNone result ((miss : Reason) → spec.Misses today start state miss → ⊥) }
@@ -55,7 +55,7 @@ fn miss_of(today: u32, start: u32, state: State) -> Option<Miss>
     }
 }
 
-// Returns the first activity that misses its dates, and how.
+// Returns the first activity that misses its dates, and the way in which it does.
 pub(crate) fn first_miss(week: &Week, starts: &[u32]) -> Option<(u32, Miss)>
     ensures some { IfSome result (λ found.
         spec.IsFirstMiss week.now starts.now found.0 found.1) }

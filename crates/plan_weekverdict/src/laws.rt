@@ -2,7 +2,7 @@
 
 ghost use Rattle.plan_weekverdict.specs.Verdicts.{AtMostOneVerdict, PlansHaveNoViolation};
 
-/// At most one verdict is that on starts of a week.
+/// Starts of a week have at most one verdict.
 pub fn at_most_one_week_verdict()
     ensures { AtMostOneVerdict }
 {}

@@ -1,5 +1,5 @@
-//! The first overload of starts. A week in which each activity has its start as an appointment needs
-//! the same at each instant, so its first overload is that of the starts.
+//! The first overload of starts. If each activity of a week has its start as an appointment, the
+//! week has the same needs at each instant. So its first overload is that of the starts.
 
 ghost use Rattle.std.specs.Prelude.{◌≡◌, map, IfErr, IfNone, IfOk, IfSome};
 ghost use Rattle.plan_weekverdict.specs.Pins as pins;
@@ -9,7 +9,7 @@ use crate::state::at;
 use plan_week::{Overload, State, Week, first_overload, state_of};
 use std::alloc::{AllocError, Global};
 
-// Returns a state with a start as the appointment of what is open.
+// Returns a state. An open activity has the start as its appointment.
 fn pin(state: State, start: u32) -> State
     ensures { result ≡ pins.pin start state }
 {
@@ -46,7 +46,8 @@ fn needs_of(alloc: Global, week: &Week) -> Result<Vec<Vec<u32>>, AllocError>
     Ok(rows)
 }
 
-// Returns a week with the starts as appointments, and without what overloads don't depend on.
+// Returns a week with the starts as appointments. It has no arcs and no due dates, on which
+// overloads don't depend.
 fn pinned(alloc: Global, week: &Week, starts: &[u32]) -> Result<Week, AllocError>
     ensures { IfOk result (pins.IsPinned week.now starts.now) }
 {

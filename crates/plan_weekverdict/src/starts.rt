@@ -28,8 +28,8 @@ fn counted(state: State) -> usize
     if is_open(state) { 1 } else { 0 }
 }
 
-/// Returns a start for each activity: one given start after another for what is open, today for what
-/// has begun, and the end of what is done.
+/// Returns a start for each activity: for open ones the given starts in order, for begun ones
+/// today, and for done ones their end, at most today.
 pub fn all_starts(alloc: Global, week: &Week, given: &[u32]) -> Result<Vec<u32>, AllocError>
     ensures all { IfOk result (λ starts. spec.AreAllStarts week.now given.now starts.items) }
     ensures settled { IfOk result (λ starts. HasSettled week.now starts.items) }

@@ -1,15 +1,15 @@
-//! Verdict on starts of a week.
+//! The verdict on starts of a week.
 
 use plan_week::Overload;
 
-/// Why an activity doesn't start as its dates ask: the first of these reasons.
+/// The way in which an activity misses its dates. If several apply, it is the first one.
 #[derive(Debug, Clone, Copy, Drop)]
 pub enum Miss {
-    /// It starts before today.
+    /// It starts before today, which is `day`.
     Past { day: u32 },
-    /// It starts before its earliest start.
+    /// It starts before its earliest start, which is `date`.
     Early { date: u32 },
-    /// It starts then, and not at its appointment.
+    /// It starts at `instant`, and not at its appointment `date`.
     Moved { instant: u32, date: u32 },
 }
 
@@ -22,8 +22,8 @@ pub enum WeekVerdict {
     /// This activity starts before the predecessor ends, or before the lag after its end is over. It
     /// is the first activity that violates anything, and its first such predecessor.
     Broken { activity: u32, predecessor: u32 },
-    /// Needs and absences together are more than the capacity. It is the first such instant from
-    /// today on, and its first such resource.
+    /// Needs and absences together are above the capacity. The instant is the first such one from
+    /// today on, and the resource is the first such one at it.
     Over(Overload),
     /// The starts are a plan of the week.
     Feasible,
