@@ -12,7 +12,7 @@ use plan_errors::{About, CliFault, write_text};
 use plan_io::StdSink;
 use plan_orders::WeekWords;
 use plan_weekback::{WeekReading, WeekText, week_text};
-use plan_weekcompare::{ScheduledList, compared_weeks};
+use plan_weekcompare::{ScheduledList, compared_weeks, of_old_list};
 use plan_weekdates::InstantCalendar;
 use plan_weekfile::{WeekOrder, has_week};
 use std::io;
@@ -87,6 +87,20 @@ fn do_lists(
     do_plain(rt, None, task, rows, line, &mut Unlogged, new)
 }
 
+// Returns the text that is read in place of the old list.
+fn old_text(
+    rt: &HostRuntime,
+    reading: &WeekReading<'_>,
+    file: &[u8],
+) -> Result<WeekText, CliFault> {
+    week_text(rt.alloc(), reading, file).map_err(|fault| of_old_list(fault))
+}
+
+// Whether the old list is compared with its dates.
+fn has_old_week(rt: &HostRuntime, order: &WeekOrder<'_>, text: &[u8]) -> Result<bool, CliFault> {
+    has_week(rt.alloc(), order, text).map_err(|fault| of_old_list(fault))
+}
+
 // Writes the comparison of two files, which may be lists with dates.
 fn do_asked(
     rt: &HostRuntime,
@@ -99,9 +113,9 @@ fn do_asked(
         options: None,
         calendar,
     };
-    let old = week_text(rt.alloc(), &reading, comparison.old)?;
+    let old = old_text(rt, &reading, comparison.old)?;
     let new = week_text(rt.alloc(), &reading, comparison.new)?;
-    if has_week(rt.alloc(), order, old.text(comparison.old))?
+    if has_old_week(rt, order, old.text(comparison.old))?
         || has_week(rt.alloc(), order, new.text(comparison.new))?
     {
         return Ok(do_weeks(rt, comparison, order, &old, &new, line)?);

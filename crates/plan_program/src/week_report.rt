@@ -4,7 +4,7 @@ use crate::errors::FileFault;
 use crate::instants::{instants_in, today_in};
 use crate::progress::ProgressLine;
 use crate::read_input::ReadInput;
-use crate::weeks::{keep_note, week_in, week_order};
+use crate::weeks::{keep_note, usage, week_in, week_order};
 use plan_cli::{Dates, Rows, SystemInputs, read_named};
 use plan_errors::{About, CliFault, write_text};
 use plan_io::StdSink;
@@ -124,6 +124,9 @@ fn do_read(
             calendar,
         };
         if let Some(read) = week_in(rt, &order, &reading, report.file)? {
+            if report.shown.style.hours.is_some() {
+                return Err(usage(rt, "--per-day doesn't support lists with dates")?);
+            }
             return Ok(do_week_report(rt, report, &order, calendar, &read, line)?);
         }
     }

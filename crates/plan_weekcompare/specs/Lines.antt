@@ -17,6 +17,10 @@ abbrev pub list_line : Side → List ℕ → List ℕ
 list_line side.Old line = named_line (codes "of the old list") line
 list_line side.New line = line
 
+-- the line of an error of the old list
+abbrev pub old_line : List ℕ → List ℕ
+old_line = list_line side.Old
+
 -- the name of the schedule of a list
 abbrev pub schedule_of : Side → List ℕ
 schedule_of side.Old = codes "A"

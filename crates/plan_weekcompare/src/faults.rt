@@ -82,6 +82,13 @@ pub(crate) fn list_fault(fault: CliFault, side: Side) -> CliFault
     }
 }
 
+/// Returns an error of the old list: its line ends with `of the old list`.
+pub fn of_old_list(fault: CliFault) -> CliFault
+    ensures { spec.IsShownAs spec.old_line fault result }
+{
+    list_fault(fault, Side::Old)
+}
+
 /// Returns the error of starts with the name of their schedule. Durations above a limit are an
 /// error of their list.
 pub(crate) fn starts_fault(alloc: Global, fault: CliFault, side: Side) -> CliFault

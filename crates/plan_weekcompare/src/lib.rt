@@ -8,5 +8,6 @@ mod reading;
 mod schedules;
 mod shown;
 
+pub use faults::of_old_list;
 pub use output::compared_weeks;
 pub use reading::ScheduledList;
