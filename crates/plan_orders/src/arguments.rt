@@ -257,14 +257,14 @@ const NOW: Argument = Argument {
     name: "now",
     form: Form::Now,
     help: "for a list of activities: plan from the instant T on, 0 to 10000000 or, with --start, a \
-        date; what has begun or is done stays as it is",
+        date; begun and done activities stay as they are",
 };
 
 const CHECK_NOW: Argument = Argument {
     name: "now",
     form: Form::Now,
     help: "for a list of activities: check from the instant T on, 0 to 10000000 or, with --start, a \
-        date; what has begun or is done stays as it is",
+        date; begun and done activities stay as they are",
 };
 
 const LIST_START: Argument = Argument {
@@ -534,7 +534,7 @@ const LIST_COMMANDS: [Entry; 2] = [
         arguments: &[Argument {
             name: "KIND",
             form: Form::Kind,
-            help: "what the list describes",
+            help: "the kind of the list",
         }],
     },
     Entry {
@@ -735,7 +735,7 @@ const SCHEDULE_COMMANDS: [Entry; 5] = [
             Argument {
                 name: "log",
                 form: Form::Output,
-                help: "write what the search proves to this file",
+                help: "write the log of the search to this file",
             },
         ],
     },
@@ -871,7 +871,7 @@ const SCHEDULE_COMMANDS: [Entry; 5] = [
             Argument {
                 name: "by",
                 form: Form::Lines,
-                help: "for a job shop: what has a line of the chart [default: machine]",
+                help: "for a job shop: the kind of a line of the chart [default: machine]",
             },
             Argument {
                 name: "title",
