@@ -38,6 +38,8 @@ OTHER_HINTS = ("S1", "S3", "S8")
 NEW_FORMATS = ("chart", "slack")
 CODES = ("F1", "F9 line 31", "f12 line 3 cycle 1 2", "S1 activity 2 resource 1", "T5 line 3 duration", "G3", "I1 file")
 CODES += ("E10 F9 line 31", "e91", "K2", "V1 line 4", "C1", "x", "F99", "S10 activity 3 starts before 2 ends", "")
+# The options of each format of tables but text.
+FORMATS = (["--format", "csv"], ["--format", "json"])
 NODES = ("1", "7", "60", "500", "0", "x", "1000000001")
 
 
@@ -113,14 +115,14 @@ class Case:
 
     def rows(self, *more):
         """Options of the rows."""
-        forms = ([], [], ["--names"], ["--format", "csv"], ["--format", "json"], ["--format=json", "--names"], *more)
+        forms = ([], [], ["--names"], *FORMATS, ["--format=json", "--names"], *more)
         return list(self.draw.pick(forms))
 
     def starts(self, name):
         """A file of starts by a rule, as a table, CSV or JSON, at times changed or too short."""
         draw = self.draw
         command = ["shop", self.rule()] if self.is_shop else ["schedule", self.rule()]
-        form = draw.pick(([], [], ["--names"], ["--format", "csv"], ["--format", "json"]))
+        form = draw.pick(([], [], ["--names"], *FORMATS))
         text = self.made(*command, *form, *self.subject())
         if draw.chance(0.3):
             text = b"0 0 2 3" if draw.chance(0.1) else draw.other_byte(text)
@@ -203,7 +205,7 @@ def report(case):
 
 def check(case):
     status = ["--status"] if case.draw.chance(0.5) else []
-    form = case.draw.pick(([], [], ["--format", "csv"], ["--format", "json"]))
+    form = case.draw.pick(([], [], *FORMATS))
     return ["check", *status, *form, *case.subject(), case.starts("starts.txt")]
 
 
@@ -218,7 +220,7 @@ def compare(case):
 
 
 def names(case):
-    return ["names", *case.draw.pick(([], ["--format", "csv"], ["--format", "json"])), case.file]
+    return ["names", *case.draw.pick(([], *FORMATS)), case.file]
 
 
 def imported(case):
@@ -231,7 +233,7 @@ def imported(case):
 
 
 def explain(case):
-    form = case.draw.pick(([], ["--format", "json"], ["--format", "csv"]))
+    form = case.draw.pick(([], *FORMATS))
     return ["explain", *form, *shlex.split(case.draw.pick(CODES))]
 
 
