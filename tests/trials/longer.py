@@ -12,7 +12,7 @@ from story import (
 )
 
 SIX = file_of("tests/trials/files/six.sm").decode()
-WHOLE = file_of("tests/trials/files/whole.sm").decode()
+WHOLE = file_of("examples/six.sm").decode()
 
 
 def asked(line, key, body, status, answer):
