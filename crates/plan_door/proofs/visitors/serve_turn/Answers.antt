@@ -1,7 +1,7 @@
 use Rattle.std.proofs.Common.{refl}
 use Rattle.plan_door.specs.Turns.{visited}
 use Rattle.plan_door.proofs.TurnLemmas.{visit_of, served_by}
-use Rattle.plan_door.proofs.visitors.serve_next.Goals as goal
+use Rattle.plan_door.proofs.visitors.serve_turn.Goals as goal
 
 pub returns-clause-turn : goal.returns-clause-turn
 returns-clause-turn g c =

@@ -3,7 +3,7 @@ use Rattle.plan_prove.specs.States.{NotBefore}
 use Rattle.plan_prove.specs.declared.state.Side.TheVariants.{First, Second}
 use Rattle.plan_prove.specs.declared.state.State.{State}
 use Rattle.plan_prove.proofs.StateLemmas.{no_room, first_goes, second_goes, side_follows}
-use Rattle.plan_prove.proofs.deduction.decide.Goals as goal
+use Rattle.plan_prove.proofs.deduction.orient_pair.Goals as goal
 
 pub returns-in_ok-follow-in-true-false : goal.returns-in_ok-follow-in-true-false
 returns-in_ok-follow-in-true-false c =

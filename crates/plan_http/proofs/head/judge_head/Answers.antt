@@ -1,6 +1,6 @@
 use Rattle.std.proofs.Common.{◌≡◌, ◌≤◌, length, inl, inr, arith}
 use Rattle.plan_http.proofs.ReadingLemmas.{missing_by_end, missing_by_error, has_head}
-use Rattle.plan_http.proofs.head.judge.Goals as goal
+use Rattle.plan_http.proofs.head.judge_head.Goals as goal
 
 pub returns-then-is_end-clause-judged : goal.returns-then-is_end-clause-judged
 returns-then-is_end-clause-judged c bytes more whole end =
