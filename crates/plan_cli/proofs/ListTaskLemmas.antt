@@ -11,14 +11,16 @@ use Rattle.plan_errors.specs.Output.{Refuses}
 use Rattle.plan_documents.specs.declared.capacities.Capacity.{Capacity}
 use Rattle.plan_documents.specs.Lists.{IsMadeOf, RefusesActivities, RefusesIn, RefusesKind, RefusesList, RefusesMade, IsReadAs, RefusesReading, ReadsAs}
 use Rattle.plan_documents.specs.Spreadsheets.{OfList}
-use Rattle.plan_cli.specs.Tasks.{IsLineOf, ShowsTask, list_subject, with_subject, has_steps, ShowsBy, IsNamedCheck, check_in, list_check, ShowsChecked, ShowsKind, ShowsOn, ShowsRead, RefusesOn, RefusesRead}
+use Rattle.plan_cli.specs.Tasks.{IsLineOf, ShowsTask, list_subject, with_subject, has_steps, ShowsBy, IsNamedCheck, check_in, list_check, ShowsChecked}
+use Rattle.plan_cli.specs.Tasks.{ShowsKind, ShowsOn, ShowsRead, RefusesOn, RefusesRead}
 use Rattle.plan_documents.specs.declared.documents.Subject.{Subject}
 use Rattle.plan_documents.specs.declared.documents.Subject.TheVariants as subject
 use Rattle.plan_cli.specs.declared.tasks.Rows.{Rows}
 use Rattle.plan_cli.specs.declared.tasks.Task.{Task}
 use Rattle.plan_cli.specs.declared.tasks.Task.TheVariants as task
 use Rattle.plan_cli.proofs.RunLemmas.{HoldsByFront}
-use Rattle.plan_cli.proofs.TaskLemmas.{shown_front, task_line_front, import_front, no_import_front, no_sound_import_front, shop_import_front, no_shop_import_front, kind_front, list_front, refuses_list_front}
+use Rattle.plan_cli.proofs.TaskLemmas.{shown_front, task_line_front, import_front, no_import_front, no_sound_import_front, shop_import_front}
+use Rattle.plan_cli.proofs.TaskLemmas.{no_shop_import_front, kind_front, list_front, refuses_list_front}
 use Rattle.plan_documents.proofs.ListLemmas.{read_refused, read_as}
 
 -- ---- the text of a task

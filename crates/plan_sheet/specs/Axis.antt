@@ -1,6 +1,7 @@
 -- Places on the axis of a chart, and the distance of its marks (docs/definitions.md, "Sheets"). With
 -- days the axis is one of calendar days from the first working day on, else one of time units.
-use Rattle.std.specs.Prelude.{ℕ, ◌+◌, ◌-◌, ◌*◌, ◌/◌, ◌%◌, ◌==◌, Bool, true, false, not, if◌then◌else◌, nat_le, nat_lt, List, [], ◌∷◌, length, fold, Option, Some, None, max, min, slice_get, unsigned_abs, pos, ◌+ℤ◌}
+use Rattle.std.specs.Prelude.{ℕ, ◌+◌, ◌-◌, ◌*◌, ◌/◌, ◌%◌, ◌==◌, Bool, true, false, not, if◌then◌else◌, nat_le, nat_lt, List, [], ◌∷◌, length, fold, Option}
+use Rattle.std.specs.Prelude.{Some, None, max, min, slice_get, unsigned_abs, pos, ◌+ℤ◌}
 use Rattle.jiff_core.specs.Date.{epoch_day}
 use Rattle.jiff_core.specs.declared.civil.date.Date.{Date}
 use Rattle.plan_sheet.specs.Place.{place}

@@ -11,7 +11,8 @@ use Rattle.plan_table.specs.Table.{Activity, Resource, Table}
 use Rattle.plan_week.specs.declared.week.State.{State}
 use Rattle.plan_week.specs.declared.week.State.TheVariants.{Open, Begun, Done}
 use Rattle.plan_week.specs.declared.week.Week.{Week}
-use Rattle.plan_weekback.specs.Comparisons.{is_begun, is_done, is_open, rows_of, same_absence, same_activity, same_arc, same_flag, same_instant, same_list, same_numbers, same_resource, same_state, same_table, same_week}
+use Rattle.plan_weekback.specs.Comparisons.{is_begun, is_done, is_open, rows_of, same_absence, same_activity, same_arc, same_flag, same_instant, same_list}
+use Rattle.plan_weekback.specs.Comparisons.{same_numbers, same_resource, same_state, same_table, same_week}
 use Rattle.plan_weekback.specs.Sameness.{IsSameList, IsSameWeek}
 use Rattle.plan_weeklist.specs.declared.listed.ListedWeek.{ListedWeek}
 

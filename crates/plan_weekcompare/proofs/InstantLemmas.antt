@@ -26,7 +26,8 @@ use Rattle.plan_weeklist.specs.declared.dates.Dates.{Dates}
 use Rattle.plan_weeklist.specs.declared.list.WeekList.{WeekList}
 use Rattle.plan_weeklist.specs.declared.listed.ListedWeek.{ListedWeek}
 use Rattle.plan_weeklist.specs.Columns.{is_absence}
-use Rattle.plan_weeklist.specs.Dates.{begun_from, begun_in, cell_in, date_at, date_in, dates_checked, dates_read, done_in, keeps_fixed, keeps_rest, known_today, latest_instant, number_in, number_or, number_within}
+use Rattle.plan_weeklist.specs.Dates.{begun_from, begun_in, cell_in, date_at, date_in, dates_checked, dates_read, done_in, keeps_fixed, keeps_rest, known_today}
+use Rattle.plan_weeklist.specs.Dates.{latest_instant, number_in, number_or, number_within}
 use Rattle.plan_weeklist.specs.Faults.{◌>>=◌, Fault, check, fault}
 use Rattle.plan_weeklist.specs.ListedLists.{IsListedWeek}
 use Rattle.plan_weeklist.specs.ListedWeeks.{begun_state, dates_by, dates_for, dates_of, dates_or, first_dates, placed, planned, state_by, state_of, states_at}

@@ -1,5 +1,6 @@
 -- The use that the rectangles of a plan draw is the needs and the absences together.
-use Rattle.std.proofs.Common.{◌≡◌, ℕ, ◌+◌, ◌-◌, ◌≤◌, ◌<◌, ◌&&◌, ◌⊎◌, ◌++◌, Bool, true, false, inl, inr, List, [], ◌∷◌, length, map, flat_map, get_or, min, nat_eq, nat_le, nat_lt, cond, refl, sym, ap, ◌∙◌, subst, arith, zero, suc, append-nil}
+use Rattle.std.proofs.Common.{◌≡◌, ℕ, ◌+◌, ◌-◌, ◌≤◌, ◌<◌, ◌&&◌, ◌⊎◌, ◌++◌, Bool, true, false, inl, inr, List, [], ◌∷◌, length, map, flat_map, get_or, min}
+use Rattle.std.proofs.Common.{nat_eq, nat_le, nat_lt, cond, refl, sym, ap, ◌∙◌, subst, arith, zero, suc, append-nil}
 use Rattle.std.specs.Prelude.{slice_index}
 use Rattle.std.specs.List.{range_with_len, sum_by}
 use Rattle.std.proofs.lemmas.Bool.{and_left, and_right, cases_eq, cases_lt, cond-false, eq-eqb, le-leb, le-ltb, lt-leb, lt-ltb, ne_eqb}
@@ -21,7 +22,8 @@ use Rattle.plan_weeks.specs.declared.planning.WeekPlan.{WeekPlan}
 use Rattle.plan_weekview.specs.WeekDays.{begin_of}
 use Rattle.plan_weeksheet.specs.Rectangles.{Rectangle}
 use Rattle.plan_weeksheet.specs.Uses.{DrawsUse, drawn_use, takes}
-use Rattle.plan_weeksheet.specs.WeekRectangles.{absence_part, absence_rectangle, absence_rectangles, activity_rectangle, activity_rectangles, missing_amount, missing_amounts, rectangle_at, rectangle_if, week_rectangles}
+use Rattle.plan_weeksheet.specs.WeekRectangles.{absence_part, absence_rectangle, absence_rectangles, activity_rectangle, activity_rectangles, missing_amount}
+use Rattle.plan_weeksheet.specs.WeekRectangles.{missing_amounts, rectangle_at, rectangle_if, week_rectangles}
 use Rattle.plan_weeksheet.proofs.StepLemmas.{range_more}
 
 -- ---- sums

@@ -11,7 +11,8 @@ use Rattle.plan_week.specs.Weeks.{project_of, state_of, needed, missing, IsWeekP
 use Rattle.plan_weekverdict.specs.declared.verdict.Miss.{Miss}
 use Rattle.plan_weekverdict.specs.declared.verdict.WeekVerdict.{WeekVerdict}
 use Rattle.plan_weekverdict.specs.declared.verdict.WeekVerdict.TheVariants.{Misplaced, Broken, Over, Feasible}
-use Rattle.plan_weekverdict.specs.Verdicts.{HasSettled, MissesAt, IsOver, HasNoMiss, HasNoBroken, HasNoOver, HasNoViolation, IsFirstMiss, IsFirstBroken, IsFirstOver, IsWeekVerdict, AtMostOneVerdict, PlansHaveNoViolation, first_of}
+use Rattle.plan_weekverdict.specs.Verdicts.{HasSettled, MissesAt, IsOver, HasNoMiss, HasNoBroken, HasNoOver, HasNoViolation, IsFirstMiss, IsFirstBroken}
+use Rattle.plan_weekverdict.specs.Verdicts.{IsFirstOver, IsWeekVerdict, AtMostOneVerdict, PlansHaveNoViolation, first_of}
 use Rattle.plan_weekverdict.proofs.MissLemmas.{keeps_all, misses_none, miss_once}
 use Rattle.plan_weekverdict.proofs.ArcLemmas.{kept_none, none_kept}
 
