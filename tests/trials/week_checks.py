@@ -66,9 +66,9 @@ class Table:
     def row(self, case, i, start):
         numbers = [self.week.durations[i], start_shown(self.week, i, start)]
         numbers += [end_shown(self.week, i, start)] + [0] * self.is_late
-        nothing = "" if self.is_csv else "-"
-        cells = [f"a{i}", *(nothing if n is None else str(n) for n in numbers)]
-        return i, cells + [case.names[i]] * case.has_names
+        nothing, own = "" if self.is_csv else "-", case.activities()[i]
+        cells = [own["id"], *(nothing if n is None else str(n) for n in numbers)]
+        return i, cells + [own.get("name", "")] * case.has_names
 
     def counted(self):
         """The rows of the file: those of open activities, and maybe the others."""
