@@ -477,13 +477,13 @@ const INSTANCE_IF_SHOP: Argument = Argument {
 const BUDGET: Argument = Argument {
     name: "BUDGET",
     form: Form::Text,
-    help: "how many partial schedules the search may visit, 1 to 200000",
+    help: "the number of partial schedules that the search may visit, 1 to 200000",
 };
 
 const NODES: Argument = Argument {
     name: "NODES",
     form: Form::Text,
-    help: "how many nodes the search may visit, 1 to 1000000000",
+    help: "the number of nodes that the search may visit, 1 to 1000000000",
 };
 
 // The option of commands whose rows are those of activities, orders or machines.
@@ -907,7 +907,7 @@ const SERVER_COMMANDS: [Entry; 7] = [
             Argument {
                 name: "COUNT",
                 form: Form::Count,
-                help: "how many connections to serve, 1 to 4294967295",
+                help: "the number of connections to serve, 1 to 4294967295",
             },
             Argument {
                 name: "patience",
