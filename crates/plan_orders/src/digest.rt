@@ -2,4 +2,4 @@
 
 /// The digest of all sources of the program but this file, in hexadecimal digits, as
 /// `./release --digest` prints it.
-pub(crate) const SOURCES: &str = "7ff512e2d88934844300fb621c681546d0ee6b73b67f9f74be587ce82fd27900";
+pub(crate) const SOURCES: &str = "7b77f0dd847b6714e9606b55877cd68535b789653a40b1217ff8cfea95354596";
