@@ -2,4 +2,4 @@
 
 /// The digest of all sources of the program but this file, in hexadecimal digits, as
 /// `./release --digest` prints it.
-pub(crate) const SOURCES: &str = "7b77f0dd847b6714e9606b55877cd68535b789653a40b1217ff8cfea95354596";
+pub(crate) const SOURCES: &str = "f01681c09f707910999835a3785979aa6e1d950f76d85494465c5b94a56e8f6f";

@@ -33,6 +33,18 @@ fn is_dated(
     Ok(week_in(rt, &order, &reading, file)?.is_some())
 }
 
+// Returns the print of a calendar file whose holidays were read.
+fn print_of<'a>(print: Print<'a>, dates: Dates<'a>, events: &'a Events<'a>) -> Print<'a> {
+    Print {
+        sheet: Sheet::Events { dates, events },
+        options: print.options,
+        subject: print.subject,
+        origin: print.origin,
+        holidays: None,
+        file: print.file,
+    }
+}
+
 // Writes the calendar file of a file that was read.
 fn do_read(
     rt: &HostRuntime,
@@ -47,11 +59,11 @@ fn do_read(
 
 /// Prints a calendar file of the best schedule of a file to standard output, with the dates and the
 /// events of the print. The holidays are read first.
-pub(crate) fn do_events_file(
+pub(crate) fn do_events_file<'a>(
     rt: &HostRuntime,
-    print: Print<'_>,
-    dates: Dates<'_>,
-    events: &Events<'_>,
+    print: Print<'a>,
+    dates: Dates<'a>,
+    events: &'a Events<'a>,
     words: WeekWords<'_>,
     line: &mut ProgressLine<'_>,
 ) -> Result<(), FileFault> {
@@ -69,13 +81,6 @@ pub(crate) fn do_events_file(
     if words.now.is_some() || words.goal.is_some() || is_dated(rt, print, dates, words, &file)? {
         return Err(usage(rt, "--format ics doesn't support lists with dates")?);
     }
-    let print = Print {
-        sheet: Sheet::Events { dates, events },
-        options: print.options,
-        subject: print.subject,
-        origin: print.origin,
-        holidays: None,
-        file: print.file,
-    };
+    let print = print_of(print, dates, events);
     Ok(do_read(rt, print, line, &file)?)
 }
