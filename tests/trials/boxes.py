@@ -114,7 +114,9 @@ def use_path(axis, makespan, capacity, uses):
     for t in range(makespan):
         amount += change[t]
         if change[t]:
-            path += f"H{axis.from_place(t)}V{108 - amount * 80 // max(capacity, 1)}"
+            # A use far above the capacity ends at the top of the image.
+            top = max(108 - amount * 80 // max(capacity, 1), 0)
+            path += f"H{axis.from_place(t)}V{top}"
     return path + "H1330V108z"
 
 
