@@ -1,2 +1,2 @@
 // The SHA-256 of plan.wasm. Written by share/web/engine/make.
-export const DIGEST = "90aba09e1dab3cce2c51f9d3b1add89f06fc3adb636ba3b5e1cdfc4e95c0b214";
+export const DIGEST = "2411ff58c7df7a662fe1e5017668302044a6eea4cbc538651d2cb572c71a3056";

@@ -56,11 +56,17 @@ class Axis:
     def starts_week(self, t):
         return t > 0 and self.week(t - 1) != self.week(t)
 
+    @functools.cached_property
+    def first_weekday(self):
+        """The first weekday of work, 0 for a Monday."""
+        return min((day - 1) % 7 for day in self.days)
+
     def is_labelled(self, t):
-        """Whether an instant has a label: the first one, and the first one of each labelled week."""
+        """Whether an instant has a label: the first one, and the first one of each labelled week, if
+        it is on the first weekday of work."""
         if t == 0:
             return True
-        if not self.starts_week(t):
+        if not self.starts_week(t) or (self.days[t] - 1) % 7 != self.first_weekday:
             return False
         days = self.span + self.span // 3
         distance = next((weeks for weeks in WEEKS if days <= 12 * 7 * weeks), MOST_DISTANCE // 7)
@@ -108,7 +114,9 @@ def use_path(axis, makespan, capacity, uses):
     for t in range(makespan):
         amount += change[t]
         if change[t]:
-            path += f"H{axis.from_place(t)}V{108 - amount * 80 // max(capacity, 1)}"
+            # A use far above the capacity ends at the top of the image.
+            top = max(108 - amount * 80 // max(capacity, 1), 0)
+            path += f"H{axis.from_place(t)}V{top}"
     return path + "H1330V108z"
 
 
@@ -207,28 +215,21 @@ def rows_of(image):
     return rows
 
 
-class Known:
-    """The faults that docs/known-gaps.md names: a day's label that holidays have moved behind the first
-    marked weekday of its week may overlap the next one, and a last number from 100,000 on leaves the
-    image. `marks` are seven digits, from Monday on."""
-
-    def __init__(self, axis, marks):
-        days = [(axis.days[t], axis.day_label(t)) for t in axis.labelled]
-        self.moved = {label for day, label in days if (day - 1) % 7 != marks.index("1")}
-        self.last = set() if axis.days else {str(axis.span)} if axis.span >= LEAST_LONG else set()
+def long_labels(axis):
+    """The fault that docs/known-gaps.md names: a last number from 100,000 on leaves the image."""
+    return set() if axis.days else {str(axis.span)} if axis.span >= LEAST_LONG else set()
 
 
-def check_boxes(what, image, known):
-    """Whether labels have a known fault; no others overlap, and none leaves its room."""
+def check_boxes(what, image, long):
+    """Whether a label has the known fault; no others leave their room, and none overlap."""
     found = False
     for row in rows_of(image):
         row.sort(key=lambda box: (box.left, box.right))
         for box in row:
-            if not box.is_within and box.text not in known.last:
+            if not box.is_within and box.text not in long:
                 raise Wrong(f"{what}: the label {box.text!r} leaves its room, to {box.right:.1f}")
             found |= not box.is_within
         for one, other in zip(row, row[1:]):
-            if one.right > other.left and one.text not in known.moved:
+            if one.right > other.left:
                 raise Wrong(f"{what}: {one.text!r} ends at {one.right:.1f}, {other.text!r} begins at {other.left:.1f}")
-            found |= one.right > other.left
     return found

@@ -39,6 +39,7 @@ HEADERS |= {"duration": ("duration", "Days", "Dauer"), "after": ("predecessors",
 RESOURCES = ("crew", "Digger", "maçon")
 WORDS = {**results.WORDS, "A": "start_a", "B": "start_b"}
 FORMS = ("text", "csv", "json")
+LINKS = ("resources", "predecessors")
 
 
 # ---- what is drawn
@@ -187,15 +188,26 @@ class Sheet:
     def line(self, places, front, cells):
         return padded(places, front) + "".join(padded(self.width, cell) for cell in cells)
 
+    def linked(self, mark, link):
+        """The mark, the resources and the predecessors behind a row, which activities with ids have."""
+        links = [self.drawn.links(j) for j in self.drawn.numbers()]
+        widths = {head: max(map(len, (head, *(own[head] for own in links)))) for head in LINKS}
+        return mark.ljust(2 if self.flags else 0) + "".join(" " + link[head].rjust(widths[head]) for head in LINKS)
+
+    def behind(self, mark, link):
+        return self.linked(mark, link) if self.drawn.ids else mark
+
     def text(self):
         drawn = self.drawn
         places = max([4, *(len(name.encode()) for name in drawn.ids)])
-        lines = [(self.line(places, self.front(), self.heads), "name")]
+        heading = self.line(places, self.front(), self.heads) + self.behind("", {head: head for head in LINKS})
+        lines = [(heading, "name")]
         for j in drawn.numbers():
             line = self.line(places, drawn.label(j), map(shown, self.cells[j]))
-            lines.append((line + (" *" if self.flags and self.flags[j] else ""), drawn.name(j)))
-        place = max(len(line.encode()) for line, name in lines if name) + 1
-        rows = [line + " " * (place - len(line.encode())) + name if name else line for line, name in lines]
+            mark = " *" if self.flags and self.flags[j] else ""
+            lines.append((line + self.behind(mark, drawn.ids and drawn.links(j)), drawn.name(j)))
+        place = max(len(line) for line, name in lines if name) + 1
+        rows = [line.ljust(place) + name if name else line for line, name in lines]
         return "".join(row + "\n" for row in [*rows, *self.words]).encode()
 
     def columns(self):
@@ -208,7 +220,7 @@ class Sheet:
             found["name"] = {j: drawn.name(j) or None for j in drawn.numbers()}
         if drawn.ids:
             links = {j: drawn.links(j) for j in drawn.numbers()}
-            found |= {head: {j: own[head] for j, own in links.items()} for head in ("resources", "predecessors")}
+            found |= {head: {j: own[head] for j, own in links.items()} for head in LINKS}
         return found
 
     def csv(self):

@@ -233,6 +233,25 @@ class Steps:
 STEP_TABLES = ("solve", "days", "compare")
 
 
+# The commands on a list whose tables as text have columns that those on its file lack.
+LINKED = ("solve", "days", "compare", "slack")
+TAIL = re.compile(r"(?:makespan|chain|moved|added|removed) ")
+LINK_HEADS = re.compile(r" +resources(?: +predecessors)?(?= |$)")
+
+
+def without_links(text):
+    """A table as text without the columns of the resources and the predecessors. Marks of critical
+    activities stand before these columns, and the head of a table without names has no place for them."""
+    lines = text.decode().split("\n")
+    heads = [LINK_HEADS.search(line) for line in lines]
+    at = next((at for at, found in enumerate(heads) if found), None)
+    if at is not None:
+        first, last = heads[at].span()
+        first += 2 if " slack " in lines[at][:first + 1] else 0
+        lines[at:] = [line if TAIL.match(line) or len(line) <= first else (line[:first] + line[last:]).rstrip() for line in lines[at:]]
+    return re.sub(" slack +name", " slack name", "\n".join(lines)).encode()
+
+
 def compare_command(what, folder, command, instances, options, made_folder, notes, steps=None):
     """That a command answers for a list as for the file that is made of it, with the notes on the list
     behind an output. Tables, charts and the report of a list of orders have no steps that take no time."""
@@ -243,6 +262,8 @@ def compare_command(what, folder, command, instances, options, made_folder, note
     if command[0][0] == "report" and other:
         output = without_idle_steps(output)
     notes = errors + notes if output else errors
+    if command[0][0] in LINKED and "--format" not in [*named, *command[0]]:
+        found, output = (found[0], without_links(found[1]), found[2]), without_links(output)
     if steps and command[0][0] in STEP_TABLES and "ics" not in command[0]:
         found = (found[0], steps.read(named, found[1]), found[2])
         output = steps.shown(plainly, output)

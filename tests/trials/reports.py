@@ -314,7 +314,7 @@ def wanted_tails(schedule):
     return [(schedule.axis.to_place(end), schedule.axis.to_place(end + slack)) for end, slack in rows if slack]
 
 
-def compare_images(what, images, schedule, crews, marks):
+def compare_images(what, images, schedule, crews):
     """Compares the sizes and the marks of all images, the use of resources, and the boxes of labels.
     Returns whether there is a known fault."""
     axis = schedule.axis
@@ -328,13 +328,13 @@ def compare_images(what, images, schedule, crews, marks):
         used = [(row["start"], row["end"], schedule.needs[row["act"]][k]) for row in schedule.rows]
         path = boxes.use_path(axis, schedule.makespan, capacity, used)
         boxes.check_use(what, image, axis, label(k + 1, crews), capacity, path)
-    known = boxes.Known(axis, digits_of(marks) if marks else "")
-    return any([boxes.check_boxes(what, image, known) for image in images])
+    long = boxes.long_labels(axis)
+    return any([boxes.check_boxes(what, image, long) for image in images])
 
 
-def compare(what, text, schedule, by_job, title, names, machines, marks=None):
+def compare(what, text, schedule, by_job, title, names, machines):
     """Compares a page with a schedule. `machines` are the names of machines, or of the resources of a
-    project, `marks` the working days. Returns whether labels have a known fault."""
+    project. Returns whether a label has a known fault."""
     page = Page(text)
     same(f"{what}: the titles", (page.texts["title"], page.texts["h1"]), ([title], [title]))
     note = f"Makespan {schedule.makespan}"
@@ -354,7 +354,7 @@ def compare(what, text, schedule, by_job, title, names, machines, marks=None):
         same(f"{what}: the tails", tails, wanted_tails(schedule))
     rows = [cells_of(schedule, k, row, names, machines) for k, row in enumerate(schedule.rows)]
     same(f"{what}: the table", page.rows, [heads_of(schedule), *rows])
-    return compare_images(what, images, schedule, machines, marks)
+    return compare_images(what, images, schedule, machines)
 
 
 def drawn_dates(draw, folder, start, marks):
@@ -393,7 +393,7 @@ def try_file(draw, folder):
     schedule = Schedule(folder, text, [own, file, *instance], dates, holidays)
     default = instance[0] if is_shop and instance[0] != "-" else "drawn"
     page = answer[1].decode()
-    is_known = compare(what, page, schedule, by_job, title or default, names, machines, *dates[1:])
+    is_known = compare(what, page, schedule, by_job, title or default, names, machines)
     if draw.chance(0.5):
         listed = written(folder, "starts", schedule.table[1])
         again = plan(folder, "report", "--starts", listed, *options, file, *instance)
@@ -422,7 +422,7 @@ def try_list(draw, folder):
     same(f"{what}: the status and the errors", (answer[0], answer[2]), (0, b""))
     schedule = Listed(folder, drawn, own, dates, holidays)
     names, crews = drawn.names(), drawn.crew_names()
-    is_known = compare(what, answer[1].decode(), schedule, False, "list.csv", names, crews, *dates[1:])
+    is_known = compare(what, answer[1].decode(), schedule, False, "list.csv", names, crews)
     if len(drawn.rows) <= MOST_SOLVED:
         try_solved(what, folder, file, options)
     return "known fault of labels" if is_known else "fine list"
@@ -450,7 +450,7 @@ def try_points(folder):
     status, text, errors = plan(folder, *words)
     same("a report of makespan 0", (status, errors), (0, b""))
     schedule = Schedule(folder, POINTS, ["lft", file], dates)
-    compare("a report of makespan 0", text.decode(), schedule, False, "points", {}, {}, MARKS[0])
+    compare("a report of makespan 0", text.decode(), schedule, False, "points", {}, {})
 
 
 def try_long(folder):
@@ -464,11 +464,11 @@ def try_long(folder):
         what = f"a report of {count} long activities {dates}"
         same(what, (status, errors), (0, b""))
         schedule = Listed(folder, drawn, "lft", dates, b"")
-        compare(what, text.decode(), schedule, False, "list.csv", {}, drawn.crew_names(), *dates[1:])
+        compare(what, text.decode(), schedule, False, "list.csv", {}, drawn.crew_names())
 
 
 def try_moved(folder):
-    """A report in which holidays move the first day of a labelled week (docs/known-gaps.md)."""
+    """A report in which holidays move the first day of a week, which then has no label."""
     drawn, dates, holidays = RowList({"crew": 1}, [("A", "Dig", 30, [], [1])]), ["2025-12-01", "mon-fri"], HOLIDAYS
     written(folder, "list.csv", drawn.text())
     written(folder, "list.sm", plan(folder, "import", "list.csv")[1])
@@ -477,7 +477,7 @@ def try_moved(folder):
     same("a report with holidays", (status, errors), (0, b""))
     schedule = Listed(folder, drawn, "lft", dates, holidays)
     names = drawn.names(), drawn.crew_names()
-    return compare("a report with holidays", text.decode(), schedule, False, "list.csv", *names, dates[1])
+    return compare("a report with holidays", text.decode(), schedule, False, "list.csv", *names)
 
 
 def try_reports(cases=1000, seed=1, is_verbose=False):

@@ -90,6 +90,10 @@ class Drawn:
         column = self.draw.choice(DATES if row["id"] != "absence" else ["earliest", "duration"])
         row[column] = self.draw.choice([*BAD, "interrupted", "2", "0", str(self.week.today + 2)])
 
+    def activities(self):
+        """The rows of activities."""
+        return [row for row in self.rows if row["id"] != "absence"]
+
     def columns(self):
         return COLUMNS[:1] + ["name"] * self.has_names + COLUMNS[1:] + self.crews
 

@@ -1,5 +1,5 @@
-//! What the searches for shortest schedules of job shops share: active schedules in which no step
-//! starts later than in a feasible list of starts, and a lower bound that needs no search.
+//! The shared part of the searches for shortest schedules of job shops: active schedules in which
+//! no step starts later than in a feasible list of starts, and a lower bound without a search.
 #![tactic(auto)]
 
 mod bounds;

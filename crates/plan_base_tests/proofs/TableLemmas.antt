@@ -1,5 +1,6 @@
 -- The tree of the tests obeys the laws.
-use Rattle.std.proofs.Common.{get_or, take, false, ◌≡◌, ℕ, ◌+◌, ◌<◌, ◌≤◌, true, Bool, nat_lt, List, [], ◌∷◌, ◌++◌, length, slice_index, filter, fold, sym, ap, ◌∙◌, subst, append_assoc, append-nil, length-append, arith}
+use Rattle.std.proofs.Common.{get_or, take, false, ◌≡◌, ℕ, ◌+◌, ◌<◌, ◌≤◌, true, Bool, nat_lt, List, [], ◌∷◌, ◌++◌, length, slice_index, filter, fold, sym, ap}
+use Rattle.std.proofs.Common.{◌∙◌, subst, append_assoc, append-nil, length-append, arith}
 use Rattle.std.specs.List.{AllByRecursion}
 use Rattle.std.proofs.lemmas.Bool.{cond_both, cond-true, cond-false, and_parts, ltb-true}
 use Rattle.std.proofs.lemmas.List.Elements.{filter_passes, filter_more, All-contains}

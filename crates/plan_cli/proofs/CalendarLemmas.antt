@@ -15,9 +15,6 @@ use Rattle.plan_documents.proofs.ErrorLemmas.{refuses_as}
 pub dated : (dates : Dates) (plain c : Workdays) → IsPlain dates plain → AddsHolidays plain dates.holidays.now c → IsDated dates c
 dated dates plain c is adds = record { plain = plain; spelled = is; holidays = adds }
 
-pub bad_dates : (dates : Dates) (e : CliFault) → Refuses (TellsBadDates dates) e → Refuses (TellsNoCalendar dates) e
-bad_dates dates e refused = refuses_as (TellsBadDates dates) (TellsNoCalendar dates) e (λ line tells. inl tells) refused
-
 pub bad_holidays : (dates : Dates) (plain : Workdays) (e : CliFault) → IsPlain dates plain → Refuses (TellsBadHolidays dates.holidays.now) e
     → Refuses (TellsNoCalendar dates) e
 bad_holidays dates plain e is refused =

@@ -30,4 +30,5 @@ pub check_shown : (r : Rows) (starts : Bor (List ℕ)) (s : Subject) (file : Lis
     → IsViewOf (task.Check starts s) file view → ShowsTask r (task.Check starts s) file (rows_text r view)
 check_shown rows.Plain starts s file view is = view_text (task.Check starts s) file view is
 check_shown rows.Named starts s file view is = (view, is, refl)
+check_shown rows.Listed starts s file view is = (view, is, ([], refl, refl))
 check_shown (rows.In format) starts s file view is = (view, is, ([], refl, refl))

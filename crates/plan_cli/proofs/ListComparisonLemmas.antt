@@ -16,15 +16,6 @@ use Rattle.plan_documents.proofs.ErrorLemmas.{refuses_as}
 use Rattle.plan_cli.specs.CompareRun.{IsNamedFault, TellsNoStartsOf, named_line}
 use Rattle.plan_cli.specs.ListComparisons.{IsOldLine, TellsNoIds, TellsNoLists, TellsNoOld, TellsNoPlans, old_words}
 
--- the error of the old file, with words behind its line
-pub named_old : (IsLine : List ℕ → Type 0) → (e named : CliFault) → Refuses IsLine e → IsNamedFault old_words e named → Refuses (IsOldLine IsLine) named
-named_old IsLine (cli.Refused refusal) named told is =
-    refuses_as (λ said. said ≡ named_line old_words (refusal_line refusal)) (IsOldLine IsLine) named
-    (λ said same. (refusal_line refusal, told, same)) is
-named_old IsLine cli.Memory named told is = subst (λ (f : CliFault). Refuses (IsOldLine IsLine) f) (sym is) tt
-named_old IsLine (cli.Input unread) named told is = absurd told
-named_old IsLine cli.Output named told is = absurd told
-
 -- an old line of another kind
 old_as : (IsLine IsOther : List ℕ → Type 0) (line : List ℕ) → ((plain : List ℕ) → IsLine plain → IsOther plain) → IsOldLine IsLine line → IsOldLine IsOther line
 old_as IsLine IsOther line same (plain, is, shown) = (plain, same plain is, shown)

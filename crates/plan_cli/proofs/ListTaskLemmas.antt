@@ -11,14 +11,16 @@ use Rattle.plan_errors.specs.Output.{Refuses}
 use Rattle.plan_documents.specs.declared.capacities.Capacity.{Capacity}
 use Rattle.plan_documents.specs.Lists.{IsMadeOf, RefusesActivities, RefusesIn, RefusesKind, RefusesList, RefusesMade, IsReadAs, RefusesReading, ReadsAs}
 use Rattle.plan_documents.specs.Spreadsheets.{OfList}
-use Rattle.plan_cli.specs.Tasks.{IsLineOf, ShowsTask, list_subject, with_subject, has_steps, ShowsBy, IsNamedCheck, check_in, list_check, ShowsChecked, ShowsKind, ShowsOn, ShowsRead, RefusesOn, RefusesRead}
+use Rattle.plan_cli.specs.Tasks.{IsLineOf, ShowsTask, list_subject, with_subject, has_steps, ShowsBy, IsNamedCheck, check_in, list_check, ShowsChecked}
+use Rattle.plan_cli.specs.Tasks.{ShowsKind, ShowsOn, ShowsRead, RefusesOn, RefusesRead}
 use Rattle.plan_documents.specs.declared.documents.Subject.{Subject}
 use Rattle.plan_documents.specs.declared.documents.Subject.TheVariants as subject
 use Rattle.plan_cli.specs.declared.tasks.Rows.{Rows}
 use Rattle.plan_cli.specs.declared.tasks.Task.{Task}
 use Rattle.plan_cli.specs.declared.tasks.Task.TheVariants as task
 use Rattle.plan_cli.proofs.RunLemmas.{HoldsByFront}
-use Rattle.plan_cli.proofs.TaskLemmas.{shown_front, task_line_front, import_front, no_import_front, no_sound_import_front, shop_import_front, no_shop_import_front, kind_front, list_front, refuses_list_front}
+use Rattle.plan_cli.proofs.TaskLemmas.{shown_front, task_line_front, import_front, no_import_front, no_sound_import_front, shop_import_front}
+use Rattle.plan_cli.proofs.TaskLemmas.{no_shop_import_front, kind_front, list_front, refuses_list_front}
 use Rattle.plan_documents.proofs.ListLemmas.{read_refused, read_as}
 
 -- ---- the text of a task
@@ -77,21 +79,6 @@ list_check_is : (kind : Option ListKind) (t : Task) (starts : Bor (List ℕ)) (s
     → t ≡ task.Check starts s
 list_check_is None t starts s e = absurd (none_some e)
 list_check_is (Some kind) t starts s e = check_is t starts s e
-
--- the text of the check of a list
-pub check_shows : {X E : Type 0} (view : X → List ℕ) (kind : Option ListKind) (r : Rows) (t : Task) (s of : Subject) (starts : Bor (List ℕ))
-    (file : List ℕ) (result : Result X E)
-    → list_check kind t ≡ Some (starts, of) → IfOk result (λ x. IsNamedCheck r starts.now of file (view x))
-    → IfOk result (λ x. ShowsKind kind r t s file (view x))
-check_shows view kind r t s of starts file result is named =
-    subst (λ (o : Option (Bor (List ℕ) × Subject)). IfOk result (λ x. ShowsChecked o kind r t s file (view x))) (sym is) named
-
--- the text of another task
-pub other_shows : {X E : Type 0} (view : X → List ℕ) (kind : Option ListKind) (r : Rows) (t : Task) (s : Subject) (file : List ℕ) (result : Result X E)
-    → list_check kind t ≡ None → IfOk result (λ x. ShowsChecked None kind r t s file (view x))
-    → IfOk result (λ x. ShowsKind kind r t s file (view x))
-other_shows view kind r t s file result is shown =
-    subst (λ (o : Option (Bor (List ℕ) × Subject)). IfOk result (λ x. ShowsChecked o kind r t s file (view x))) (sym is) shown
 
 -- the error of the check of a list
 pub check_refused : {X : Type 0} (kind : Option ListKind) (t : Task) (s : Subject) (starts : Bor (List ℕ)) (file : List ℕ) (result : Result X CliFault)

@@ -7,7 +7,7 @@ use Rattle.plan_errors.specs.declared.fault.CliFault.{CliFault}
 use Rattle.plan_errors.specs.Output.{Refuses}
 use Rattle.plan_gantt.specs.Limits.{latest_end}
 use Rattle.plan_documents.specs.Documents.{problem_of, count_of, sheet_of}
-use Rattle.plan_solve.specs.declared.solving.Solved.{Solved}
+use Rattle.plan_solve.specs.declared.solutions.Solved.{Solved}
 use Rattle.plan_cli.specs.SolveRun.{IsSolution}
 use Rattle.plan_cli.specs.Scheduled.{IsMadeFrom, IsShowable, TellsNotListed}
 use Rattle.plan_documents.specs.Starts.{TellsNoStarts}

@@ -204,17 +204,6 @@ whole_front file few = by_length (cases_lt longest_text (length file))
         let m = length-take (longest_text + 1) file in
         absurd (omega (arith, m, few, long))
 
--- the text for the project in the front of a file is that for the file
-pub of_project_front : (given : List Capacity) (IsText : Planned → List ℕ → Type 0) → HoldsByFront (IsOfProject given IsText)
-of_project_front given IsText file text (p, says, shown) =
-    subst (λ (bytes : List ℕ). IsOfProject given IsText bytes text) (whole_front file (project_short (take (longest_text + 1) file) p says)) (p, says, shown)
-
--- the line that refuses the front of a file is that for the file
-pub refuses_file_front : (given : List Capacity) (IsLine : Planned → List ℕ → Type 0) → HoldsByFront (RefusesFile given IsLine)
-refuses_file_front given IsLine file line (inl first) = inl (line_front file line first)
-refuses_file_front given IsLine file line (inr (p, says, tells)) =
-    subst (λ (bytes : List ℕ). RefusesFile given IsLine bytes line) (whole_front file (project_short (take (longest_text + 1) file) p says)) (inr (p, says, tells))
-
 -- a shop file that is too long fails its first check
 long_shop : (instance file : List ℕ) → longest_text < length file
     → reading.shop instance file ≡ fault code.TooLong 0

@@ -42,7 +42,8 @@ use Rattle.plan_table.specs.Overrides.{Override, override_of}
 use Rattle.plan_table.specs.ShopReading.{shop_in, shop_table_read}
 use Rattle.plan_table.specs.Reading as reads
 use Rattle.plan_table.specs.Refused.{IsRefusedWith, IsUnsoundWith}
-use Rattle.plan_documents.specs.ImportRun.{IsImportOf, TellsNoImport, TellsNoSoundImport, IsShopImportOf, TellsNoShopImport, IsImportBy, TellsNoImportBy, IsImportIn, TellsNoImportIn, IsImport, TellsUnimported, IsShopImport, TellsNoShop}
+use Rattle.plan_documents.specs.ImportRun.{IsImportOf, TellsNoImport, TellsNoSoundImport, IsShopImportOf, TellsNoShopImport, IsImportBy, TellsNoImportBy}
+use Rattle.plan_documents.specs.ImportRun.{IsImportIn, TellsNoImportIn, IsImport, TellsUnimported, IsShopImport, TellsNoShop}
 use Rattle.plan_documents.specs.Spreadsheets.{IsListOf, IsLong, IsPlainIf, OfList, RefusesOfList, TellsBook, TellsNoList, TellsNoListIf, is_short}
 use Rattle.plan_cli.specs.Tasks.{IsTextOf, IsLineOf, ShowsTask}
 use Rattle.plan_cli.specs.declared.tasks.Rows.{Rows}
@@ -52,7 +53,8 @@ use Rattle.plan_cli.specs.declared.tasks.Task.TheVariants as task
 use Rattle.plan_cli.specs.TaskViews.{IsViewOf}
 use Rattle.plan_cli.specs.Views.{View, plain_text}
 use Rattle.plan_cli.proofs.ViewTextLemmas.{view_text}
-use Rattle.plan_cli.proofs.RunLemmas.{HoldsByFront, of_subject_front, refuses_subject_front, of_ids_front, refuses_ids_front, names_front, not_plain_front, proof_front, no_proof_front, table_front, line_front, project_short, plain_short, whole_front}
+use Rattle.plan_cli.proofs.RunLemmas.{HoldsByFront, of_subject_front, refuses_subject_front, of_ids_front, refuses_ids_front, names_front, not_plain_front}
+use Rattle.plan_cli.proofs.RunLemmas.{proof_front, no_proof_front, table_front, line_front, project_short, plain_short, whole_front}
 
 -- a plan file isn't too long
 plan_short : (text : List ℕ) → IsPlanFile text → length text ≤ longest_text
@@ -375,6 +377,11 @@ named_front : (task : Task) → HoldsByFront (ShowsTask rows.Named task)
 named_front task file text (view, is, named) =
     subst (λ (bytes : List ℕ). ShowsTask rows.Named task bytes text) (whole_front file (view_short task (take (longest_text + 1) file) view is)) (view, is, named)
 
+-- the text of a task for the front of a list is that for the list
+listed_front : (task : Task) → HoldsByFront (ShowsTask rows.Listed task)
+listed_front task file text (view, is, made) =
+    subst (λ (bytes : List ℕ). ShowsTask rows.Listed task bytes text) (whole_front file (view_short task (take (longest_text + 1) file) view is)) (view, is, made)
+
 -- the text of a task in a format for the front of a file is that for the file
 formatted_front : (task : Task) (format : Format) → HoldsByFront (ShowsTask (rows.In format) task)
 formatted_front task format file text (view, is, made) =
@@ -384,4 +391,5 @@ formatted_front task format file text (view, is, made) =
 pub shown_front : (task : Task) (names : Rows) → HoldsByFront (ShowsTask names task)
 shown_front task rows.Plain = task_front task
 shown_front task rows.Named = named_front task
+shown_front task rows.Listed = listed_front task
 shown_front task (rows.In format) = formatted_front task format

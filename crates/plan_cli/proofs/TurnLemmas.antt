@@ -5,7 +5,7 @@ use Rattle.plan_shop.specs.Shop.{JobShop, problem_of}
 use Rattle.plan_shop.specs.Docs.{IsSmallShop}
 use Rattle.plan_prove.specs.Proofs.{IsProofOf}
 use Rattle.plan_prove.specs.declared.proof.Proof.{Proof}
-use Rattle.plan_solve.specs.declared.solving.Solved.{Solved}
+use Rattle.plan_solve.specs.declared.solutions.Solved.{Solved}
 use Rattle.plan_cli.specs.SolveRun.{IsSolution}
 use Rattle.plan_documents.specs.declared.documents.Plan.TheVariants as plan
 use Rattle.plan_cli.proofs.ScheduledLemmas.{fits_shop}

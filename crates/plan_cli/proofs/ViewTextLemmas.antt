@@ -43,7 +43,8 @@ use Rattle.plan_cli.specs.SolveRun.{IsSolvedBy}
 use Rattle.plan_cli.specs.Tables.{IsTableBy}
 use Rattle.plan_cli.specs.Tables as tables
 use Rattle.plan_cli.specs.Tasks.{IsTextOf}
-use Rattle.plan_cli.specs.TaskViews.{IsTableViewBy, IsChartViewFrom, IsDaysViewFrom, IsVerdictView, IsSlackViewOf, IsComparedView, ComparesIn, AreDaysOf, ShowsDaysOf, IsBestViewOf, IsSolvedViewBy, IsProvedViewOf, IsViewOf, schedule_of, chart_of, bounded_of}
+use Rattle.plan_cli.specs.TaskViews.{IsTableViewBy, IsChartViewFrom, IsDaysViewFrom, IsVerdictView, IsSlackViewOf, IsComparedView, ComparesIn, AreDaysOf}
+use Rattle.plan_cli.specs.TaskViews.{ShowsDaysOf, IsBestViewOf, IsSolvedViewBy, IsProvedViewOf, IsViewOf, schedule_of, chart_of, bounded_of}
 use Rattle.plan_cli.specs.ListRun.{IsTimedList}
 use Rattle.plan_cli.specs.Views.{View, chart, text, plain_text}
 use Rattle.plan_documents.specs.declared.documents.Plan.{Plan}

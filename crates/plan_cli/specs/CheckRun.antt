@@ -28,7 +28,8 @@ pub record IsVerdictOn (listed : List ℕ) (p : Plan) (verdict : Verdict) : Type
 -- the text of a verdict with these rows, which have no names
 abbrev pub rows_text : Rows → View → List ℕ
 rows_text rows.Plain view = plain_text view
-rows_text rows.Named view = named_text [] [] view
+rows_text rows.Named view = named_text [] [] [] view
+rows_text rows.Listed view = named_text [] [] [] view
 rows_text (rows.In format) view = text_in format [] [] [] view
 
 -- a text gives the first verdict on starts

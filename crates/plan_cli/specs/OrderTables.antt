@@ -15,7 +15,7 @@ use Rattle.plan_formats.specs.NameColumns.{name_cell}
 use Rattle.plan_formats.specs.Tables.{Table}
 use Rattle.plan_views.specs.Bars.{Bar, ChartRow}
 use Rattle.plan_views.specs.Charts.{Chart}
-use Rattle.plan_views.specs.LinkColumns.{field_column}
+use Rattle.plan_views.specs.LinkColumns.{texts_column}
 use Rattle.plan_cli.specs.Views.{View, table, listing, chart, text}
 use Rattle.plan_documents.specs.declared.documents.Subject.{Subject}
 use Rattle.plan_documents.specs.declared.documents.Subject.TheVariants as subject
@@ -47,14 +47,14 @@ timed_rows names (step ∷ steps) (row ∷ rows) =
     timed_row names step row ++ timed_rows names steps rows
 
 -- the column of the machines
-abbrev pub machine_column : Column
-machine_column = field_column (codes "resources")
+abbrev pub machine_column : List Name → Column
+machine_column machines = texts_column (codes "resources") machines
 
 -- a table of steps without those that take no time, with the machines by name
 abbrev pub timed_table : JobShop → List Name → Table → Table
 timed_table s machines t = record {
   above = t.above;
-  columns = t.columns ++ machine_column ∷ [];
+  columns = t.columns ++ machine_column machines ∷ [];
   rows = timed_rows machines s.steps t.rows;
   below = t.below;
 }

@@ -2,7 +2,7 @@
 use Rattle.std.specs.Prelude.{◌≡◌, ◌≤◌, ℕ, List, ◌++◌}
 use Rattle.plan_sgs.specs.Problem.{Problem, IsActive, IsShortest, makespan}
 use Rattle.plan_solve.specs.Solutions.{IsLowerBound}
-use Rattle.plan_solve.specs.declared.solving.Solved.{Solved}
+use Rattle.plan_solve.specs.declared.solutions.Solved.{Solved}
 use Rattle.plan_documents.specs.Documents.{problem_of, count_of}
 use Rattle.plan_cli.specs.ProofText.{IsBoundLine}
 use Rattle.plan_cli.specs.Scheduled.{CanBeShown}

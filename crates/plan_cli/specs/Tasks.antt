@@ -133,7 +133,13 @@ AreLinksFor _ ids = λ file links. links ≡ []
 -- their ids
 abbrev pub IsNamedText : Task → List ℕ → List ℕ → Type 0
 IsNamedText t file text = (view : View) × IsViewOf t file view
-    × (text ≡ named_text (ids_for t file) (names_for t file) view)
+    × (text ≡ named_text (ids_for t file) (names_for t file) [] view)
+
+-- the same with the resources and the predecessors of activities
+abbrev pub IsListedText : Task → List ℕ → List ℕ → Type 0
+IsListedText t file text = (view : View) × IsViewOf t file view
+    × ((links : List Links) × AreLinksFor t (ids_for t file) file links
+    × (text ≡ named_text (ids_for t file) (names_for t file) links view))
 
 -- a text is what a task shows for a file in a format, with the names of the rows, and with the ids,
 -- the resources and the predecessors of activities
@@ -146,6 +152,7 @@ IsFormattedText format t file text = (view : View) × IsViewOf t file view
 abbrev pub ShowsTask : Rows → Task → List ℕ → List ℕ → Type 0
 ShowsTask rows.Plain t = IsTextOf t
 ShowsTask rows.Named t = IsNamedText t
+ShowsTask rows.Listed t = IsListedText t
 ShowsTask (rows.In format) t = IsFormattedText format t
 
 -- the project or the job shop of a task that reads lists too, if it is such a task
@@ -168,10 +175,11 @@ with_subject (task.Compare starts _) s = task.Compare starts s
 with_subject (task.Solve conflicts _) s = task.Solve conflicts s
 with_subject t s = t
 
--- the rows for a list have its names
+-- the rows for a list have its names, its resources and its predecessors
 abbrev pub list_rows : Rows → Rows
-list_rows rows.Plain = rows.Named
-list_rows rows.Named = rows.Named
+list_rows rows.Plain = rows.Listed
+list_rows rows.Named = rows.Listed
+list_rows rows.Listed = rows.Listed
 list_rows (rows.In format) = rows.In format
 
 -- the rows for a file, which may be a list
@@ -196,12 +204,14 @@ are_orders (Some kinds.Orders) = true
 abbrev pub rows_text : Rows → View → List ℕ
 rows_text rows.Plain view = plain_text view
 rows_text rows.Named view = plain_text view
+rows_text rows.Listed view = plain_text view
 rows_text (rows.In format) view = text_in format [] [] [] view
 
 -- the text of a chart with these rows, which have these names
 abbrev pub chart_rows_text : Rows → List Name → Chart → List ℕ
 chart_rows_text rows.Plain names c = plain_text (chart c)
-chart_rows_text rows.Named names c = named_text [] names (chart c)
+chart_rows_text rows.Named names c = named_text [] names [] (chart c)
+chart_rows_text rows.Listed names c = named_text [] names [] (chart c)
 chart_rows_text (rows.In format) names c = text_in format [] names [] (chart c)
 
 -- the text of a value for a list of orders: the rows of a chart have the names of the machines, and

@@ -47,17 +47,6 @@ plain_text (listing t) = text_of t
 plain_text (chart c) = named_text_of [] c
 plain_text (text t) = t
 
--- a table with the names of its rows, and with the ids of activities in the place of their numbers
-abbrev pub named_table : List Name → List Name → Table → Table
-named_table ids names t = with_ids ids (with_names names t)
-
--- the text, each row with its name, and activities with their ids
-abbrev pub named_text : List Name → List Name → View → List ℕ
-named_text ids names (table t) = text_of (named_table ids names t)
-named_text ids names (listing t) = text_of t
-named_text ids names (chart c) = id_text_of ids names c
-named_text ids names (text t) = t
-
 -- a table with the names of its rows, if there are names
 abbrev pub with_any_names : List Name → Table → Table
 with_any_names [] t = t
@@ -69,6 +58,18 @@ with_any_links [] t = t
 with_any_links (first ∷ links) t = with_links (first ∷ links) t
 
 -- the same with the names of its rows, and with the ids of activities in the place of their numbers
+abbrev pub named_table : List Name → List Name → List Links → Table → Table
+named_table ids names links t = with_ids ids (with_any_links links (with_names names t))
+
+-- the text, each row with its name, activities with their ids, and with their resources and
+-- predecessors if these are given
+abbrev pub named_text : List Name → List Name → List Links → View → List ℕ
+named_text ids names links (table t) = text_of (named_table ids names links t)
+named_text ids names links (listing t) = text_of t
+named_text ids names links (chart c) = id_text_of ids names c
+named_text ids names links (text t) = t
+
+-- a table with the names of its rows if there are names, and with the rest as before
 abbrev pub full_table : List Name → List Name → List Links → Table → Table
 full_table ids names links t = with_ids ids (with_any_links links (with_any_names names t))
 

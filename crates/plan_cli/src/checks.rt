@@ -31,7 +31,7 @@ fn rows_text(alloc: Global, rows: Rows, view: View) -> Result<Vec<u8>, AllocErro
 {
     match rows {
         Rows::Plain => plain_text(alloc, view),
-        Rows::Named => named_text(alloc, view, &[], &[]),
+        Rows::Named | Rows::Listed => named_text(alloc, view, &[], &[], &[]),
         Rows::In(format) => text_in(alloc, format, view, &[], &[], &[]),
     }
 }

@@ -4,12 +4,10 @@
 ghost use Rattle.std.specs.Prelude.{◌≡◌, ◌++◌, map, filter, IfOk, OnOk};
 ghost use Rattle.plan_table.specs.Names.{name_of};
 ghost use Rattle.plan_formats.specs.Cells.{cell_of};
-ghost use Rattle.plan_formats.specs.Columns.{column_of};
 ghost use Rattle.plan_formats.specs.NameColumns.{name_cell};
 ghost use Rattle.plan_formats.specs.Tables.{cells_of, rows_of, table_of};
 ghost use Rattle.plan_views.specs.Bars.{bar_of, row_of};
 ghost use Rattle.plan_views.specs.Charts.{chart_of};
-ghost use Rattle.plan_views.specs.LinkColumns.{field_column};
 ghost use Rattle.plan_cli.specs.OrderTables as spec;
 ghost use Rattle.plan_cli.specs.Tasks as tasks;
 ghost use Rattle.plan_cli.specs.Views.{view_of};
@@ -20,11 +18,11 @@ use crate::tasks::{Rows, rows_text};
 use crate::views::{View, named_text, plain_text, text_in};
 use plan_documents::{Subject, open_shop, read_instance};
 use plan_errors::CliFault;
-use plan_formats::{Cell, Column, Layout, Table, format_table, table_text, with_names};
+use plan_formats::{Cell, Table, format_table, table_text, with_names};
 use plan_orlib::Step;
 use plan_shop::Shop;
 use plan_table::{NameLine, first_name};
-use plan_views::{Bar, Chart, ChartRow, name_view, verdict_view};
+use plan_views::{Bar, Chart, ChartRow, name_view, texts_column, verdict_view};
 use std::alloc::{AllocError, Global};
 
 // Reads the job shop of an instance in a file.
@@ -118,17 +116,6 @@ fn timed_rows<'a>(
     Ok(made)
 }
 
-// Returns the column of the machines, which the text doesn't show.
-fn machine_column() -> Column
-    ensures { column_of result ≡ spec.machine_column }
-{
-    Column {
-        heading: "resources",
-        word: "resources",
-        layout: Layout::Field,
-    }
-}
-
 // Returns a table of steps without those that take no time, with the machines by name.
 fn timed_table<'a>(
     alloc: Global,
@@ -141,7 +128,7 @@ fn timed_table<'a>(
 {
     let rows = timed_rows(alloc, shop, names, &table.rows)?;
     let mut columns = table.columns;
-    columns.push(machine_column())?;
+    columns.push(texts_column("resources", names))?;
     Ok(Table {
         above: table.above,
         columns,
@@ -173,7 +160,7 @@ fn rows_of_table(alloc: Global, rows: Rows, table: &Table<'_>) -> Result<Vec<u8>
 {
     match rows {
         Rows::In(format) => format_table(alloc, format, table),
-        Rows::Plain | Rows::Named => table_text(alloc, table),
+        Rows::Plain | Rows::Named | Rows::Listed => table_text(alloc, table),
     }
 }
 
@@ -251,7 +238,7 @@ fn chart_rows_text(
     let view = View::Chart(chart);
     match rows {
         Rows::Plain => plain_text(alloc, view),
-        Rows::Named => named_text(alloc, view, &[], names),
+        Rows::Named | Rows::Listed => named_text(alloc, view, &[], names, &[]),
         Rows::In(format) => text_in(alloc, format, view, &[], names, &[]),
     }
 }

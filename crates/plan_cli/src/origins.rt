@@ -1,4 +1,4 @@
-//! Where a schedule comes from.
+//! The origin of a schedule.
 
 /// The schedule that a text shows.
 #[derive(Clone, Copy, Debug, Drop)]

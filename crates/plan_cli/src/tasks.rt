@@ -4,7 +4,7 @@ ghost use Rattle.std.specs.Prelude.{◌≡◌, None, Some, map, IfOk, IfErr};
 ghost use Rattle.plan_table.specs.Names.{name_of};
 ghost use Rattle.plan_errors.specs.Output.{Refuses};
 ghost use Rattle.plan_views.specs.LinkColumns.{links_of};
-ghost use Rattle.plan_cli.specs.Tasks.{IsFormattedText, IsLineOf, IsNamedText, IsTextOf};
+ghost use Rattle.plan_cli.specs.Tasks.{IsFormattedText, IsLineOf, IsListedText, IsNamedText, IsTextOf};
 ghost use Rattle.plan_cli.specs.Tasks.{ShowsTask, names_for, ids_for, AreLinksFor};
 ghost use Rattle.plan_cli.specs.Tasks as spec;
 ghost use Rattle.plan_cli.specs.TaskViews.{IsViewOf};
@@ -162,6 +162,8 @@ pub enum Rows {
     /// With the names of activities, orders or machines that the file contains, and the ids of
     /// activities in the place of their numbers.
     Named,
+    /// The same for a list, with the resources and the predecessors of activities.
+    Listed,
     /// As JSON or CSV, with these names and ids, and with the resources and the predecessors of
     /// activities that have ids. A file that a task makes stays as it is.
     In(Format),
@@ -333,7 +335,26 @@ fn named_text_of<V: ProofWatcher + SolveWatcher, L: Log>(
     let view = view_of(alloc, task, file, watcher, log)?;
     let ids = ids_for(alloc, task, file)?;
     let names = names_for(alloc, task, file)?;
-    Ok(named_text(alloc, view, &ids, &names)?)
+    Ok(named_text(alloc, view, &ids, &names, &[])?)
+}
+
+// Returns the text of what a task shows for the project of a list, with names, ids, resources and
+// predecessors.
+fn listed_text_of<V: ProofWatcher + SolveWatcher, L: Log>(
+    alloc: Global,
+    task: Task<'_>,
+    file: &[u8],
+    watcher: &mut V,
+    log: &mut L,
+) -> Result<Vec<u8>, CliFault>
+    ensures made { IfOk result (λ text. IsListedText task.entry file.now text.items) }
+    ensures refused { IfErr result (Refuses (IsLineOf task.entry file.now)) }
+{
+    let view = view_of(alloc, task, file, watcher, log)?;
+    let ids = ids_for(alloc, task, file)?;
+    let names = names_for(alloc, task, file)?;
+    let links = links_for(alloc, task, &ids, file)?;
+    Ok(named_text(alloc, view, &ids, &names, &links)?)
 }
 
 // Returns what a task shows for a file in a format.
@@ -371,6 +392,7 @@ fn shown_text<V: ProofWatcher + SolveWatcher, L: Log>(
     match rows {
         Rows::Plain => text_of(alloc, task, file, watcher, log),
         Rows::Named => named_text_of(alloc, task, file, watcher, log),
+        Rows::Listed => listed_text_of(alloc, task, file, watcher, log),
         Rows::In(format) => formatted_text(alloc, task, format, file, watcher, log),
     }
 }
@@ -415,12 +437,12 @@ fn with_subject<'a>(task: Task<'a>, subject: Subject<'a>) -> Task<'a>
     }
 }
 
-// Returns the rows for a list, which have its names.
+// Returns the rows for a list, which have its names, its resources and its predecessors.
 fn list_rows(rows: Rows) -> Rows
     ensures { result ≡ spec.list_rows rows }
 {
     match rows {
-        Rows::Plain | Rows::Named => Rows::Named,
+        Rows::Plain | Rows::Named | Rows::Listed => Rows::Listed,
         Rows::In(format) => Rows::In(format),
     }
 }
@@ -461,7 +483,7 @@ pub(crate) fn rows_text(alloc: Global, rows: Rows, view: View) -> Result<Vec<u8>
 {
     match rows {
         Rows::In(format) => text_in(alloc, format, view, &[], &[], &[]),
-        Rows::Plain | Rows::Named => plain_text(alloc, view),
+        Rows::Plain | Rows::Named | Rows::Listed => plain_text(alloc, view),
     }
 }
 

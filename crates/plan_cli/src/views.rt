@@ -35,21 +35,6 @@ pub(crate) enum View {
     Text(Vec<u8>),
 }
 
-// Returns the text of a table, each row with its name, and activities with their ids.
-fn named_table<'a>(
-    alloc: Global,
-    table: Table<'a>,
-    ids: &[NameLine<'a>],
-    names: &[NameLine<'a>],
-) -> Result<Vec<u8>, AllocError>
-    ensures { IfOk result (λ text. text.items ≡ text_of (spec.named_table (map name_of ids.now)
-        (map name_of names.now) (table_of table.entry))) }
-{
-    let named = with_names(alloc, table, names)?;
-    let shown = with_ids(alloc, named, ids)?;
-    table_text(alloc, &shown)
-}
-
 // Returns a table with the names of its rows, if there are names.
 fn with_any_names<'a>(
     alloc: Global,
@@ -78,6 +63,24 @@ fn with_any_links<'a>(
         return Ok(table);
     }
     with_links(alloc, table, links)
+}
+
+// Returns the text of a table, each row with its name, activities with their ids, and with their
+// resources and predecessors if these are given.
+fn named_table<'a>(
+    alloc: Global,
+    table: Table<'a>,
+    ids: &[NameLine<'a>],
+    names: &[NameLine<'a>],
+    links: &'a [ActivityLinks],
+) -> Result<Vec<u8>, AllocError>
+    ensures { IfOk result (λ text. text.items ≡ text_of (spec.named_table (map name_of ids.now)
+        (map name_of names.now) (map links_of links.now) (table_of table.entry))) }
+{
+    let named = with_names(alloc, table, names)?;
+    let linked = with_any_links(alloc, named, links)?;
+    let shown = with_ids(alloc, linked, ids)?;
+    table_text(alloc, &shown)
 }
 
 // Returns a table in a format, with the texts of its rows.
@@ -174,30 +177,34 @@ pub(crate) fn plain_text(alloc: Global, view: View) -> Result<Vec<u8>, AllocErro
     }
 }
 
-/// Returns the text of a value, each row with its name, and activities with their ids in the place
-/// of their numbers.
+/// Returns the text of a value, each row with its name, activities with their ids in the place of
+/// their numbers, and with their resources and predecessors if these are given.
 pub(crate) fn named_text(
     alloc: Global,
     view: View,
     ids: &[NameLine<'_>],
     names: &[NameLine<'_>],
+    links: &[ActivityLinks],
 ) -> Result<Vec<u8>, AllocError>
-    ensures { IfOk result (λ text. text.items
-        ≡ spec.named_text (map name_of ids.now) (map name_of names.now) (spec.view_of view)) }
+    ensures { IfOk result (λ text. text.items ≡ spec.named_text (map name_of ids.now)
+        (map name_of names.now) (map links_of links.now) (spec.view_of view)) }
 {
     match view {
-        View::Table(table) => named_table(alloc, table, ids, names),
+        View::Table(table) => named_table(alloc, table, ids, names, links),
         View::Own(table, rows) => {
             let table = whole_table(alloc, table, &rows)?;
-            named_table(alloc, table, ids, names)
+            named_table(alloc, table, ids, names, links)
         }
         View::Listed(table, rows) => {
             let table = whole_table(alloc, table, &rows)?;
             table_text(alloc, &table)
         }
         View::Chart(chart) => chart_text_with_ids(alloc, &chart, ids, names),
-        View::Verdict(sentence) => named_table(alloc, verdict_view(alloc, &sentence)?, ids, names),
-        View::Names(lines) => named_table(alloc, name_view(alloc, &lines)?, ids, names),
+        View::Verdict(sentence) => {
+            let table = verdict_view(alloc, &sentence)?;
+            named_table(alloc, table, ids, names, links)
+        }
+        View::Names(lines) => named_table(alloc, name_view(alloc, &lines)?, ids, names, links),
         View::Text(text) => Ok(text),
     }
 }

@@ -3,10 +3,10 @@
 use crate::check::{CheckFault, check_copy, copy_checked};
 use crate::expiry::remove_old;
 use crate::fault::PairFault;
+use crate::folders::{Room, folder_of, name_of, stamp, stem_of, sync_file, sync_folder};
 use crate::lines::{CopyFault, copy_fault, store_fault};
 use crate::named::{NamedCopy, NamedPair, target_fault};
 use crate::owner::check_folder;
-use crate::room::{Room, folder_of, name_of, stamp, stem_of, sync_file, sync_folder};
 use plan_io::{MemSink, Sink, write_whole};
 use plan_serve::ServeFault;
 use sha2::{Digest, Sha256};

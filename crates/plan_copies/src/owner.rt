@@ -1,7 +1,7 @@
 //! The owner of a folder in which files are created.
 
+use crate::folders::folder_of;
 use crate::lines::{CopyFault, store_fault};
-use crate::room::folder_of;
 use libc::geteuid;
 use std::alloc::AllocError;
 use std::fs::{self, Metadata};

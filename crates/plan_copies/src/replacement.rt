@@ -1,8 +1,8 @@
 //! The replacement of a database by a new file. After each step the database is whole: the old one
 //! or the new one.
 
+use crate::folders::{folder_of, sync_folder};
 use crate::plain::{copy_access, create_plain, open_plain};
-use crate::room::{folder_of, sync_folder};
 use std::fs;
 use std::io::{self, ErrorKind};
 

@@ -3,13 +3,13 @@
 use crate::backup::{digest_in, is_folder, print};
 use crate::check::{CheckFault, copy_checked};
 use crate::fault::PairFault;
+use crate::folders::{Room, folder_of, stamp, stem_of};
 use crate::lines::{CopyFault, copy_fault, office_fault, store_fault};
 use crate::named::{NamedCopy, NamedPair, target_fault};
 use crate::orphans::check_orphans;
 use crate::owner::check_owner;
 use crate::plain::{copy_access, open_plain};
 use crate::replacement::{Replacement, SUFFIXES};
-use crate::room::{Room, folder_of, stamp, stem_of};
 use crate::settle::settle_from;
 use crate::strays::{has_log, remove_stray_log};
 use plan_io::{MemSink, Sink};

@@ -7,10 +7,10 @@ ghost use Rattle.plan_copies.specs.Checks.{IsCheckFault};
 
 use crate::check::{CheckFault, check_copy};
 use crate::fault::PairFault;
+use crate::folders::Room;
 use crate::lines::{CopyFault, store_fault};
 use crate::named::{NamedCopy, NamedPair, target_fault};
 use crate::owner::check_folder;
-use crate::room::Room;
 use plan_io::Sink;
 use plan_serve::ServeFault;
 use std::env;

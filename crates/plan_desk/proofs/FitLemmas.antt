@@ -16,10 +16,12 @@ use Rattle.plan_rows.specs.declared.kinds.PlanKind.{PlanKind}
 use Rattle.plan_rows.specs.declared.kinds.PlanKind.TheVariants as kinds
 use Rattle.plan_rows.specs.World.{Text, Published, Desk, Plan, World, same_kind, takes, is_plan_of, is_plan, code_in, desk_in, plan_in}
 use Rattle.plan_rows.specs.Names.{is_name, is_key, is_digest, is_from_to}
-use Rattle.plan_desk.specs.Bodies.{json, passing, text_in, number_in, any_text, kind_named, PublishBody, publish_members, publish_body, DeskBody, desk_members, desk_body, desk_named, BindBody, bind_members, bind_body, LagBody, lag_members, lag_body, key_body}
+use Rattle.plan_desk.specs.Bodies.{json, passing, text_in, number_in, any_text, kind_named, PublishBody, publish_members, publish_body, DeskBody, desk_members}
+use Rattle.plan_desk.specs.Bodies.{desk_body, desk_named, BindBody, bind_members, bind_body, LagBody, lag_members, lag_body, key_body}
 use Rattle.plan_rows.specs.Changes.{Change, Keep, apply}
 use Rattle.plan_rows.specs.Views.{View, view}
-use Rattle.plan_desk.specs.Calls.{Call, publish, open_desk, set_key, capacities, plans, import_project, import_shop, remove, bind, set_calendar, set_lag, dates, schedule, chart, days, best, Request, Reply, subject, admits}
+use Rattle.plan_desk.specs.Calls.{Call, publish, open_desk, set_key, capacities, plans, import_project, import_shop, remove, bind, set_calendar, set_lag, dates}
+use Rattle.plan_desk.specs.Calls.{schedule, chart, days, best, Request, Reply, subject, admits}
 use Rattle.plan_desk.specs.Stories.{decided}
 use Rattle.plan_desk.specs.Outcomes.{Outcome, refuses, tells, shows, makes, unless, given, some, why_or}
 use Rattle.plan_rows.specs.Plans.{plan_number, has_number, plan_seen, HasPlaces, is_place}

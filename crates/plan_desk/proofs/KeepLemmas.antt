@@ -12,15 +12,19 @@ use Rattle.plan_psplib.specs.Project.{Project, SaysProject}
 use Rattle.plan_rows.specs.declared.kinds.Kind.{Kind}
 use Rattle.plan_rows.specs.declared.kinds.PlanKind.{PlanKind}
 use Rattle.plan_rows.specs.declared.kinds.PlanKind.TheVariants as kinds
-use Rattle.plan_rows.specs.World.{Text, Digest, Published, Desk, Plan, Bind, Lag, World, same_text, same_kind, takes, is_code, is_desk, is_plan_of, is_plan, is_bind_by, is_bind_of, is_bind, is_lag_of, is_lag, code_in, desk_in, plan_in}
+use Rattle.plan_rows.specs.World.{Text, Digest, Published, Desk, Plan, Bind, Lag, World, same_text, same_kind, takes, is_code, is_desk, is_plan_of, is_plan}
+use Rattle.plan_rows.specs.World.{is_bind_by, is_bind_of, is_bind, is_lag_of, is_lag, code_in, desk_in, plan_in}
 use Rattle.plan_rows.specs.Names.{is_name, is_digest, is_from_to}
-use Rattle.plan_rows.specs.Changes.{Change, Keep, Publish, OpenDesk, SetKey, AddPlan, RemovePlan, BindPlace, SetCalendar, SetLag, changed, put, without, apply, new_code, with_capacity, new_desk, with_digest, risen, next_of, new_plan, with_calendar, new_bind, with_code, new_lag, with_lag, lags_after}
+use Rattle.plan_rows.specs.Changes.{Change, Keep, Publish, OpenDesk, SetKey, AddPlan, RemovePlan, BindPlace, SetCalendar, SetLag, changed, put, without, apply}
+use Rattle.plan_rows.specs.Changes.{new_code, with_capacity, new_desk, with_digest, risen, next_of, new_plan, with_calendar, new_bind, with_code, new_lag}
+use Rattle.plan_rows.specs.Changes.{with_lag, lags_after}
 use Rattle.plan_rows.specs.Plans.{HasPlaces, is_place}
 use Rattle.plan_rows.specs.Plans.{has_arc}
 use Rattle.plan_rows.specs.Rules.{AllDiffer, IsThereAnd, is_published_row, is_desk_row, HasName, IsPlanRow, IsBindRow, IsLagRow, IsOwned, IsWorld}
 use Rattle.plan_rows.proofs.RowLemmas.{filter_none, change_of, filter-changed, find-changed, all_weaker}
 use Rattle.plan_rows.proofs.OwnerLemmas.{text_from_same}
-use Rattle.plan_rows.proofs.RuleLemmas.{all_append, all_filter, all_changed, all_put, differ_changed, differ_append, differ_filter, differ_put, found_has, there_append, there_changed, there_put, there_map, find_kept, find_none, all_found, all_both, length_fewer}
+use Rattle.plan_rows.proofs.RuleLemmas.{all_append, all_filter, all_changed, all_put, differ_changed, differ_append, differ_filter, differ_put, found_has}
+use Rattle.plan_rows.proofs.RuleLemmas.{there_append, there_changed, there_put, there_map, find_kept, find_none, all_found, all_both, length_fewer}
 
 -- the plan of a lag exists, is a project and has the arc
 abbrev pub HasLagArc : World → Text → ℕ → ℕ → ℕ → Type 0

@@ -4,7 +4,9 @@ use Rattle.std.proofs.Common.{◌≡◌, ℕ, ◌⊎◌, inl, inr, Bool, true, f
 use Rattle.std.specs.Prelude.{find, option_to_list, if◌then◌else◌, ◌==◌}
 use Rattle.std.proofs.lemmas.Bool.{cases_Bool, cond-true, cond-false}
 use Rattle.plan_rows.specs.World.{Text, Lag, World, is_code, is_desk, is_plan_of, is_bind_by, is_lag_by, is_plan, is_bind, is_lag, desk_in}
-use Rattle.plan_rows.specs.Changes.{Change, Keep, Publish, OpenDesk, SetKey, AddPlan, RemovePlan, BindPlace, SetCalendar, SetLag, changed, put, without, apply, new_code, with_capacity, new_desk, with_digest, risen, next_of, new_plan, with_calendar, new_bind, with_code, new_lag, with_lag, lags_after}
+use Rattle.plan_rows.specs.Changes.{Change, Keep, Publish, OpenDesk, SetKey, AddPlan, RemovePlan, BindPlace, SetCalendar, SetLag, changed, put, without, apply}
+use Rattle.plan_rows.specs.Changes.{new_code, with_capacity, new_desk, with_digest, risen, next_of, new_plan, with_calendar, new_bind, with_code, new_lag}
+use Rattle.plan_rows.specs.Changes.{with_lag, lags_after}
 use Rattle.plan_rows.specs.Views.{View, view, alone}
 use Rattle.plan_rows.specs.Names.{has_key, unlocks}
 use Rattle.plan_desk.specs.Calls.{Request, Reply, subject, is_of_office, admits}

@@ -28,7 +28,8 @@ use Rattle.plan_desk.specs.PlanRoutes.{of_plan, by_kind}
 use Rattle.plan_desk.specs.PageRoutes.{Dates, IsScheduleBy, IsShopScheduleBy, OfSchedule, OfShopSchedule, Schedules, Charts, Days, OfCalendar, ShowsDays, TellsBeyond, TellsShopRefusal}
 use Rattle.plan_desk.specs.BestRoutes.{Best, OfProjectBest, OfShopBest, TellsNoShopBest}
 use Rattle.plan_desk.specs.Decisions.{Answers, IsDecision}
-use Rattle.plan_desk.specs.Promises.{ShowsDates, ShowsSchedule, ShowsShopSchedule, ShowsBest, ShowsShopBest, IsTable, IsShopTable, IsChart, IsShopChart, AreDays, AreShopDays, IsPromised, PagesArePromised}
+use Rattle.plan_desk.specs.Promises.{ShowsDates, ShowsSchedule, ShowsShopSchedule, ShowsBest, ShowsShopBest, IsTable, IsShopTable, IsChart, IsShopChart}
+use Rattle.plan_desk.specs.Promises.{AreDays, AreShopDays, IsPromised, PagesArePromised}
 
 -- a refusal isn't a page
 refused_not : (refused reply : Reply) (change : Change) → refuses refused reply change → reply.status ≡ 200 → (refused.status ≡ 200 → ⊥) → ⊥

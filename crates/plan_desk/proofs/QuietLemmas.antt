@@ -9,7 +9,8 @@ use Rattle.plan_rows.specs.Changes.{Change, Keep, is_publishing}
 use Rattle.plan_rows.specs.Views.{View}
 use Rattle.plan_rows.specs.Names.{is_name}
 use Rattle.plan_desk.specs.Bodies.{json, text_in, any_text, desk_members, desk_body, desk_named}
-use Rattle.plan_desk.specs.Calls.{Call, publish, open_desk, set_key, capacities, plans, import_project, import_shop, remove, bind, set_calendar, set_lag, dates, schedule, chart, days, best, Reply, is_publish}
+use Rattle.plan_desk.specs.Calls.{Call, publish, open_desk, set_key, capacities, plans, import_project, import_shop, remove, bind, set_calendar, set_lag, dates}
+use Rattle.plan_desk.specs.Calls.{schedule, chart, days, best, Reply, is_publish}
 use Rattle.plan_rows.specs.declared.kinds.PlanKind.{PlanKind}
 use Rattle.plan_rows.specs.declared.kinds.PlanKind.TheVariants as kinds
 use Rattle.plan_sgs.specs.Instances.{Planned}

@@ -4,7 +4,9 @@ use Rattle.std.proofs.Common.{◌≡◌, ℕ, ◌⊎◌, inl, inr, Bool, true, f
 use Rattle.std.specs.Prelude.{find, option_map, option_to_list, ◌==◌}
 use Rattle.std.proofs.lemmas.Bool.{cases_Bool, cond-true, cond-false, both_ways, and_parts}
 use Rattle.plan_rows.specs.World.{Text, Desk, Plan, Bind, Lag, World, same_text, is_desk, is_plan_of, is_bind_by, is_lag_by, is_plan, is_bind_of, is_bind, is_lag_of, is_lag, desk_in}
-use Rattle.plan_rows.specs.Changes.{Change, Keep, Publish, OpenDesk, SetKey, AddPlan, RemovePlan, BindPlace, SetCalendar, SetLag, changed, put, without, apply, lags_after, is_publishing, next_of, new_desk, with_digest, risen, new_plan, with_calendar, new_bind, with_code, new_lag, with_lag}
+use Rattle.plan_rows.specs.Changes.{Change, Keep, Publish, OpenDesk, SetKey, AddPlan, RemovePlan, BindPlace, SetCalendar, SetLag, changed, put, without, apply}
+use Rattle.plan_rows.specs.Changes.{lags_after, is_publishing, next_of, new_desk, with_digest, risen, new_plan, with_calendar, new_bind, with_code, new_lag}
+use Rattle.plan_rows.specs.Changes.{with_lag}
 use Rattle.plan_rows.specs.Views.{View, view, alone}
 use Rattle.std.specs.Option.{option_or}
 use Rattle.std.proofs.lemmas.List.Folds.{find-append}

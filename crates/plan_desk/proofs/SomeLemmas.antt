@@ -18,7 +18,8 @@ use Rattle.plan_rows.specs.Changes.{Change, Keep}
 use Rattle.plan_rows.specs.Plans.{plan_seen, HasPlaces, IsProjectOf, bound_project, open_machines}
 use Rattle.plan_rows.specs.Rules.{HasCalendar, IsPlanRow, IsWorld}
 use Rattle.plan_rows.specs.Views.{View, alone}
-use Rattle.plan_desk.specs.Calls.{Call, publish, open_desk, set_key, capacities, plans, import_project, import_shop, remove, bind, set_calendar, set_lag, dates, schedule, chart, days, best, Reply, answer, page, no_key, admits}
+use Rattle.plan_desk.specs.Calls.{Call, publish, open_desk, set_key, capacities, plans, import_project, import_shop, remove, bind, set_calendar, set_lag, dates}
+use Rattle.plan_desk.specs.Calls.{schedule, chart, days, best, Reply, answer, page, no_key, admits}
 use Rattle.plan_desk.specs.BestOf.{IsOpenBest}
 use Rattle.plan_desk.specs.BestRoutes.{OfProjectBest, OfShopBest, Best}
 use Rattle.plan_desk.specs.Decisions.{Answers, IsDecision}

@@ -9,7 +9,8 @@ use Rattle.plan_rows.specs.declared.fault.BookFault.TheVariants.{NoMemory, Store
 use Rattle.plan_rows.specs.World.{Text, Plan}
 use Rattle.plan_rows.specs.Changes.{Change, Keep}
 use Rattle.plan_rows.specs.Views.{View}
-use Rattle.plan_desk.specs.Calls.{Call, publish, open_desk, set_key, capacities, plans, import_project, import_shop, remove, bind, set_calendar, set_lag, dates, schedule, chart, days, best, Request, Reply, writes, is_accepted, admits}
+use Rattle.plan_desk.specs.Calls.{Call, publish, open_desk, set_key, capacities, plans, import_project, import_shop, remove, bind, set_calendar, set_lag, dates}
+use Rattle.plan_desk.specs.Calls.{schedule, chart, days, best, Request, Reply, writes, is_accepted, admits}
 use Rattle.plan_desk.specs.Stories.{decided}
 use Rattle.plan_desk.specs.Outcomes.{Outcome, refuses, tells, shows, makes, unless, given, some, why_or}
 use Rattle.plan_desk.specs.OfficeRoutes.{Publishes, Opens, SetsKey}

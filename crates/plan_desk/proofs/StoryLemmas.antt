@@ -7,7 +7,8 @@ use Rattle.plan_rows.specs.World.{Text, World}
 use Rattle.plan_rows.specs.Changes.{Change, Keep, apply, is_publishing}
 use Rattle.plan_rows.specs.Views.{View, view, alone}
 use Rattle.plan_desk.specs.Bodies.{desk_named}
-use Rattle.plan_desk.specs.Calls.{Call, publish, open_desk, set_key, capacities, plans, import_project, import_shop, remove, bind, set_calendar, set_lag, dates, schedule, chart, days, best, Request, Reply, desk_of, subject, is_publish, admits}
+use Rattle.plan_desk.specs.Calls.{Call, publish, open_desk, set_key, capacities, plans, import_project, import_shop, remove, bind, set_calendar, set_lag, dates}
+use Rattle.plan_desk.specs.Calls.{schedule, chart, days, best, Request, Reply, desk_of, subject, is_publish, admits}
 use Rattle.plan_desk.specs.Stories.{names, concerns, belongs, decided, IsDecided, IsStep, IsRealStep, IsRun, AreTold, IsStoryOf, IsWanting}
 use Rattle.plan_rows.proofs.OwnerLemmas.{text_from_same}
 use Rattle.plan_desk.proofs.SeenLemmas.{view_alone, seen, hidden}

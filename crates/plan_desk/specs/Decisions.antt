@@ -5,7 +5,8 @@ use Rattle.std.specs.Prelude.{List}
 use Rattle.plan_rows.specs.World.{Text, World}
 use Rattle.plan_rows.specs.Changes.{Change}
 use Rattle.plan_rows.specs.Views.{View}
-use Rattle.plan_desk.specs.Calls.{Call, publish, open_desk, set_key, capacities, plans, import_project, import_shop, remove, bind, set_calendar, set_lag, dates, schedule, chart, days, best, Request, Reply}
+use Rattle.plan_desk.specs.Calls.{Call, publish, open_desk, set_key, capacities, plans, import_project, import_shop, remove, bind, set_calendar, set_lag, dates}
+use Rattle.plan_desk.specs.Calls.{schedule, chart, days, best, Request, Reply}
 use Rattle.plan_desk.specs.Stories as story
 use Rattle.plan_desk.specs.Outcomes.{tells}
 use Rattle.plan_desk.specs.JsonTexts.{codes_text, plans_text}

@@ -4,7 +4,8 @@ use Rattle.plan_desk.specs.declared.request.Call as rows
 use Rattle.plan_desk.specs.declared.request.Call.TheVariants as made
 use Rattle.plan_desk.specs.declared.request.Request as sent
 use Rattle.plan_rows.specs.World.{Text}
-use Rattle.plan_desk.specs.Calls.{Call, publish, open_desk, set_key, capacities, plans, import_project, import_shop, remove, bind, set_calendar, set_lag, dates, schedule, chart, days, best, desk_of, Request}
+use Rattle.plan_desk.specs.Calls.{Call, publish, open_desk, set_key, capacities, plans, import_project, import_shop, remove, bind, set_calendar, set_lag, dates}
+use Rattle.plan_desk.specs.Calls.{schedule, chart, days, best, desk_of, Request}
 
 abbrev pub call_in : rows.Call → Call
 call_in (made.Publish body) = publish body.items

@@ -20,7 +20,7 @@ pub(crate) const MOST_FILES: usize = 1024;
 /// 20 times as many bytes, so the cache takes at most 16 MB.
 pub(crate) const MOST_BYTES: usize = 786_432;
 
-/// What a stored file is read as.
+/// The document that a stored file contains.
 #[derive(Drop)]
 pub(crate) enum Document {
     Project(ProjectDoc),

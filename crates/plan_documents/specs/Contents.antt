@@ -10,6 +10,7 @@ use Rattle.plan_table.specs.Refused.{IsRefusedWith}
 use Rattle.plan_table.specs.ShopReading.{shop_table_read}
 use Rattle.plan_table.specs.ShopTable.{ShopTable}
 use Rattle.plan_table.specs.Table.{Table}
+use Rattle.plan_documents.specs.Spreadsheets.{OfList}
 use Rattle.plan_errors.specs.declared.context.Contents.{Contents}
 use Rattle.plan_errors.specs.declared.context.Contents.TheVariants as contents
 use Rattle.plan_errors.specs.declared.fault.CliFault.{CliFault}
@@ -47,11 +48,17 @@ IsOrderList text = ((t : ShopTable) × (shop_table_read text ≡ Ok t))
     ⊎ ((first : TableFault) × (shop_table_read text ≡ Err (fault_of first))
     × (is_in_orders first.code ≡ true))
 
--- a text has these contents; any text may be unknown
+-- a text is a list of this kind, perhaps with an error in a row; any text may be unknown
+abbrev pub IsListWith : List ℕ → Contents → Type 0
+IsListWith text contents.Unknown = Unit {0}
+IsListWith text contents.ActivityList = IsActivityList text
+IsListWith text contents.OrderList = IsOrderList text
+
+-- a file has these contents, which are those of its plain list; those of any file may be unknown
 abbrev pub HasContents : List ℕ → Contents → Type 0
-HasContents text contents.Unknown = Unit {0}
-HasContents text contents.ActivityList = IsActivityList text
-HasContents text contents.OrderList = IsOrderList text
+HasContents file contents.Unknown = Unit {0}
+HasContents file contents.ActivityList = OfList [] file IsActivityList
+HasContents file contents.OrderList = OfList [] file IsOrderList
 
 -- the contents that an error names are those of the file
 abbrev pub KnowsFile : List ℕ → CliFault → Type 0

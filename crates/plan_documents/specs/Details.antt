@@ -17,8 +17,9 @@ use Rattle.plan_errors.specs.declared.parts.Part.{Part}
 use Rattle.plan_errors.specs.declared.parts.Part.TheVariants as part
 use Rattle.plan_errors.specs.declared.fault.CliFault.{CliFault}
 use Rattle.plan_errors.specs.declared.fault.CliFault.TheVariants as fault
-use Rattle.plan_table.specs.Names.{Name, activity_key, first_name, names_behind, resource_key}
+use Rattle.plan_table.specs.Names.{Name, activity_key, first_name, id_key, names_behind, resource_key}
 use Rattle.plan_table.specs.ShopNames.{instance_names, machine_key, order_key}
+use Rattle.plan_documents.specs.Labels.{activity_called, id_label}
 use Rattle.plan_documents.specs.declared.documents.Subject.{Subject}
 use Rattle.plan_documents.specs.declared.documents.Subject.TheVariants as subject
 
@@ -31,10 +32,12 @@ name_or word n (Some name) = utf8_lossy name
 abbrev pub label : List ℕ → List Name → ℕ → List ℕ
 label word names n = name_or word n (option_map (λ name. name.name) (first_name n names))
 
--- an activity and a resource of a project file, by their names
+-- an activity of a project file, by its id and its name
 abbrev pub activity_label : List ℕ → ℕ → List ℕ
-activity_label file n = label (codes "activity") (names_behind activity_key file) n
+activity_label file n =
+    activity_called n (id_label (names_behind id_key file) (names_behind activity_key file) n)
 
+-- a resource of a project file, by its name
 abbrev pub resource_label : List ℕ → ℕ → List ℕ
 resource_label file n = label (codes "resource") (names_behind resource_key file) n
 

@@ -12,6 +12,7 @@ pub mod Notes
 pub mod TableFaultText
 pub mod Refusals
 pub mod Contents
+pub mod Labels
 pub mod Details
 pub mod NamedVerdicts
 pub mod ListOptions

@@ -1,38 +1,18 @@
 -- Verdicts on starts in a sentence with the ids and the names in a file (docs/definitions.md,
 -- "Runs").
-use Rattle.std.specs.Prelude.{ℕ, ◌-◌, List, ◌++◌, Option, Some, None, codes, option_map}
+use Rattle.std.specs.Prelude.{ℕ, ◌-◌, List, ◌++◌, Option, Some, None, codes}
 use Rattle.std.specs.Fmt.{decimal}
-use Rattle.std.specs.Str.Lossy.{utf8_lossy}
 use Rattle.plan_sgs.specs.declared.verdict.Verdict.{Verdict}
 use Rattle.plan_sgs.specs.declared.verdict.Verdict.TheVariants as verdict
 use Rattle.plan_shop.specs.Shop.{JobShop}
 use Rattle.plan_report.specs.VerdictText.{place_number, job_number}
 use Rattle.plan_errors.specs.declared.parts.Key.TheVariants as key
-use Rattle.plan_table.specs.Names.{Name, first_name, id_key, names_behind}
+use Rattle.plan_table.specs.Names.{Name, id_key, names_behind}
 use Rattle.plan_documents.specs.Details.{label, names_under}
+use Rattle.plan_documents.specs.Labels.{activity_called, id_label}
 use Rattle.plan_documents.specs.declared.documents.Plan.{Plan}
 use Rattle.plan_documents.specs.declared.documents.Plan.TheVariants as plan
 use Rattle.plan_documents.specs.declared.documents.Subject.{Subject}
-
--- the first name of a number
-abbrev pub name_for : List Name → ℕ → Option (List ℕ)
-name_for names n = option_map (λ name. name.name) (first_name n names)
-
--- the id and the name, or the one that there is
-abbrev pub id_and_name : Option (List ℕ) → Option (List ℕ) → Option (List ℕ)
-id_and_name None None = None
-id_and_name None (Some name) = Some (utf8_lossy name)
-id_and_name (Some id) None = Some (utf8_lossy id)
-id_and_name (Some id) (Some name) = Some (utf8_lossy id ++ codes " " ++ utf8_lossy name)
-
--- the label of an activity with these ids and names
-abbrev pub id_label : List Name → List Name → ℕ → Option (List ℕ)
-id_label ids names n = id_and_name (name_for ids n) (name_for names n)
-
--- an activity by its label, or else by its number
-abbrev pub activity_called : ℕ → Option (List ℕ) → List ℕ
-activity_called n None = codes "activity " ++ decimal n
-activity_called n (Some label) = label
 
 -- the number of a predecessor without a label, behind an activity with this label
 abbrev pub number_behind : Option (List ℕ) → ℕ → List ℕ

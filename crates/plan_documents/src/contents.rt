@@ -3,6 +3,7 @@
 ghost use Rattle.std.specs.Prelude.{◌≡◌, true};
 ghost use Rattle.plan_documents.specs.Contents as spec;
 
+use crate::spreadsheets::plain_of;
 use plan_errors::Contents;
 use plan_table::{ReadError, TableCode, read_shop_table, read_table};
 use std::alloc::Global;
@@ -57,10 +58,9 @@ fn is_order_list(alloc: Global, text: &[u8]) -> bool
     }
 }
 
-/// Returns what a text contains: a list if `plan import` reads it or names one of its rows. If
-/// memory runs out, the contents are unknown.
-pub fn contents_of(alloc: Global, text: &[u8]) -> Contents
-    ensures { spec.HasContents text.now result }
+// Returns what a text contains.
+fn list_in(alloc: Global, text: &[u8]) -> Contents
+    ensures { spec.IsListWith text.now result }
 {
     if is_activity_list(alloc, text) {
         Contents::ActivityList
@@ -68,5 +68,17 @@ pub fn contents_of(alloc: Global, text: &[u8]) -> Contents
         Contents::OrderList
     } else {
         Contents::Unknown
+    }
+}
+
+/// Returns what a file contains: a list if `plan import` reads it or names one of its rows. If
+/// memory runs out, the contents are unknown.
+#[tactic(auto, using(crate::proofs::ContentsLemmas::of_plain))]
+pub fn contents_of(alloc: Global, file: &[u8]) -> Contents
+    ensures { spec.HasContents file.now result }
+{
+    match plain_of(alloc, &[], file) {
+        Ok(plain) => list_in(alloc, plain.utf8(file)),
+        Err(_) => Contents::Unknown,
     }
 }

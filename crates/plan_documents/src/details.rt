@@ -9,10 +9,11 @@ ghost use Rattle.plan_sgs.specs.Problem.{IsFirstTooMuch};
 ghost use Rattle.plan_table.specs.Names.{name_of};
 ghost use Rattle.plan_documents.specs.Details as spec;
 
+use crate::labels::{id_label, push_activity};
 use crate::refusals::need_refusal;
 use plan_errors::CliFault;
 use plan_psplib::ProjectDoc;
-use plan_table::{NameLine, activity_names, first_name, resource_names};
+use plan_table::{NameLine, activity_ids, activity_names, first_name, resource_names};
 use std::alloc::{AllocError, Global};
 use std::fmt::Write;
 
@@ -36,12 +37,16 @@ fn label(alloc: Global, names: &[NameLine<'_>], word: &str, n: u32) -> Result<St
     }
 }
 
-// Returns an activity of a project file by its name, if it has one.
+// Returns an activity of a project file by its id and its name, or by the one that it has.
 fn activity_label(alloc: Global, file: &[u8], n: u32) -> Result<String, AllocError>
     ensures { IfOk result (λ text. string_bytes text ≡ spec.activity_label file.now n) }
 {
+    let ids = activity_ids(alloc, file)?;
     let names = activity_names(alloc, file)?;
-    label(alloc, &names, "activity", n)
+    let called = id_label(alloc, &ids, &names, n)?;
+    let mut text = String::new(alloc);
+    push_activity(&mut text, n, &called)?;
+    Ok(text)
 }
 
 // Returns a resource of a project file by its name, if it has one.

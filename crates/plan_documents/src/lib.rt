@@ -7,6 +7,7 @@ mod details;
 mod documents;
 mod imports;
 mod infeasible;
+mod labels;
 mod list_options;
 mod lists;
 mod named_verdicts;

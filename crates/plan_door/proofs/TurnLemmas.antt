@@ -1,5 +1,6 @@
 -- Connections that were served turn by turn.
-use Rattle.std.proofs.Common.{◌≡◌, ◌≤◌, ◌+◌, ℕ, suc, Bool, false, List, [], ◌∷◌, ◌++◌, Option, Some, None, Result, Ok, Err, IfOk, IsErr, MatchResult, length, take, map, refl, sym, subst, ◌∙◌, ap, arith}
+use Rattle.std.proofs.Common.{◌≡◌, ◌≤◌, ◌+◌, ℕ, suc, Bool, false, List, [], ◌∷◌, ◌++◌, Option, Some, None, Result, Ok, Err, IfOk, IsErr, MatchResult, length}
+use Rattle.std.proofs.Common.{take, map, refl, sym, subst, ◌∙◌, ap, arith}
 use Rattle.std.proofs.lemmas.List.{length-append, append-nil}
 use Rattle.std.specs.Io.KnownBytes.{Appends}
 use Rattle.plan_io.specs.declared.traits.DeviceFault.{DeviceFault}
@@ -13,7 +14,8 @@ use Rattle.plan_http.specs.Connections.{Serving, Serves, Ends, response_of}
 use Rattle.plan_http.proofs.ClientLemmas.{of_heard}
 use Rattle.plan_http.proofs.WholeRunLemmas.{outlasts, is_apart}
 use Rattle.plan_door.specs.Serve.{MovedBy}
-use Rattle.plan_door.specs.Turns.{Visit, MayBe, IsSent, Turn, missed, visited, decision_in, decisions_of, IsConn, AreConns, read_in, read_of, IsServedBy, IsServed, IsTurn, AreTurns, IsRun, Runs, IsVisited, AreVisited, Visiting}
+use Rattle.plan_door.specs.Turns.{Visit, MayBe, IsSent, Turn, missed, visited, decision_in, decisions_of, IsConn, AreConns, read_in, read_of, IsServedBy}
+use Rattle.plan_door.specs.Turns.{IsServed, IsTurn, AreTurns, IsRun, Runs, IsVisited, AreVisited, Visiting}
 
 -- a fact about a result holds after the call is counted
 pub counted_ok : {A E F : Type 0} (P : A → Type 0) (answer : Result A E) (result : Result A F) → IfOk answer P

@@ -24,7 +24,7 @@ pub(crate) enum Arrival {
     Whole,
 }
 
-// What has arrived if a peek fails: nothing, unless a read would fail too.
+// Returns the arrival if a peek fails: no bytes, unless a read would fail too.
 fn without_bytes(error: &Error) -> Arrival {
     match error.kind() {
         ErrorKind::WouldBlock | ErrorKind::Interrupted => Arrival::Nothing,

@@ -19,7 +19,7 @@ const MOST_READS: u32 = 4096;
 // The number of bytes of a read.
 const PIECE: usize = 8192;
 
-/// A connection after its response. What its client sends is read and discarded for a while,
+/// A connection after its response. Bytes of its client are read and discarded for a while,
 /// because closing a connection with unread bytes could destroy the response.
 #[derive(Drop)]
 pub(crate) struct Answered {

@@ -4,13 +4,13 @@
 #![tactic(auto)]
 
 mod arrival;
+mod books;
 mod closing;
 mod fault;
 mod first_line;
 mod hints;
 mod key;
 mod log;
-mod over_book;
 mod pending;
 mod queue;
 mod replay;
@@ -20,10 +20,10 @@ mod side;
 mod socket;
 mod visitors;
 
+pub use books::{replay_book, serve_book};
 pub use fault::ServeFault;
 pub use hints::Target;
 pub use key::read_key;
-pub use over_book::{replay_book, serve_book};
 pub use replay::replay_run;
 pub use requests::read_connection;
 pub use service::Service;

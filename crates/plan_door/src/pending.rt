@@ -87,7 +87,7 @@ impl Pending {
         u64::try_from(left.as_micros().div_ceil(1000)).unwrap_or(LONGEST_WAIT)
     }
 
-    // What has arrived.
+    // Returns the bytes that have arrived, without taking them.
     fn arrived(&self, room: &mut [u8]) -> Arrival {
         let arrival = arrival_on(&self.stream, room);
         if arrival == Arrival::Part && self.is_ended {

@@ -176,7 +176,7 @@ impl<'a> Sink for Side<'a> {
     }
 }
 
-/// What the sides of each connection have in common.
+/// The terms that all connections share.
 #[derive(Clone, Copy)]
 pub(crate) struct Terms<'a> {
     pub(crate) rt: &'a HostRuntime,

@@ -59,7 +59,7 @@ pub trait Visitors {
 }
 
 // The turn of the next connection.
-fn serve_next<B: Book, V: Visitors>(
+fn serve_turn<B: Book, V: Visitors>(
     alloc: Global,
     routes: &Routes,
     office: &mut Office<B>,
@@ -111,7 +111,7 @@ pub fn serve_visitors<B: Book, V: Visitors>(
         return Err(ServeFault::Memory);
     };
     for _ in 0..count {
-        serve_next(alloc, &routes, office, visitors);
+        serve_turn(alloc, &routes, office, visitors);
         if visitors.is_closed() {
             return Err(ServeFault::Socket);
         }

@@ -22,13 +22,6 @@ pub refused_with : {E : Type 0} (IsLine : List ℕ → Type 0) (code : Code) (ab
 refused_with IsLine code about (Ok list) e is made memory = subst (λ (f : CliFault). Refuses IsLine f) (sym made) is
 refused_with IsLine code about (Err x) e is made memory = subst (λ (f : CliFault). Refuses IsLine f) (sym memory) tt
 
--- it is about its argument
-pub refused_about : {E : Type 0} (code : Code) (about : About) (parts : Result (Vec Part Global) E) (e : CliFault)
-    → IfOk parts (λ list. e ≡ cli.Refused (refusal_of code about list)) → IfErr parts (λ _. e ≡ cli.Memory)
-    → IsAbout about e
-refused_about code about (Ok list) e made memory = subst (λ (f : CliFault). IsAbout about f) (sym made) refl
-refused_about code about (Err x) e made memory = subst (λ (f : CliFault). IsAbout about f) (sym memory) tt
-
 -- the contents of the file don't change the line
 pub contents_refuse : (IsLine : List ℕ → Type 0) (contents : Contents) (e : CliFault)
     → Refuses IsLine e → Refuses IsLine (with_contents contents e)

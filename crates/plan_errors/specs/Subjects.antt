@@ -1,4 +1,4 @@
--- What an error is about, and its likely cause (docs/definitions.md, "Runs").
+-- The subject of an error and its likely cause (docs/definitions.md, "Runs").
 use Rattle.std.specs.Prelude.{ℕ, Bool, true, false, ◌&&◌, if◌then◌else◌, List, Option, None}
 use Rattle.std.specs.Prelude.{bytes_eq, codes}
 use denote.Ref.{Bor}

@@ -568,7 +568,7 @@ impl Code {
                 "A cell of line N isn't a whole number of at most 10000000: a date, or the duration or an amount of an absence."
             }
             Code::BadDates => {
-                "The dates of line N contradict each other: fixed is before earliest or before --now, or remaining is given for an activity that hasn't begun."
+                "The dates of line N contradict each other: fixed is before earliest or before --now, or remaining is given for an activity that hasn't begun. Or begun or done is before the first date."
             }
             Code::NeedsTooMuch => {
                 "Activity A takes time and needs more of resource R than its capacity, so it can never start. A is the first such activity and R its first such resource."

@@ -5,7 +5,7 @@ ghost use Rattle.plan_errors.specs.Subjects as spec;
 
 use crate::codes::Code;
 
-/// What the file of a command contains.
+/// The kind of contents of a command's file.
 #[derive(Clone, Copy, Debug, PartialEq, Eq)]
 pub enum Contents {
     /// Perhaps the contents that the command requires.

@@ -7,7 +7,7 @@ ghost use Rattle.plan_errors.specs.Parts as spec;
 use std::alloc::AllocError;
 use std::fmt::Write;
 
-/// What a number of an error line counts.
+/// The meaning of a number in an error line.
 #[derive(Clone, Copy, Debug, PartialEq, Eq)]
 pub enum Key {
     Activity,

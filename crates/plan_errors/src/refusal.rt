@@ -16,11 +16,11 @@ use std::alloc::{AllocError, Global};
 #[derive(Debug, Drop)]
 pub struct Refusal {
     pub code: Code,
-    /// What its line has behind the code.
+    /// The parts of its line after the code.
     pub parts: Vec<Part>,
     /// The argument that it is about.
     pub about: About,
-    /// What the file of the command contains.
+    /// The kind of contents of the command's file.
     pub contents: Contents,
     /// The cause with the names in the file, if it is known.
     pub detail: Option<String>,

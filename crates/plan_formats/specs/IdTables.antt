@@ -34,9 +34,10 @@ id_rows ids rows = flat_map (id_row ids) rows
 abbrev pub places_of : Layout → ℕ
 places_of (layout.Right places) = places
 places_of layout.Mark = 0
+places_of layout.WideMark = 0
 places_of layout.Label = 0
 places_of layout.Line = 0
-places_of layout.Field = 0
+places_of (layout.Words places) = 0
 places_of layout.Member = 0
 
 -- the places of a column, or the length of the longest id if that is more

@@ -1,10 +1,10 @@
 -- The text of a table (docs/definitions.md, "Formats").
 use Rattle.std.specs.Prelude.{ℕ, ◌-◌, Bool, if◌then◌else◌, List, [], ◌∷◌, ◌++◌}
-use Rattle.std.specs.Prelude.{map, fold, max, length, replicate, codes}
+use Rattle.std.specs.Prelude.{map, fold, max, replicate, codes}
 use Rattle.std.specs.List.{flat_map, list_any, zip}
 use Rattle.plan_formats.specs.Cells.{Cell, text, empty, is_empty}
 use Rattle.plan_formats.specs.Cells as cells
-use Rattle.plan_formats.specs.Columns.{Column, is_label, is_line, placed, placed_heading}
+use Rattle.plan_formats.specs.Columns.{Column, characters, is_label, is_line, placed, placed_heading}
 use Rattle.plan_formats.specs.TableLines.{lines_text}
 use Rattle.plan_formats.specs.Tables.{Table}
 use Rattle.plan_formats.specs.declared.plain_text.TextRow as declared
@@ -63,18 +63,18 @@ headings columns = if has_lines columns then [] else heading_row columns ∷ []
 abbrev pub text_rows : List Column → List (List Cell) → List TextRow
 text_rows columns rows = headings columns ++ map (row_of columns) rows
 
--- the length of a row that has a label, 0 for another row
+-- the characters of a row that has a label, 0 for another row
 abbrev pub labelled_length : TextRow → ℕ
-labelled_length row = if is_empty row.label then 0 else length row.base
+labelled_length row = if is_empty row.label then 0 else characters row.base
 
--- the length of the longest row that has a label
+-- the characters of the longest row that has a label
 abbrev pub label_place : List TextRow → ℕ
 label_place rows = fold (λ most row. max most (labelled_length row)) 0 rows
 
 -- the blanks up to the place of the labels, one more blank, and the label
 abbrev pub label_text : ℕ → TextRow → List ℕ
 label_text place row = if is_empty row.label then []
-    else replicate (place - length row.base) 32 ++ codes " " ++ cells.text_of row.label
+    else replicate (place - characters row.base) 32 ++ codes " " ++ cells.text_of row.label
 
 -- the line of a row
 abbrev pub row_line : ℕ → TextRow → List ℕ

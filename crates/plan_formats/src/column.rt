@@ -8,12 +8,14 @@ pub enum Layout {
     /// ` *` at this place of the row if the cell is the flag `true`. The text has no heading for
     /// it.
     Mark,
+    /// The same mark or two blanks, so that columns can follow. The heading has two blanks.
+    WideMark,
     /// Behind the longest of the rows that have a label, and a blank. The heading is a label too.
     Label,
     /// The text of the cell. A table with such a column has no line of headings.
     Line,
-    /// No place in the text: a field of CSV and a member of JSON.
-    Field,
+    /// A blank, and then as `Right`, but counted in characters of UTF-8, not in bytes.
+    Words(usize),
     /// No place in the text and no field in CSV: a member of JSON.
     Member,
 }

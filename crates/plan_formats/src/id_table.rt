@@ -70,7 +70,8 @@ fn places_of(layout: Layout) -> usize
 {
     match layout {
         Layout::Right(places) => places,
-        Layout::Mark | Layout::Label | Layout::Line | Layout::Field | Layout::Member => 0,
+        Layout::Mark | Layout::WideMark | Layout::Label | Layout::Line | Layout::Words(_) => 0,
+        Layout::Member => 0,
     }
 }
 

@@ -15,6 +15,7 @@ mod name_columns;
 mod named_table;
 mod plain_text;
 mod table;
+mod utf8;
 
 pub use cell::{Cell, day_cell};
 pub use column::{Column, Layout};
@@ -26,3 +27,4 @@ pub use line::Line;
 pub use named_table::{with_column, with_names};
 pub use plain_text::table_text;
 pub use table::Table;
+pub use utf8::characters;

@@ -3,7 +3,8 @@
 ghost use Rattle.std.specs.Prelude.{◌≡◌, ◌++◌, ◌-◌, map, length, replicate, IfOk, OnOk};
 ghost use Rattle.plan_formats.specs.Cells as cells;
 ghost use Rattle.plan_formats.specs.Columns as layouts;
-ghost use Rattle.plan_formats.specs.Columns.{column, column_of, mark_of, placed, placed_heading};
+ghost use Rattle.plan_formats.specs.Columns.{column, column_of, mark_of, placed};
+ghost use Rattle.plan_formats.specs.Columns.{placed_heading, wide_mark_of, words_column};
 ghost use Rattle.plan_formats.specs.Tables.{cells_of, rows_of, table_of};
 ghost use Rattle.plan_formats.specs.TableText as spec;
 
@@ -12,6 +13,7 @@ use crate::column::{Column, Layout};
 use crate::day_text::day_text;
 use crate::line_text::push_lines;
 use crate::table::Table;
+use crate::utf8::characters;
 use std::alloc::{AllocError, Global};
 
 // A row of the text: its characters, and its label, which is an empty cell if it has none.
@@ -64,6 +66,16 @@ fn push_right(text: &mut Vec<u8>, places: usize, word: &[u8]) -> Result<(), Allo
     text.extend_from_slice(word)
 }
 
+// Appends a blank and a text, which is aligned right in `places` characters.
+fn push_words(text: &mut Vec<u8>, places: usize, words: &[u8]) -> Result<(), AllocError>
+    ensures { OnOk result (text.new.items
+        ≡ text.old.items ++ words_column places words.now) }
+{
+    text.push(b' ')?;
+    push_spaces(text, places.saturating_sub(characters(words)))?;
+    text.extend_from_slice(words)
+}
+
 // Appends the mark of a row.
 fn push_mark(text: &mut Vec<u8>, cell: &Cell<'_>) -> Result<(), AllocError>
     ensures { OnOk result (text.new.items
@@ -73,6 +85,17 @@ fn push_mark(text: &mut Vec<u8>, cell: &Cell<'_>) -> Result<(), AllocError>
         text.extend_from_slice(b" *")?;
     }
     Ok(())
+}
+
+// Appends the mark of a row, or two blanks.
+fn push_wide_mark(text: &mut Vec<u8>, cell: &Cell<'_>) -> Result<(), AllocError>
+    ensures { OnOk result (text.new.items
+        ≡ text.old.items ++ wide_mark_of (cells.cell_of cell.now)) }
+{
+    match cell {
+        Cell::Flag(true) => text.extend_from_slice(b" *"),
+        _ => text.extend_from_slice(b"  "),
+    }
 }
 
 // Appends a cell at the place of its column.
@@ -88,7 +111,9 @@ fn push_placed(
     match layout {
         Layout::Right(places) => push_right(text, places, &cell_text(alloc, cell)?),
         Layout::Mark => push_mark(text, cell),
-        Layout::Label | Layout::Field | Layout::Member => Ok(()),
+        Layout::WideMark => push_wide_mark(text, cell),
+        Layout::Words(places) => push_words(text, places, &cell_text(alloc, cell)?),
+        Layout::Label | Layout::Member => Ok(()),
         Layout::Line => text.extend_from_slice(&cell_text(alloc, cell)?),
     }
 }
@@ -152,7 +177,9 @@ fn push_heading(text: &mut Vec<u8>, column: &Column) -> Result<(), AllocError>
 {
     match column.layout {
         Layout::Right(places) => push_right(text, places, column.heading.as_bytes()),
-        Layout::Mark | Layout::Label | Layout::Line | Layout::Field | Layout::Member => Ok(()),
+        Layout::Words(places) => push_words(text, places, column.heading.as_bytes()),
+        Layout::WideMark => text.extend_from_slice(b"  "),
+        Layout::Mark | Layout::Label | Layout::Line | Layout::Member => Ok(()),
     }
 }
 
@@ -232,17 +259,17 @@ fn text_rows<'a>(
     Ok(made)
 }
 
-// Returns the length of a row that has a label, 0 for another row.
+// Returns the characters of a row that has a label, 0 for another row.
 fn labelled_length(row: &TextRow<'_>) -> usize
     ensures { result ≡ spec.labelled_length (spec.text_row_of row.now) }
 {
     if is_empty(&row.label) {
         return 0;
     }
-    row.base.len()
+    characters(&row.base)
 }
 
-// Returns the length of the longest row that has a label.
+// Returns the characters of the longest row that has a label.
 fn label_place(rows: &[TextRow<'_>]) -> usize
     ensures { result ≡ spec.label_place (map spec.text_row_of rows.now) }
 {
@@ -266,7 +293,7 @@ fn push_label(
     if is_empty(&row.label) {
         return Ok(());
     }
-    push_spaces(text, place.saturating_sub(row.base.len()))?;
+    push_spaces(text, place.saturating_sub(characters(&row.base)))?;
     text.push(b' ')?;
     text.extend_from_slice(&cell_text(alloc, &row.label)?)
 }

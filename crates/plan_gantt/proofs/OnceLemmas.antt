@@ -78,10 +78,6 @@ table_once i r s x y same first second =
     let starts = schedule_once i s first.starts second.starts (subst (λ (rule : Rule). IsSchedule i rule first.starts) same first.schedule) second.schedule in
     first.shown ∙ ap (λ (xs : List ℕ). schedule_table_text i.project.network xs (makespan (problem_of i) xs)) starts ∙ sym second.shown
 
--- and one schedule table by the rule of a name
-pub schedule_text_once : (name : List ℕ) (i : Planned) (x y : List ℕ) → IsScheduleTextOf name i x → IsScheduleTextOf name i y → x ≡ y
-schedule_text_once name i x y (r, named, first) (s, also, second) = table_once i r s x y (rule_once name r s named also) first second
-
 refused_once : (name : List ℕ) (i : Planned) (f g : SgsFault) → RefusesSchedule name i f → RefusesSchedule name i g → f ≡ g
 refused_once name i f g (inl first) (inl second) = refusal_once i f g first second
 refused_once name i f g (inl first) (inr second) = absurd (fit_not_refused i f second.0 first)
@@ -93,27 +89,9 @@ pub schedule_refusal_once : (name : List ℕ) (i : Planned) (x y : List ℕ) →
 schedule_refusal_once name i x y (f, first, is_x) (g, second, is_y) =
     is_x ∙ ap schedule_fault_text_of (refused_once name i f g first second) ∙ sym is_y
 
--- and none if there is a schedule by the rule of that name
-pub schedule_refusal_apart : (name : List ℕ) (i : Planned) (line text : List ℕ) → IsScheduleTextOf name i text → TellsRefusal name i line → ⊥
-schedule_refusal_apart name i line text (r, named, table) (f, inl first, is) =
-    fit_not_refused i f (feasible_fits (problem_of i) table.starts table.schedule.active.feasible) first
-schedule_refusal_apart name i line text (r, named, table) (f, inr second, is) = second.1.1 r named
-
-shop_table_once : (s : shops.JobShop) (r q : ShopRule) (x y : List ℕ) → r ≡ q → IsTableBy r s x → IsTableBy q s y → x ≡ y
-shop_table_once s r q x y same first second =
-    first.shown ∙ ap (λ (rule : ShopRule). shop_table_text s (rule_starts rule s) (makespan (shops.problem_of s) (rule_starts rule s))) same ∙ sym second.shown
-
--- a shop has one table by the rule of a name
-pub shop_text_once : (name : List ℕ) (s : shops.JobShop) (x y : List ℕ) → IsShopTextOf name s x → IsShopTextOf name s y → x ≡ y
-shop_text_once name s x y (r, named, first) (q, also, second) = shop_table_once s r q x y (rules.rule_once name r q named also) first second
-
 -- a name that no rule has makes one line
 pub no_rule_once : (name x y : List ℕ) → TellsNoRule name x → TellsNoRule name y → x ≡ y
 no_rule_once name x y (f, first, is_x) (g, second, is_y) = is_x ∙ ap shop_fault_text_of (first.0 ∙ sym second.0) ∙ sym is_y
-
--- if a rule has the name, there is no such line
-pub no_rule_apart : (name : List ℕ) (s : shops.JobShop) (line text : List ℕ) → IsShopTextOf name s text → TellsNoRule name line → ⊥
-no_rule_apart name s line text (r, named, table) (f, none, is) = none.1 r named
 
 -- equal answers have equal texts
 pub best_line_once : (s : shops.JobShop) (a b : Solved) → SolvedAlike a b → best_text_of s a ≡ best_text_of s b

@@ -5,7 +5,8 @@ use Rattle.std.specs.Prelude.{unwrap_or}
 use Rattle.plan_rows.specs.World.{Text, World}
 use Rattle.plan_rows.specs.Changes.{Change, apply}
 use Rattle.plan_rows.specs.Views.{View, view, alone}
-use Rattle.plan_desk.specs.Calls.{Call, publish, open_desk, set_key, capacities, plans, import_project, import_shop, remove, bind, set_calendar, set_lag, dates, schedule, chart, days, best, Request, Reply, desk_of, subject, is_publish, admits}
+use Rattle.plan_desk.specs.Calls.{Call, publish, open_desk, set_key, capacities, plans, import_project, import_shop, remove, bind, set_calendar, set_lag, dates}
+use Rattle.plan_desk.specs.Calls.{schedule, chart, days, best, Request, Reply, desk_of, subject, is_publish, admits}
 use Rattle.plan_desk.specs.Stories.{names, concerns, belongs}
 use Rattle.plan_desk.specs.Decisions.{IsStep, IsDecision}
 use Rattle.plan_desk.specs.Promises.{IsPromised, PagesArePromised}

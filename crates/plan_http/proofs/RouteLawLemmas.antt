@@ -1,5 +1,6 @@
 -- The route of a target is the one whose segments are the target's.
-use Rattle.std.proofs.Common.{◌≡◌, ◌≢◌, ◌⊎◌, ℕ, zero, suc, ◌<◌, ◌==◌, ◌&&◌, ◌||◌, Bool, true, false, not, cond, List, [], ◌∷◌, ◌++◌, Option, Some, None, Result, Ok, length, inl, inr, refl, sym, ap, ◌∙◌, subst, append-nil, arith}
+use Rattle.std.proofs.Common.{◌≡◌, ◌≢◌, ◌⊎◌, ℕ, zero, suc, ◌<◌, ◌==◌, ◌&&◌, ◌||◌, Bool, true, false, not, cond, List, [], ◌∷◌, ◌++◌, Option, Some, None, Result}
+use Rattle.std.proofs.Common.{Ok, length, inl, inr, refl, sym, ap, ◌∙◌, subst, append-nil, arith}
 use Rattle.std.specs.Prelude.{get_or, bytes_eq, ltb, if◌then◌else◌}
 use Rattle.std.specs.List.{onto_first, list_all}
 use Rattle.std.specs.Option.{option_map}
@@ -11,7 +12,8 @@ use Rattle.matchit.specs.Router.{RouteOf, route_from}
 use Rattle.matchit.specs.Seek.{has_slash, first, seek}
 use Rattle.matchit.specs.declared.error.InsertError.{InsertError}
 use Rattle.plan_http.specs.declared.routes.Route.{Route}
-use Rattle.plan_http.specs.declared.routes.Route.TheVariants.{Publish, OpenDesk, SetKey, Capacities, Plans, ImportProject, ImportShop, Remove, Bind, SetCalendar, SetLag, Dates, Schedule, Chart, Days, Best}
+use Rattle.plan_http.specs.declared.routes.Route.TheVariants.{Publish, OpenDesk, SetKey, Capacities, Plans, ImportProject, ImportShop, Remove, Bind}
+use Rattle.plan_http.specs.declared.routes.Route.TheVariants.{SetCalendar, SetLag, Dates, Schedule, Chart, Days, Best}
 use Rattle.plan_http.specs.Routes.{Table, all_routes, text_of, with_read, with_route, with_routes, route_table, is_plain_target, route_of}
 use Rattle.plan_http.specs.RouteLaws.{segments, is_name, IsSegment, AreSegments, RoutesAreThese}
 use Rattle.plan_http.proofs.TokenLemmas.{by_bool, Has, Good, Shaped, EndsSegment, Tok, AreBytes, Cut, cut, sound, complete}

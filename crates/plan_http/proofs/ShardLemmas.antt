@@ -6,7 +6,8 @@ use Rattle.plan_rows.specs.World.{Text, World}
 use Rattle.plan_rows.specs.Rules.{IsWorld}
 use Rattle.plan_rows.specs.Views.{View, view, alone}
 use Rattle.plan_rows.specs.Books.{Shelf}
-use Rattle.plan_desk.specs.Calls.{Call, publish, open_desk, set_key, capacities, plans, import_project, import_shop, remove, bind, set_calendar, set_lag, dates, schedule, chart, days, best, Request, Reply, desk_of, subject, is_publish, is_of_office, admits}
+use Rattle.plan_desk.specs.Calls.{Call, publish, open_desk, set_key, capacities, plans, import_project, import_shop, remove, bind, set_calendar, set_lag, dates}
+use Rattle.plan_desk.specs.Calls.{schedule, chart, days, best, Request, Reply, desk_of, subject, is_publish, is_of_office, admits}
 use Rattle.plan_desk.specs.Stories.{names, concerns, belongs}
 use Rattle.plan_desk.specs.Decisions.{IsStep}
 use Rattle.plan_desk.proofs.LooksLemmas.{SameView, same_from_agree}

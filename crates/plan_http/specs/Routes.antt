@@ -9,7 +9,8 @@ use Rattle.matchit.specs.Route.{Scan, parse_route}
 use Rattle.matchit.specs.Router.{RouteOf, route_from}
 use Rattle.matchit.specs.declared.error.InsertError.{InsertError}
 use Rattle.plan_http.specs.declared.routes.Route.{Route}
-use Rattle.plan_http.specs.declared.routes.Route.TheVariants.{Publish, OpenDesk, SetKey, Capacities, Plans, ImportProject, ImportShop, Remove, Bind, SetCalendar, SetLag, Dates, Schedule, Chart, Days, Best}
+use Rattle.plan_http.specs.declared.routes.Route.TheVariants.{Publish, OpenDesk, SetKey, Capacities, Plans, ImportProject, ImportShop, Remove, Bind}
+use Rattle.plan_http.specs.declared.routes.Route.TheVariants.{SetCalendar, SetLag, Dates, Schedule, Chart, Days, Best}
 
 -- all routes
 abbrev pub all_routes : List Route

@@ -54,7 +54,7 @@ pub(crate) fn fill<R: Client>(
 }
 
 /// Whether the bytes begin with a head: they are all bytes if `is_end`, else more may follow.
-pub(crate) fn judge(front: &[u8], is_end: bool, headers: &mut [HeaderSpan]) -> Judged
+pub(crate) fn judge_head(front: &[u8], is_end: bool, headers: &mut [HeaderSpan]) -> Judged
     requires room { length front.now ≤ 8192 }
     requires fields { length headers.old ≡ 64 }
     ensures within { JudgedWithin front.now is_end headers.new result }
@@ -103,7 +103,7 @@ pub(crate) fn read_head<R: Client>(
             return HeadEnd::Failed;
         };
         filled += came;
-        match judge(&buf[..filled], came == 0, headers) {
+        match judge_head(&buf[..filled], came == 0, headers) {
             Judged::Whole(spans) => return HeadEnd::Found(spans, filled),
             Judged::Hopeless => return HeadEnd::Missing,
             Judged::Unfinished => {}

@@ -21,7 +21,7 @@ use crate::calls::call_at;
 use crate::checks::{Check, check_head};
 use crate::client::Client;
 use crate::fields::only_value;
-use crate::head::{FIELD_LIMIT, HEAD_LIMIT, HeadEnd, Judged, fill, judge, read_head};
+use crate::head::{FIELD_LIMIT, HEAD_LIMIT, HeadEnd, Judged, fill, judge_head, read_head};
 use crate::routes::{Route, Routes};
 use httparse::spans::{EMPTY_HEADER_SPAN, HeaderSpan, RequestSpans};
 use plan_desk::Request;
@@ -299,7 +299,7 @@ pub fn read_request<R: Client>(alloc: Global, routes: &Routes, reader: &mut R) -
         return Asked::ReadFailed;
     };
     let front = &front[..came];
-    match judge(front, came == 0, &mut headers) {
+    match judge_head(front, came == 0, &mut headers) {
         Judged::Whole(spans) => behind_head(alloc, routes, reader, front, &headers, &spans),
         Judged::Hopeless => fails(Check::Message, false),
         Judged::Unfinished => behind_front(alloc, routes, reader, front, &mut headers),

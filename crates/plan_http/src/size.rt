@@ -10,7 +10,7 @@ ghost use Rattle.plan_http.specs.Head.{BeginsWithHead};
 ghost use Rattle.plan_http.specs.Asked.{IsPassed};
 
 use crate::checks::check_head;
-use crate::head::{FIELD_LIMIT, Judged, judge};
+use crate::head::{FIELD_LIMIT, Judged, judge_head};
 use httparse::spans::{EMPTY_HEADER_SPAN, HeaderSpan};
 
 // The length of the body. It is 0 if the head fails a check.
@@ -37,7 +37,7 @@ pub fn request_size(front: &[u8]) -> Option<usize>
     ensures none { result ≡ None → (length front.now < 8192) × MayBecomeRequest front.now }
 {
     let mut headers = [EMPTY_HEADER_SPAN; FIELD_LIMIT];
-    match judge(front, false, &mut headers) {
+    match judge_head(front, false, &mut headers) {
         Judged::Whole(spans) => {
             let body = body_size(front, &headers[..spans.headers], spans.version);
             Some(spans.len + body)

@@ -1,4 +1,4 @@
--- What a problem takes from its numbers.
+-- The values of a problem that stand in its input.
 use Rattle.std.proofs.Common.{◌≡◌, ◌∙◌, ℕ, ◌+◌, ◌≤◌, ◌<◌, List, Vec, Some, [], ◌∷◌, ◌++◌, take, map, length, get_or, refl, sym, ap, arith}
 use Rattle.std.specs.List.{All, slice_get}
 use Rattle.std.proofs.lemmas.Option.{get_or_from_slice_get, slice_get_within}

@@ -12,13 +12,6 @@ use Rattle.plan_kernel.specs.Literals.{Fails}
 use Rattle.plan_kernel.specs.Clauses.{IsConsequence}
 use Rattle.plan_kernel.specs.Kernels.{Kept, IsKept, IsAmong, IsReordered, HasReordered}
 
--- the literals of a kept clause, if there are any
-pub among_follows : (input : Input) (upper : ℕ) (clauses : List (Option (Vec Literal Global))) (literals : List Literal) → All (IsKept input upper) clauses
-    → IsAmong clauses literals → (literals ≡ [] → ⊥) → IsConsequence input upper literals
-among_follows input upper clauses literals kept (inl none) some = absurd (some none)
-among_follows input upper clauses literals kept (inr (clause, there, is)) some =
-    subst (λ (ls : List Literal). IsConsequence input upper ls) is (All-contains (IsKept input upper) clauses (Some clause) kept there)
-
 -- what is one of the clauses, or one of them in another order
 abbrev pub IsOneOf : List Kept → Kept → Type 0
 IsOneOf old kept = Contains old kept ⊎ ((other : Kept) × Contains old other × IsReordered other kept)

@@ -1,4 +1,4 @@
--- What literals say: a half and its opposite share the limit, and a literal holds where its
+-- The meaning of literals: a half and its opposite share the limit, and a literal holds if its
 -- negation fails.
 use Rattle.std.proofs.Common.{◌≡◌, ◌∙◌, ℕ, suc, ◌+◌, ◌-◌, ◌*◌, ◌/◌, ◌%◌, ◌≤◌, ◌<◌, ◌⊎◌, inl, inr, List, cond, nat_eq, nat_lt, nat_le, get_or, refl, ap, arith}
 use Rattle.std.proofs.lemmas.Bool.{cases_eq, cond_both, cond-true, cond-false, eq-eqb, ne_eqb, lt-ltb, le-ltb, ltb-true}

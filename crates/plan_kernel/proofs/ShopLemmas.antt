@@ -1,4 +1,4 @@
--- What a job shop's problem takes from its numbers.
+-- The values of a job shop's problem that stand in its input.
 use Rattle.std.proofs.Common.{◌≡◌, ◌∙◌, ℕ, suc, ◌+◌, ◌<◌, List, Vec, Some, [], ◌∷◌, ◌++◌, true, false, cond, map, take, drop, set, replicate, sym, ap, arith}
 use Rattle.std.specs.List.{slice_get}
 use Rattle.std.specs.declared.alloc.Global.{Global}

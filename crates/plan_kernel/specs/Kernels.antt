@@ -1,4 +1,4 @@
--- What a kernel knows of a problem (docs/definitions.md, "Clauses").
+-- The facts and clauses of a kernel about a problem (docs/definitions.md, "Clauses").
 use Rattle.std.specs.Prelude.{◌≡◌, ℕ, suc, ◌+◌, ◌-◌, ◌*◌, max, min, ◌≤◌, ◌<◌, ◌⊎◌, true, List, [], Vec, Option, Some, None, ◌∷◌, All, Contains, length, get_or}
 use Rattle.std.specs.declared.alloc.Global.{Global}
 use Rattle.std.specs.List.Sorted.{IsPermutation}
@@ -34,7 +34,7 @@ abbrev pub IsKept : Input → ℕ → Kept → Type 0
 IsKept input upper None = Unit {0}
 IsKept input upper (Some clause) = IsConsequence input upper clause.items
 
--- What is known is true: facts and clauses hold in each plan that costs less than the upper bound.
+-- A kernel is true: its facts and clauses hold in each plan that costs less than the upper bound.
 -- If the upper bound is refuted, there is no such plan. The best list, if one was found, is a plan,
 -- and its cost is the upper bound.
 pub record AreKnown (known : Known) : Type 0 where

@@ -50,7 +50,7 @@ fn keeps_windows(input: &Input, starts: &[u32]) -> bool
     true
 }
 
-// What an absence takes of a resource at an instant.
+// Returns the amount of a resource that an absence takes at an instant.
 fn taken(absence: Absence, instant: u32, resource: usize) -> u64
     ensures value { result ≡ spec.taken_by instant resource absence }
     ensures small { result < 2 ^ 32 }
@@ -65,7 +65,7 @@ fn taken(absence: Absence, instant: u32, resource: usize) -> u64
     }
 }
 
-// What is absent of a resource at an instant, if there is so much of it.
+// Returns the absent amount of a resource at an instant, if the sum fits.
 fn absent(input: &Input, instant: u32, resource: usize) -> Option<u64>
     ensures value { IfSome result (λ sum. sum ≡ spec.absent input.now instant resource) }
     ensures within { IfSome result (λ sum.
@@ -85,7 +85,7 @@ fn absent(input: &Input, instant: u32, resource: usize) -> Option<u64>
     Some(sum)
 }
 
-// What an activity needs of a resource at an instant.
+// Returns the amount of a resource that an activity needs at an instant.
 fn amount(input: &Input, starts: &[u32], instant: u32, resource: usize, activity: usize) -> u64
     ensures value { result
         ≡ amount_at (problem_of input.now) starts.now instant resource activity }

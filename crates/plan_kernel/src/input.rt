@@ -60,14 +60,14 @@ pub struct Input {
     pub orders: Vec<Order>,
     /// Bounds of starts. An activity may have none, or several.
     pub windows: Vec<StartWindow>,
-    /// What is missing of resources. Absences of one resource add up.
+    /// Missing amounts of resources. Absences of one resource add up.
     pub absences: Vec<Absence>,
     /// For each activity what its end adds to the cost of a plan beyond the end itself, 0 where the
     /// list is shorter.
     pub tails: Vec<u32>,
 }
 
-/// What an activity needs of a resource, 0 if there is no such activity or resource.
+/// Returns the need of an activity for a resource, 0 if there is no such activity or resource.
 pub fn need(input: &Input, activity: usize, resource: usize) -> u32
     ensures { result ≡ problems.need (spec.problem_of input.now) activity resource }
 {

@@ -1,4 +1,4 @@
-//! What a kernel knows of a problem.
+//! The facts and clauses of a kernel about a problem.
 
 ghost use Rattle.std.specs.Prelude.{◌≡◌, ◌≤◌, ◌<◌, ◌^◌, true, false, length, get_or, min, IfErr, Some, None, IfOk, IsTrue, IsFalse, OnOk, OnErr};
 ghost use Rattle.plan_kernel.specs.Clauses.{IsShorter, IsConsequence};
@@ -16,10 +16,10 @@ use std::mem;
 /// The most literals that are kept, each clause counted with [`PER_CLAUSE`] more: 48 megabytes.
 pub const MOST_LITERALS: u64 = 6_000_000;
 
-/// What a clause takes beside its literals, in literals.
+/// The memory of a clause beside its literals, in literals.
 pub const PER_CLAUSE: u64 = 6;
 
-/// What a conflict has taught.
+/// A fact or a clause that a conflict has shown.
 #[derive(Clone, Copy, Drop)]
 pub enum Lesson {
     /// No plan costs less than the upper bound.
@@ -30,8 +30,8 @@ pub enum Lesson {
     Clause(u32),
 }
 
-/// What is known of a problem: the best plan, and facts and clauses that hold in all plans that cost
-/// less.
+/// The knowledge of a problem: the best plan, and facts and clauses that hold in all plans that
+/// cost less.
 #[derive(Drop)]
 pub struct Known {
     pub input: Input,
@@ -51,7 +51,7 @@ pub struct Known {
     pub refuted: bool,
 }
 
-/// What is known at first of the plans of a problem that cost less than an upper bound.
+/// Returns the first knowledge of the plans of a problem that cost less than an upper bound.
 pub fn first_known(alloc: Global, input: Input, upper: u32) -> Result<Known, AllocError>
     requires { upper ≤ LIMIT }
     ensures input { IfOk result (λ known. known.input ≡ input) }

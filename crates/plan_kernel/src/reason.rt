@@ -276,7 +276,7 @@ fn are_members(input: &Input, from: u32, until: u32, members: &[Member]) -> bool
     true
 }
 
-// What members need of a resource, over time. A sum beyond all limits may be less.
+// Returns the energy that members need of a resource. A sum beyond all limits may be less.
 fn energy(input: &Input, resource: u32, members: &[Member]) -> u64
     ensures { result ≤ spec.energy_of (problem_of input.now) resource members.now }
 {
@@ -288,7 +288,7 @@ fn energy(input: &Input, resource: u32, members: &[Member]) -> u64
     sum
 }
 
-// What an absence takes of a resource in a window, over time.
+// Returns the energy that an absence takes of a resource in a window.
 fn taken(absence: Absence, resource: u32, from: u32, until: u32) -> u64
     ensures { result ≤ spec.taken_in resource from until absence }
 {
@@ -303,7 +303,7 @@ fn taken(absence: Absence, resource: u32, from: u32, until: u32) -> u64
     (absence.amount as u64).saturating_mul((behind - first) as u64)
 }
 
-// What is absent of a resource in a window, over time. A sum beyond all limits may be less.
+// Returns the absent energy of a resource in a window. A sum beyond all limits may be less.
 fn absent(input: &Input, resource: u32, from: u32, until: u32) -> u64
     ensures { result ≤ spec.absent_in input.now resource from until }
 {

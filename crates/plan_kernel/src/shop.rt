@@ -50,7 +50,7 @@ fn arcs_of(alloc: Global, shop: &Shop) -> Result<Vec<Arc>, AllocError>
     Ok(arcs)
 }
 
-// What a step needs: one of its machine.
+// Returns the needs of a step: one of its machine.
 fn row_of(alloc: Global, machines: u32, machine: u32) -> Result<Vec<u32>, AllocError>
     requires { machine < machines }
     ensures { IfOk result (λ row. row.items ≡ shops.machine_needs machines machine) }
@@ -60,7 +60,7 @@ fn row_of(alloc: Global, machines: u32, machine: u32) -> Result<Vec<u32>, AllocE
     Ok(row)
 }
 
-// What all steps need.
+// Returns the needs of all steps.
 fn rows_of(alloc: Global, shop: &Shop) -> Result<Vec<Vec<u32>>, AllocError>
     ensures { IfOk result (λ rows.
         map (λ row. row.items) rows.items ≡ map (needs_of_step shop.now) shop.now.steps) }

@@ -34,7 +34,7 @@ impl Choice {
         }
     }
 
-    /// Adds the estimate of a move that isn't forbidden. Of equal ones a random one is the best.
+    /// Adds the estimate of a move that isn't forbidden. The best of equal ones is a random one.
     pub fn add_estimate(&mut self, candidate: Move, estimate: u32, draws: &mut Draws) {
         if estimate < self.estimate {
             self.ties = 0;

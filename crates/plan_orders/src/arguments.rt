@@ -5,7 +5,7 @@ use clap::{Arg, ArgAction, Command, value_parser};
 use std::alloc::{AllocError, Global};
 
 // The number of the release.
-const RELEASE: &str = "0.11.0";
+const RELEASE: &str = "0.12.0";
 
 // The start of the help.
 const HELP_START: &str =
@@ -99,6 +99,9 @@ enum Form {
     Starts,
     /// An option with the name of an old list or project file, which a job shop doesn't have.
     Old,
+    /// An option of the comparison with an old list: the instant, and the first date.
+    OldNow,
+    OldStart,
     /// An option without a value that asks for a search, in place of a rule.
     Solve,
     /// The same for a report, whose rule is an option.
@@ -254,7 +257,48 @@ const NOW: Argument = Argument {
     name: "now",
     form: Form::Now,
     help: "for a list of activities: plan from the instant T on, 0 to 10000000 or, with --start, a \
-        date; what has begun or is done stays as it is",
+        date; begun and done activities stay as they are",
+};
+
+const CHECK_NOW: Argument = Argument {
+    name: "now",
+    form: Form::Now,
+    help: "for a list of activities: check from the instant T on, 0 to 10000000 or, with --start, a \
+        date; begun and done activities stay as they are",
+};
+
+const LIST_START: Argument = Argument {
+    name: "start",
+    form: Form::ReportStart,
+    help: "for a list of activities: read the dates in its cells; the day of instant 0, for example \
+        2027-05-03",
+};
+
+const MARKED_DAYS: Argument = Argument {
+    name: "days",
+    form: Form::ReportDays,
+    help: "the working days, as for plan days",
+};
+
+const DATED_HOLIDAYS: Argument = Argument {
+    name: "holidays",
+    form: Form::ReportHolidays,
+    help: "skip the days in this file, or - for standard input",
+};
+
+// The same, for a comparison with an old list.
+const OLD_NOW: Argument = Argument {
+    name: "now",
+    form: Form::OldNow,
+    help: "with --old, for two lists of activities: read both from the instant T on, 0 to 10000000 \
+        or, with --start, a date",
+};
+
+const OLD_START: Argument = Argument {
+    name: "start",
+    form: Form::OldStart,
+    help: "with --old, for two lists of activities: read the dates in their cells; the day of \
+        instant 0, for example 2027-05-03",
 };
 
 const GOAL: Argument = Argument {
@@ -433,13 +477,13 @@ const INSTANCE_IF_SHOP: Argument = Argument {
 const BUDGET: Argument = Argument {
     name: "BUDGET",
     form: Form::Text,
-    help: "how many partial schedules the search may visit, 1 to 200000",
+    help: "the number of partial schedules that the search may visit, 1 to 200000",
 };
 
 const NODES: Argument = Argument {
     name: "NODES",
     form: Form::Text,
-    help: "how many nodes the search may visit, 1 to 1000000000",
+    help: "the number of nodes that the search may visit, 1 to 1000000000",
 };
 
 // The option of commands whose rows are those of activities, orders or machines.
@@ -490,7 +534,7 @@ const LIST_COMMANDS: [Entry; 2] = [
         arguments: &[Argument {
             name: "KIND",
             form: Form::Kind,
-            help: "what the list describes",
+            help: "the kind of the list",
         }],
     },
     Entry {
@@ -545,11 +589,16 @@ const PROJECT_COMMANDS: [Entry; 6] = [
         about: "Checks the start times of a schedule, and prints the first violation",
         examples: "Examples:\n  \
             plan check examples/six.sm examples/starts.txt\n  \
-            plan shop mwkr examples/shops.txt ft06 | plan check examples/shops.txt - ft06",
+            plan shop mwkr examples/shops.txt ft06 | plan check examples/shops.txt - ft06\n  \
+            plan solve --now 8 examples/week.csv | plan check --now 8 examples/week.csv -",
         arguments: &[
             FILE_OR_LIST,
             GIVEN_STARTS,
             INSTANCE_IF_SHOP,
+            CHECK_NOW,
+            LIST_START,
+            MARKED_DAYS,
+            DATED_HOLIDAYS,
             MAP,
             IGNORE,
             UNIT,
@@ -557,7 +606,8 @@ const PROJECT_COMMANDS: [Entry; 6] = [
             Argument {
                 name: "status",
                 form: Form::Flag,
-                help: "exit with status 3 if the schedule isn't active",
+                help: "exit with status 3 unless the schedule is active, or for a list with dates \
+                    feasible",
             },
         ],
     },
@@ -591,6 +641,10 @@ const PROJECT_COMMANDS: [Entry; 6] = [
             STARTS_B,
             INSTANCE_IF_SHOP,
             OLD,
+            OLD_NOW,
+            OLD_START,
+            MARKED_DAYS,
+            DATED_HOLIDAYS,
             CAPACITY_IF_PROJECT,
             MAP,
             IGNORE,
@@ -669,22 +723,9 @@ const SCHEDULE_COMMANDS: [Entry; 5] = [
             },
             NOW,
             GOAL,
-            Argument {
-                name: "start",
-                form: Form::ReportStart,
-                help: "for a list of activities: read the dates in its cells; the day of instant 0, \
-                    for example 2027-05-03",
-            },
-            Argument {
-                name: "days",
-                form: Form::ReportDays,
-                help: "the working days, as for plan days",
-            },
-            Argument {
-                name: "holidays",
-                form: Form::ReportHolidays,
-                help: "skip the days in this file, or - for standard input",
-            },
+            LIST_START,
+            MARKED_DAYS,
+            DATED_HOLIDAYS,
             CAPACITY_IF_PROJECT,
             MAP,
             IGNORE,
@@ -694,7 +735,7 @@ const SCHEDULE_COMMANDS: [Entry; 5] = [
             Argument {
                 name: "log",
                 form: Form::Output,
-                help: "write what the search proves to this file",
+                help: "write the log of the search to this file",
             },
         ],
     },
@@ -796,6 +837,7 @@ const SCHEDULE_COMMANDS: [Entry; 5] = [
             plan report examples/house.sm\n  \
             plan report --rule slk --start 2024-03-01 --days mon-fri examples/house.sm\n  \
             plan report --solve --seconds 60 examples/house.sm\n  \
+            plan report --solve --now 8 examples/week.csv\n  \
             plan report --starts examples/starts.txt examples/six.sm\n  \
             plan report --by job --title Printing examples/shops.txt printing",
         arguments: &[
@@ -814,28 +856,22 @@ const SCHEDULE_COMMANDS: [Entry; 5] = [
             },
             REPORT_SOLVE,
             SOLVE_SECONDS,
+            SOLVED_NOW,
+            SOLVED_GOAL,
             Argument {
                 name: "start",
                 form: Form::ReportStart,
                 help: "show days: the first date, for example 2024-03-01",
             },
-            Argument {
-                name: "days",
-                form: Form::ReportDays,
-                help: "the working days, as for plan days",
-            },
-            Argument {
-                name: "holidays",
-                form: Form::ReportHolidays,
-                help: "skip the days in this file, or - for standard input",
-            },
+            MARKED_DAYS,
+            DATED_HOLIDAYS,
             REPORT_WEEKDAYS,
             REPORT_PER_DAY,
             OPENS,
             Argument {
                 name: "by",
                 form: Form::Lines,
-                help: "for a job shop: what has a line of the chart [default: machine]",
+                help: "for a job shop: the kind of a line of the chart [default: machine]",
             },
             Argument {
                 name: "title",
@@ -871,7 +907,7 @@ const SERVER_COMMANDS: [Entry; 7] = [
             Argument {
                 name: "COUNT",
                 form: Form::Count,
-                help: "how many connections to serve, 1 to 1000000",
+                help: "the number of connections to serve, 1 to 4294967295",
             },
             Argument {
                 name: "patience",
@@ -1042,8 +1078,8 @@ fn arg_of<'a>(alloc: Global, argument: &Argument) -> Result<Arg<'a>, AllocError>
         Form::Kind => arg.value_parser(KINDS),
         Form::Port => arg.value_parser(value_parser!(u16).range(1..=65535)),
         Form::Count => arg
-            .value_parser(value_parser!(u32).range(1..=1000000))
-            .default_value("1000000"),
+            .value_parser(value_parser!(u32).range(1..=4294967295))
+            .default_value("4294967295"),
         Form::Seconds => arg
             .long(argument.name)
             .value_name("SECONDS")
@@ -1105,6 +1141,12 @@ fn arg_of<'a>(alloc: Global, argument: &Argument) -> Result<Arg<'a>, AllocError>
             .conflicts_with("map")?
             .conflicts_with("ignore")?
             .conflicts_with("unit")?,
+        Form::OldNow => arg.long(argument.name).value_name("T").requires_arg("old")?,
+        Form::OldStart => arg
+            .long(argument.name)
+            .value_name("DATE")
+            .requires_arg("days")?
+            .requires_arg("old")?,
         Form::Solve => arg
             .long(argument.name)
             .action(ArgAction::SetTrue)

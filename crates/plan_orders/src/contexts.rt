@@ -59,7 +59,7 @@ fn task_context<'a>(task: Task<'a>, file: &'a str) -> Context<'a> {
     }
 }
 
-// Returns a context with the dates and the holidays of `solve`.
+// Returns a context with the dates and the holidays of a list with dates.
 fn week_context<'a>(context: Context<'a>, week: &WeekWords<'a>) -> Context<'a> {
     let context = Context {
         holidays: week.holidays,
@@ -69,6 +69,15 @@ fn week_context<'a>(context: Context<'a>, week: &WeekWords<'a>) -> Context<'a> {
         Some(dates) => with_dates(context, dates),
         None => context,
     }
+}
+
+// Returns the context of a check of the starts in a file.
+fn check_context<'a>(file: &'a str, starts: &'a str, week: &WeekWords<'a>) -> Context<'a> {
+    let context = Context {
+        starts: Some(starts),
+        ..file_context(file)
+    };
+    week_context(context, week)
 }
 
 // Returns a context with a text in a file of its own.
@@ -102,6 +111,19 @@ fn texts_context<'a>(task: Task<'a>, file: &'a str, texts: &'a [NamedText<'a>]) 
         context = with_text(context, text);
     }
     context
+}
+
+// Returns a context with the dates of two lists with dates, if there are some.
+fn with_week<'a>(context: Context<'a>, week: Option<WeekWords<'a>>) -> Context<'a> {
+    match week {
+        Some(
+            WeekWords {
+                dates: Some(dates),
+                ..
+            },
+        ) => with_dates(context, dates),
+        _ => context,
+    }
 }
 
 // Returns the context of a print.
@@ -150,7 +172,7 @@ impl<'a> FileOrder<'a> {
     fn rule_or_search(&self) -> Option<&'a str> {
         match *self {
             FileOrder::Texts { task, .. } => replaceable_rule(task),
-            FileOrder::Print(print, _) => match print.origin {
+            FileOrder::Print(print, ..) => match print.origin {
                 NamedOrigin::Rule(rule) => Some(rule),
                 NamedOrigin::Default | NamedOrigin::Starts(_) | NamedOrigin::Solved { .. } => None,
             },
@@ -183,17 +205,20 @@ impl<'a> FileOrder<'a> {
                 task,
                 file,
                 texts,
+                week,
                 ..
-            } => texts_context(task, file, texts),
-            FileOrder::Check { file, starts, .. } => Context {
-                starts: Some(starts),
-                ..file_context(file)
-            },
+            } => with_week(texts_context(task, file, texts), week),
+            FileOrder::Check {
+                file,
+                starts,
+                week,
+                ..
+            } => check_context(file, starts, &week),
             FileOrder::Verify { file, log, .. } => Context {
                 log: Some(log),
                 ..file_context(file)
             },
-            FileOrder::Print(print, _) => print_context(print),
+            FileOrder::Print(print, ..) => print_context(print),
             FileOrder::New(_) | FileOrder::Explain(_) => Context::NONE,
         }
     }

@@ -2,4 +2,4 @@
 
 /// The digest of all sources of the program but this file, in hexadecimal digits, as
 /// `./release --digest` prints it.
-pub(crate) const SOURCES: &str = "3ba3efe7e61b15a60e77205bdead0540759050dd6445b42f8a4fe93e549afc48";
+pub(crate) const SOURCES: &str = "f01681c09f707910999835a3785979aa6e1d950f76d85494465c5b94a56e8f6f";

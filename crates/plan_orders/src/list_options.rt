@@ -106,9 +106,10 @@ fn listing<'a, 'b>(matches: &'a ArgMatches<'b>) -> Option<&'a ArgMatches<'b>> {
     }
 }
 
-// Checks the instant from which on `solve` and `days` plan a list.
+// Checks the instant from which on a command reads a list with dates.
 fn check_now<'a>(matches: &'a ArgMatches<'_>) -> Result<(), BadOption<'a>> {
-    let Some(("solve" | "days", arguments)) = matches.subcommand() else {
+    let Some(("solve" | "days" | "report" | "check" | "compare", arguments)) = matches.subcommand()
+    else {
         return Ok(());
     };
     match arguments.get_str("now") {

@@ -29,9 +29,10 @@ pub struct WeekWords<'a> {
     pub now: Option<Now<'a>>,
     /// The goal, if it is given.
     pub goal: Option<Goal>,
-    /// The dates of the calendar of `solve`, without holidays, if they are given.
+    /// The dates of the calendar of `solve`, `check` or `compare`, without holidays, if they are
+    /// given.
     pub dates: Option<Dates<'a>>,
-    /// The name of the file of holidays of `solve`, if it is given.
+    /// The name of the file of holidays of these commands, if it is given.
     pub holidays: Option<&'a str>,
 }
 
@@ -59,14 +60,19 @@ pub enum FileOrder<'a> {
         texts: &'a [NamedText<'a>],
         /// The time limit of a search for the schedule, in seconds.
         seconds: Option<u32>,
-        /// The options of a list with dates, if the task prints working days of the best schedule.
+        /// The options of lists with dates, if the task prints working days of the best schedule, or
+        /// compares schedules of two lists.
         week: Option<WeekWords<'a>>,
     },
-    /// A check of the starts in a file. The verdict decides the status.
+    /// A check of the starts in a file.
     Check {
         subject: Subject<'a>,
         file: &'a str,
         starts: &'a str,
+        /// Whether the verdict decides the status.
+        has_status: bool,
+        /// The options of a list with dates.
+        week: WeekWords<'a>,
     },
     /// A check of the log of a search. The problem is the project in a file, or an instance of a
     /// job shop file.
@@ -75,8 +81,9 @@ pub enum FileOrder<'a> {
         log: &'a str,
         instance: Option<&'a str>,
     },
-    /// A sheet to print, with the time limit of a search for the schedule, in seconds.
-    Print(Print<'a>, Option<u32>),
+    /// A sheet to print, with the time limit of a search for the schedule, in seconds, and with the
+    /// options of a list with dates, if it is a report or a calendar file of the best schedule.
+    Print(Print<'a>, Option<u32>, Option<WeekWords<'a>>),
     /// A table to start from.
     New(Template),
     /// The meaning of an error line, which is given as one argument or as several.
@@ -116,13 +123,14 @@ fn texts_input(file: &str, texts: &[NamedText<'_>]) -> Option<(&'static str, &'s
     None
 }
 
-// Returns the names of two arguments of a print that are standard input, if there are two.
-fn print_input(print: &Print<'_>) -> Option<(&'static str, &'static str)> {
-    let starts = match print.origin {
-        NamedOrigin::Starts(name) => name,
-        NamedOrigin::Rule(_) | NamedOrigin::Default | NamedOrigin::Solved { .. } => "",
-    };
-    match (print.file, starts, print.holidays) {
+// Returns the names of two arguments that are standard input, if there are two of the file, the starts
+// and the holidays.
+fn named_input(
+    file: &str,
+    starts: &str,
+    holidays: Option<&str>,
+) -> Option<(&'static str, &'static str)> {
+    match (file, starts, holidays) {
         ("-", "-", _) => Some(("FILE", "STARTS")),
         (_, "-", Some("-")) => Some(("STARTS", "HOLIDAYS")),
         ("-", _, Some("-")) => Some(("FILE", "HOLIDAYS")),
@@ -130,11 +138,20 @@ fn print_input(print: &Print<'_>) -> Option<(&'static str, &'static str)> {
     }
 }
 
+// Returns the names of two arguments of a print that are standard input, if there are two.
+fn print_input(print: &Print<'_>) -> Option<(&'static str, &'static str)> {
+    let starts = match print.origin {
+        NamedOrigin::Starts(name) => name,
+        NamedOrigin::Rule(_) | NamedOrigin::Default | NamedOrigin::Solved { .. } => "",
+    };
+    named_input(print.file, starts, print.holidays)
+}
+
 impl<'a> FileOrder<'a> {
     /// Returns the names of two arguments that are standard input, if there are two.
     pub fn shared_input(&self) -> Option<(&'static str, &'static str)> {
         match *self {
-            FileOrder::Print(print, _) => print_input(&print),
+            FileOrder::Print(print, ..) => print_input(&print),
             FileOrder::Texts { file, texts, .. } => texts_input(file, texts),
             FileOrder::Solve {
                 file: "-",
@@ -145,10 +162,11 @@ impl<'a> FileOrder<'a> {
                 ..
             } => Some(("FILE", "HOLIDAYS")),
             FileOrder::Check {
-                file: "-",
-                starts: "-",
+                file,
+                starts,
+                week,
                 ..
-            } => Some(("FILE", "STARTS")),
+            } => named_input(file, starts, week.holidays),
             FileOrder::Verify {
                 file: "-",
                 log: "-",
@@ -379,7 +397,8 @@ fn goal_of(name: &str) -> Option<Goal> {
     }
 }
 
-// Returns the options of a list with dates, of which `dates` are those of the calendar of `solve`.
+// Returns the options of a list with dates, of which `dates` are those of the calendar of `solve`,
+// `check` or `compare`.
 fn week_words<'a>(arguments: &'a ArgMatches<'_>, dates: Option<Dates<'a>>) -> WeekWords<'a> {
     WeekWords {
         now: arguments.get_str("now").and_then(now_of),
@@ -392,8 +411,8 @@ fn week_words<'a>(arguments: &'a ArgMatches<'_>, dates: Option<Dates<'a>>) -> We
     }
 }
 
-// Returns the dates of `solve`, without holidays.
-fn solve_dates<'a>(arguments: &'a ArgMatches<'_>) -> Option<Dates<'a>> {
+// Returns the dates of `solve`, `check` or `compare`, without holidays.
+fn calendar_dates<'a>(arguments: &'a ArgMatches<'_>) -> Option<Dates<'a>> {
     Some(dates_of(arguments.get_str("start")?, arguments.get_str("days")?))
 }
 
@@ -411,7 +430,7 @@ fn solve_order<'a>(arguments: &'a ArgMatches<'_>, lists: Lists<'a>) -> Option<Fi
         file: arguments.get_str("FILE")?,
         seconds: limit,
         log: arguments.get_str("log"),
-        week: week_words(arguments, solve_dates(arguments)),
+        week: week_words(arguments, calendar_dates(arguments)),
     })
 }
 
@@ -516,8 +535,9 @@ pub fn overrides_of<'a>(
 // Returns the arguments of a command with names of texts, and the roles of the texts.
 fn text_arguments(command: &str) -> &'static [(&'static str, Role)] {
     match command {
-        "check" | "slack" => &[("STARTS", Role::Starts)],
+        "slack" => &[("STARTS", Role::Starts)],
         "compare" => &[
+            ("holidays", Role::Holidays),
             ("old", Role::Old),
             ("STARTS_A", Role::StartsA),
             ("STARTS_B", Role::StartsB),
@@ -717,10 +737,10 @@ fn days_task<'a>(
     })
 }
 
-// Returns the options of a list with dates, if the arguments of `days` ask for a table of the best
-// schedule.
+// Returns the options of a list with dates, if the arguments of `days` ask for a table or a list of
+// the best schedule.
 fn days_week<'a>(arguments: &'a ArgMatches<'_>) -> Option<WeekWords<'a>> {
-    if arguments.get_flag("solve") && !prints_list(arguments) {
+    if arguments.get_flag("solve") {
         return Some(week_words(arguments, None));
     }
     None
@@ -736,18 +756,13 @@ fn days_order<'a>(arguments: &'a ArgMatches<'_>, lists: Lists<'a>) -> Option<Fil
 
 // Returns the order of `check`, which has no capacities.
 fn check_order<'a>(arguments: &'a ArgMatches<'_>, lists: Lists<'a>) -> Option<FileOrder<'a>> {
-    let subject = subject_of(arguments.get_str("INSTANCE"), lists.capacities);
-    let file = arguments.get_str("FILE")?;
-    if arguments.get_flag("status") {
-        let starts = arguments.get_str("STARTS")?;
-        return Some(FileOrder::Check {
-            subject,
-            file,
-            starts,
-        });
-    }
-    let starts: &[u8] = &[];
-    Some(texts_order(Task::Check { starts, subject }, file, lists.texts))
+    Some(FileOrder::Check {
+        subject: subject_of(arguments.get_str("INSTANCE"), lists.capacities),
+        file: arguments.get_str("FILE")?,
+        starts: arguments.get_str("STARTS")?,
+        has_status: arguments.get_flag("status"),
+        week: week_words(arguments, calendar_dates(arguments)),
+    })
 }
 
 // Returns the order of `verify`.
@@ -782,11 +797,25 @@ fn compare_task<'a>(is_by_ids: bool, subject: Subject<'a>) -> Task<'a> {
     }
 }
 
+// Returns the options of two lists with dates, if an old list is given.
+fn compare_week<'a>(is_by_ids: bool, arguments: &'a ArgMatches<'_>) -> Option<WeekWords<'a>> {
+    if is_by_ids {
+        return Some(week_words(arguments, calendar_dates(arguments)));
+    }
+    None
+}
+
 // Returns the order of `compare`.
 fn compare_order<'a>(arguments: &'a ArgMatches<'_>, lists: Lists<'a>) -> Option<FileOrder<'a>> {
     let subject = subject_of(arguments.get_str("INSTANCE"), lists.capacities);
-    let task = compare_task(arguments.get_str("old").is_some(), subject);
-    Some(texts_order(task, arguments.get_str("FILE")?, lists.texts))
+    let is_by_ids = arguments.get_str("old").is_some();
+    Some(FileOrder::Texts {
+        task: compare_task(is_by_ids, subject),
+        file: arguments.get_str("FILE")?,
+        texts: lists.texts,
+        seconds: None,
+        week: compare_week(is_by_ids, arguments),
+    })
 }
 
 // Returns the instance if one is given, else the project.
@@ -911,6 +940,15 @@ fn report_order<'a>(arguments: &'a ArgMatches<'_>, lists: Lists<'a>) -> Option<P
     })
 }
 
+// Returns the options of a list with dates, if a command prints a report or a calendar file of the
+// best schedule.
+fn print_week<'a>(name: &str, arguments: &'a ArgMatches<'_>) -> Option<WeekWords<'a>> {
+    if matches!(name, "report" | "days") && arguments.get_flag("solve") {
+        return Some(week_words(arguments, None));
+    }
+    None
+}
+
 // Returns the order of a command that prints a sheet.
 fn print_order<'a>(
     name: &str,
@@ -942,7 +980,8 @@ fn file_order<'a>(
     lists: Lists<'a>,
 ) -> Option<FileOrder<'a>> {
     if let Some(print) = print_order(name, arguments, lists) {
-        return Some(FileOrder::Print(print, limit_of(arguments)));
+        let week = print_week(name, arguments);
+        return Some(FileOrder::Print(print, limit_of(arguments), week));
     }
     match name {
         "import" => import_order(arguments, lists.overrides),

@@ -1,5 +1,5 @@
--- What each error of a job shop text says of the text by itself, in whatever order the checks are
--- made (docs/definitions.md, "Job shop files").
+-- The condition on a job shop text that each error states by itself, whatever the order of the
+-- checks (docs/definitions.md, "Job shop files").
 use Rattle.std.specs.Prelude.{◌≡◌, ◌⊎◌, ℕ, ◌+◌, ◌<◌, ◌≤◌, List, [], ◌∷◌, Some, None, Ok, Err, length, sum}
 use Rattle.plan_psplib.specs.declared.text.fault.FileCode.{FileCode}
 use Rattle.plan_psplib.specs.declared.text.fault.FileCode.TheVariants as code

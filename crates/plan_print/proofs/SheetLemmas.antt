@@ -46,28 +46,6 @@ pub schedule_refused : (from : Origin) (s : Sheet) (p : Plan) (e : CliFault) →
     → Refuses (TellsNoSheetFrom from s p) e
 schedule_refused from s p e t = refuses_as (TellsNotMade from p) (TellsNoSheetFrom from s p) e (λ line tells. inl tells) t
 
--- the sheet of a plan's schedule
-pub sheet_shown : (listed : Bool) (from : Origin) (s : Sheet) (of : Subject) (file : List ℕ) (p : Plan) (m : Scheduled) (text : List ℕ)
-    → IsMadeFrom from p m → IsSheetOf listed s of file p m.schedule.starts.items m.lower text → IsSheetFrom listed from s of file p text
-sheet_shown listed from s of file p m text made shown = record {
-  starts = m.schedule.starts.items;
-  schedule = made.starts;
-  lower = m.lower;
-  bound = made.bound;
-  shown = shown;
-}
-
--- a refusal of it
-pub sheet_hidden : (from : Origin) (s : Sheet) (p : Plan) (m : Scheduled) (e : CliFault)
-    → IsMadeFrom from p m → Refuses (HidesSheet s p m.schedule.starts.items) e → Refuses (TellsNoSheetFrom from s p) e
-sheet_hidden from s p m e made t =
-    refuses_as (HidesSheet s p m.schedule.starts.items) (TellsNoSheetFrom from s p) e
-    (λ line tells. inr (record {
-      starts = m.schedule.starts.items;
-      schedule = made.starts;
-      hidden = tells;
-    })) t
-
 -- steps that aren't shown don't change the days of a report
 pub beyond_same : (hours : Option WorkHours) (p : Plan) (by_job listed : Bool) (starts : List ℕ) (c : Workdays)
     → IsReportBeyond hours (layout_of p by_job listed) starts c → IsReportBeyond hours (layout_of p by_job false) starts c

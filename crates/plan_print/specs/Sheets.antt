@@ -12,7 +12,7 @@ use Rattle.plan_sheet.specs.Parts.{EventNames}
 use Rattle.plan_sheet.specs.PlanEvents as events
 use Rattle.plan_sheet.specs.Plans.{layout_svg}
 use Rattle.plan_sheet.specs.Reports.{layout_page, undated, IsDatedReport, IsReportBeyond}
-use Rattle.plan_sheet.specs.declared.feed.Events.{Events}
+use Rattle.plan_sheet.specs.declared.calendar_file.Events.{Events}
 use Rattle.plan_sheet.specs.declared.page.Heading.{Heading}
 use Rattle.plan_sheet.specs.declared.reports.DayStyle.{DayStyle}
 use Rattle.plan_cli.specs.DaysRun.{ShowsDays, TellsNoDays}

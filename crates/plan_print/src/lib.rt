@@ -8,11 +8,11 @@ mod events;
 mod hours;
 mod layouts;
 mod links;
-mod margins;
 mod names;
 mod prints;
 mod reports;
 mod sheets;
+mod slacks;
 
 pub use hours::hours_of;
 pub use plan_sheet::{DayStyle, Events};

@@ -13,8 +13,8 @@ ghost use Rattle.plan_print.specs.Sheets as spec;
 
 use crate::layouts::layout_of;
 use crate::links::{predecessor_lines, resource_lines, row_links};
-use crate::margins::{floats_of, slacks_of};
 use crate::names::legend_names;
+use crate::slacks::{floats_of, slacks_of};
 use plan_cli::{CliFault, Dates, Plan, Subject, calendar_of, days_refusal, names_of_lines};
 use plan_documents::ids_of_rows;
 use plan_gantt::Calendar;

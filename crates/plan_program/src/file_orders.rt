@@ -6,17 +6,19 @@ use crate::misuse::Misuse;
 use crate::progress::ProgressLine;
 use crate::status::Status;
 use crate::verification::do_verify;
+use crate::week_check::do_check_file;
+use crate::week_compare::do_compare_files;
 use crate::week_days::do_days_file;
+use crate::week_events::do_events_file;
+use crate::week_report::{Shown, do_report_file};
 use crate::weeks::do_solve_file;
 use plan_cli::{
-    CliFault, Dates, NamedText, Options, Rows, Subject, SystemInputs, Task, Template, Unlogged,
-    check_text, explain_run, explain_run_in, prepare, read_named, run_on_file, run_on_files,
-    template_run,
+    CliFault, Dates, NamedText, Options, Rows, Task, Template, Unlogged, explain_run,
+    explain_run_in, run_on_file, run_on_files, template_run,
 };
-use plan_errors::{About, write_text};
 use plan_io::StdSink;
 use plan_orders::{FileOrder, WeekWords};
-use plan_print::{Print, print_on_files};
+use plan_print::{Print, Sheet, print_on_files};
 use std::io;
 
 // Runs a task on a file, and writes to standard output.
@@ -43,34 +45,17 @@ fn do_task(
     Ok(())
 }
 
-// Writes a verdict to standard output, and returns the status that it decides.
-fn do_check(
-    rt: &HostRuntime,
-    options: Option<Options<'_>>,
-    subject: Subject<'_>,
-    rows: Rows,
-    starts: &str,
-    path: &str,
-) -> Result<Status, CliFault> {
-    let inputs = SystemInputs::new(rt);
-    let starts = read_named(rt.alloc(), &inputs, About::Starts, starts)?;
-    let file = read_named(rt.alloc(), &inputs, About::Plan, path)?;
-    let list = prepare(rt.alloc(), options, &[], &file)?;
-    let checked = check_text(rt.alloc(), rows, &starts, subject, list.text(&file))?;
-    write_text(&mut StdSink::new(io::writer(rt)), &checked.text)?;
-    if let Ok(Some(line)) = list.notes(rt.alloc(), &[], &file) {
-        let _ = eprintln!(rt; "{line}");
-    }
-    Ok(Status::of(checked.verdict))
-}
-
 // Writes the explanation of an error line to standard output.
 fn do_explain(rt: &HostRuntime, words: &[&str], rows: Rows) -> Result<(), CliFault> {
     let line = words.join(rt.alloc(), " ")?;
     let mut writer = StdSink::new(io::writer(rt));
     match rows {
         Rows::In(format) => explain_run_in(rt.alloc(), line.as_str(), format, &mut writer),
-        Rows::Plain | Rows::Named => explain_run(rt.alloc(), line.as_str(), &mut writer),
+        Rows::Plain | Rows::Named | Rows::Listed => explain_run(
+            rt.alloc(),
+            line.as_str(),
+            &mut writer,
+        ),
     }
 }
 
@@ -106,6 +91,7 @@ fn do_solve(
 fn dates_in<'a>(task: Task<'a>) -> Option<Dates<'a>> {
     match task {
         Task::Days { dates, .. } => Some(dates),
+        Task::List { dates, .. } => dates,
         _ => None,
     }
 }
@@ -136,8 +122,11 @@ fn do_texts(
     path: &str,
 ) -> Result<(), FileFault> {
     let mut line = ProgressLine::within(rt, seconds);
-    match (week, dates_in(task)) {
-        (Some(words), Some(dates)) => do_days_file(
+    match (week, task, dates_in(task)) {
+        (Some(words), Task::CompareLists { subject, .. }, _) => {
+            do_compare_files(rt, subject, rows, words, &mut line, texts, path)?
+        }
+        (Some(words), _, Some(dates)) => do_days_file(
             rt, options, task, dates, rows, words, &mut line, texts, path,
         )?,
         _ => do_plain_texts(rt, options, task, rows, &mut line, texts, path)?,
@@ -146,11 +135,47 @@ fn do_texts(
     Ok(())
 }
 
-// Prints a sheet of a file to standard output.
-fn do_print(rt: &HostRuntime, print: Print<'_>, seconds: Option<u32>) -> Result<(), CliFault> {
-    let mut line = ProgressLine::within(rt, seconds);
+// Prints a sheet of a file without a week to standard output.
+fn do_plain_print(
+    rt: &HostRuntime,
+    print: Print<'_>,
+    line: &mut ProgressLine<'_>,
+) -> Result<(), CliFault> {
     let mut writer = StdSink::new(io::writer(rt));
-    print_on_files(rt, print, &mut line, &mut writer)?;
+    print_on_files(rt, print, line, &mut writer)
+}
+
+// Prints a sheet of a file to standard output.
+fn do_print(
+    rt: &HostRuntime,
+    print: Print<'_>,
+    week: Option<WeekWords<'_>>,
+    seconds: Option<u32>,
+) -> Result<(), FileFault> {
+    let mut line = ProgressLine::within(rt, seconds);
+    match (week, print.sheet) {
+        (
+            Some(words),
+            Sheet::Report {
+                title,
+                dates,
+                style,
+                by_job,
+            },
+        ) => {
+            let shown = Shown {
+                title,
+                dates,
+                style,
+                by_job,
+            };
+            do_report_file(rt, print, shown, words, &mut line)?
+        }
+        (Some(words), Sheet::Events { dates, events }) => {
+            do_events_file(rt, print, dates, events, words, &mut line)?
+        }
+        _ => do_plain_print(rt, print, &mut line)?,
+    }
     line.print_notes();
     Ok(())
 }
@@ -184,13 +209,17 @@ fn do_file_order(
             subject,
             file,
             starts,
-        } => return Ok(do_check(rt, options, subject, rows, starts, file)?),
+            has_status,
+            week,
+        } => {
+            return do_check_file(rt, options, subject, rows, has_status, week, starts, file);
+        }
         FileOrder::Verify {
             file,
             log,
             instance,
         } => do_verify(rt, file, instance, log)?,
-        FileOrder::Print(print, seconds) => do_print(rt, print, seconds)?,
+        FileOrder::Print(print, seconds, week) => do_print(rt, print, week, seconds)?,
         FileOrder::New(template) => do_new(rt, template)?,
         FileOrder::Explain(words) => do_explain(rt, words, rows)?,
     }

@@ -23,7 +23,7 @@ fn begin_of(rt: &HostRuntime, calendar: &InstantCalendar, date: &str) -> Result<
     }
 }
 
-/// Returns the instant from which on is planned, if it is given. A date needs a calendar.
+/// Returns the instant from which the plan starts, if it is given. A date requires a calendar.
 pub(crate) fn today_in(
     rt: &HostRuntime,
     now: Option<Now<'_>>,

@@ -13,7 +13,11 @@ mod progress;
 mod read_input;
 mod status;
 mod verification;
+mod week_check;
+mod week_compare;
 mod week_days;
+mod week_events;
+mod week_report;
 mod weeks;
 
 pub use command_line::{Offices, run_program};

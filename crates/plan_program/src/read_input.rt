@@ -6,7 +6,7 @@ use plan_cli::Inputs;
 use plan_errors::{About, CliFault};
 use plan_io::MemSource;
 
-/// The bytes of a file, which replace every file and standard input.
+/// The bytes of a file, which are read in place of every file and of standard input.
 #[derive(Drop)]
 pub(crate) struct ReadInput<'a> {
     bytes: &'a [u8],

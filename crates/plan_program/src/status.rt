@@ -1,6 +1,7 @@
 //! The exit status of the program.
 
 use plan_sgs::Verdict;
+use plan_weekverdict::WeekVerdict;
 
 /// The outcome of a command, which decides the exit status.
 #[derive(Clone, Copy, Debug, PartialEq, Eq)]
@@ -11,13 +12,14 @@ pub enum Status {
     Failed,
     /// The command line is wrong.
     Misused,
-    /// The schedule that `plan check --status` has tested isn't active.
+    /// The schedule that `plan check --status` has tested isn't active, or isn't feasible for a list
+    /// with dates.
     NotActive,
 }
 
 impl Status {
     ghost use Rattle.std.specs.Prelude.{◌≡◌};
-    ghost use Rattle.plan_program.specs.Statuses.{code_of, status_of};
+    ghost use Rattle.plan_program.specs.Statuses.{code_of, status_of, week_status_of};
 
     /// Returns the outcome of `plan check --status` for its verdict.
     pub fn of(verdict: Verdict) -> Status
@@ -26,6 +28,18 @@ impl Status {
         match verdict {
             Verdict::Active => Status::Done,
             Verdict::Arc(_, _) | Verdict::Over(_, _) | Verdict::Shift(_) => Status::NotActive,
+        }
+    }
+
+    /// Returns the outcome of `plan check --status` for its verdict on a list with dates.
+    pub fn of_week(verdict: WeekVerdict) -> Status
+        ensures { result ≡ week_status_of verdict }
+    {
+        match verdict {
+            WeekVerdict::Feasible => Status::Done,
+            WeekVerdict::Misplaced { .. } | WeekVerdict::Broken { .. } | WeekVerdict::Over(_) => {
+                Status::NotActive
+            }
         }
     }
 

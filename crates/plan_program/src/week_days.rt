@@ -3,28 +3,29 @@
 use crate::errors::FileFault;
 use crate::instants::{instants_in, today_in};
 use crate::progress::ProgressLine;
-use crate::weeks::{WeekText, do_plain, usage, week_in, week_order};
+use crate::weeks::{do_plain, do_week_list, keep_note, list_options, usage, week_in, week_order};
 use plan_cli::{
     Dates, NamedText, Options, Origin, Role, Rows, SystemInputs, Task, Unlogged, read_named,
 };
 use plan_errors::{About, CliFault, write_text};
 use plan_io::StdSink;
 use plan_orders::WeekWords;
+use plan_weekback::{WeekReading, WeekText};
 use plan_weekdates::InstantCalendar;
 use plan_weekfile::WeekOrder;
 use plan_weekview::days_output;
 use std::io;
 
-// Returns the holidays among these texts; no bytes if there are none.
-fn holidays_in(rt: &HostRuntime, texts: &[NamedText<'_>]) -> Result<Vec<u8>, CliFault> {
+/// Reads the text with this role, or returns no bytes if there is none. Errors name `about`.
+pub(crate) fn text_in(
+    rt: &HostRuntime,
+    texts: &[NamedText<'_>],
+    role: Role,
+    about: About,
+) -> Result<Vec<u8>, CliFault> {
     for text in texts {
-        if text.role == Role::Holidays {
-            return read_named(
-                rt.alloc(),
-                &SystemInputs::new(rt),
-                About::Holidays,
-                text.name,
-            );
+        if text.role == role {
+            return read_named(rt.alloc(), &SystemInputs::new(rt), about, text.name);
         }
     }
     Ok(Vec::new(rt.alloc()))
@@ -44,11 +45,22 @@ fn with_dates<'a>(task: Task<'a>, dates: Dates<'a>) -> Task<'a> {
             style,
             subject,
         },
+        Task::List {
+            origin,
+            subject,
+            options,
+            ..
+        } => Task::List {
+            origin,
+            dates: Some(dates),
+            subject,
+            options,
+        },
         _ => task,
     }
 }
 
-// Returns what a task of `days` asks of a list with dates; `None` for a job shop.
+// Returns the order of a task of `days` for a list with dates; `None` for a job shop.
 fn days_order<'a>(
     task: Task<'a>,
     rows: Rows,
@@ -57,6 +69,11 @@ fn days_order<'a>(
 ) -> Option<WeekOrder<'a>> {
     match task {
         Task::Days {
+            origin: Origin::Solved { conflicts },
+            subject,
+            ..
+        }
+        | Task::List {
             origin: Origin::Solved { conflicts },
             subject,
             ..
@@ -81,7 +98,7 @@ fn do_week_days(
         line,
         read.text(file),
     )?;
-    read.note(rt, line, order.today, file);
+    keep_note(rt, order, read, line, file);
     write_text(&mut StdSink::new(io::writer(rt)), &text)
 }
 
@@ -96,12 +113,20 @@ fn do_read(
     line: &mut ProgressLine<'_>,
     file: &[u8],
 ) -> Result<(), FileFault> {
-    let Some(read) = week_in(rt, options, order, Some(calendar), file)? else {
+    let reading = WeekReading {
+        options: list_options(task, options),
+        calendar: Some(calendar),
+    };
+    let Some(read) = week_in(rt, order, &reading, file)? else {
         return Ok(do_plain(rt, options, task, rows, line, &mut Unlogged, file)?);
     };
     match task {
         Task::Days { style: None, .. } => {
             Ok(do_week_days(rt, order, calendar, &read, line, file)?)
+        }
+        Task::List { .. } => {
+            let days = Some(calendar.calendar());
+            Ok(do_week_list(rt, order, &reading, days, &read, line, file)?)
         }
         _ => Err(usage(
             rt,
@@ -110,8 +135,8 @@ fn do_read(
     }
 }
 
-// Runs a task of `days` whose dates are those of no calendar, for this reason, on a file that was
-// read. In a file without a week another error can come first.
+// Runs a task of `days` whose dates give no calendar, because of this error, on a file that was
+// read. For a file without a week another error can come first.
 fn do_undated(
     rt: &HostRuntime,
     options: Option<Options<'_>>,
@@ -123,7 +148,11 @@ fn do_undated(
     file: &[u8],
 ) -> Result<(), FileFault> {
     if let Some(order) = days_order(task, rows, words, None) {
-        if words.now.is_some() || week_in(rt, options, &order, None, file)?.is_some() {
+        let reading = WeekReading {
+            options: list_options(task, options),
+            calendar: None,
+        };
+        if words.now.is_some() || week_in(rt, &order, &reading, file)?.is_some() {
             return Err(FileFault::Task(fault));
         }
     }
@@ -152,8 +181,8 @@ fn do_dated(
     }
 }
 
-/// Runs a task of `days` for the best schedule found on the file with this name, or on standard
-/// input if the name is `-`, and writes to standard output. The holidays are read first. `dates` are
+/// Runs a task of `days` for the best schedule found, and writes to standard output. The file has
+/// this name, or is standard input if the name is `-`. The holidays are read first. `dates` are
 /// those of the task.
 pub(crate) fn do_days_file(
     rt: &HostRuntime,
@@ -166,7 +195,7 @@ pub(crate) fn do_days_file(
     texts: &[NamedText<'_>],
     path: &str,
 ) -> Result<(), FileFault> {
-    let holidays = holidays_in(rt, texts)?;
+    let holidays = text_in(rt, texts, Role::Holidays, About::Holidays)?;
     let dates = Dates {
         start: dates.start,
         marks: dates.marks,

@@ -1,55 +1,50 @@
-//! `plan solve` on a file, which may be a list with dates.
+//! `plan solve` on a file, which may be a list with dates, and steps that other commands share.
 
 use crate::errors::FileFault;
 use crate::file_log::FileLog;
 use crate::instants::{instants_in, today_in};
 use crate::progress::ProgressLine;
 use crate::read_input::ReadInput;
+use plan_calendar::Calendar;
 use plan_cli::{
-    Dates, Log, NoteWatcher, Options, Rows, Subject, SystemInputs, Task, read_named,
+    Dates, Log, NoteWatcher, Options, Origin, Rows, Subject, SystemInputs, Task, read_named,
     run_with_options,
 };
 use plan_errors::{About, CliFault, write_text};
 use plan_io::StdSink;
 use plan_orders::WeekWords;
-use plan_weekdates::{DatedList, InstantCalendar};
-use plan_weekfile::{WeekFile, WeekOrder, has_week, week_file, week_notes, week_output};
-use plan_weekview::list_of_instants;
+use plan_weekback::{WeekReading, WeekText, week_back_output, week_text};
+use plan_weekdates::InstantCalendar;
+use plan_weekfile::{WeekOrder, has_week, week_notes, week_output};
 use std::alloc::AllocError;
 use std::io;
 
-/// A file that is read as a list with dates.
-#[derive(Drop)]
-pub(crate) struct WeekText {
-    read: WeekFile,
-    dated: Option<DatedList>,
-}
-
-impl WeekText {
-    /// Returns the text that is read. `file` are the bytes of the file.
-    pub fn text<'b>(&'b self, file: &'b [u8]) -> &'b [u8] {
-        let text = self.read.text(file);
-        match &self.dated {
-            Some(list) => list.utf8(text),
-            None => text,
-        }
-    }
-
-    /// Keeps the line about what is ignored in the list, for the end.
-    pub fn note(
-        &self,
-        rt: &HostRuntime,
-        line: &mut ProgressLine<'_>,
-        now: Option<u32>,
-        file: &[u8],
-    ) {
-        if let Ok(Some(note)) = week_notes(rt.alloc(), &self.read, now, file) {
-            line.note(note);
-        }
+/// Keeps the line of notes on a list with dates, to print it at the end.
+pub(crate) fn keep_note(
+    rt: &HostRuntime,
+    order: &WeekOrder<'_>,
+    read: &WeekText,
+    line: &mut ProgressLine<'_>,
+    file: &[u8],
+) {
+    if let Ok(Some(note)) = week_notes(rt.alloc(), &read.read, order.today, file) {
+        line.note(note);
     }
 }
 
-/// Returns what a search within a conflict limit asks of a list with dates, from an instant on;
+/// Returns the options with which the list of a task is read. A task that prints the list has them
+/// itself.
+pub(crate) fn list_options<'a>(
+    task: Task<'a>,
+    options: Option<Options<'a>>,
+) -> Option<Options<'a>> {
+    match task {
+        Task::List { options, .. } => options,
+        _ => options,
+    }
+}
+
+/// Returns the order of a search within a conflict limit for a list with dates, from an instant on;
 /// `None` for a job shop.
 pub(crate) fn week_order<'a>(
     subject: Subject<'a>,
@@ -68,7 +63,7 @@ pub(crate) fn week_order<'a>(
         conflicts,
         format: match rows {
             Rows::In(format) => Some(format),
-            Rows::Plain | Rows::Named => None,
+            Rows::Plain | Rows::Named | Rows::Listed => None,
         },
     })
 }
@@ -78,29 +73,23 @@ pub(crate) fn usage(rt: &HostRuntime, words: &str) -> Result<FileFault, AllocErr
     Ok(FileFault::Usage(words.to_string(rt.alloc())?))
 }
 
-// Returns the error of an option for lists of activities on another file.
-fn no_list(rt: &HostRuntime, order: &WeekOrder<'_>) -> Result<FileFault, AllocError> {
+/// Returns the error of an option for lists of activities on another file.
+pub(crate) fn no_list(rt: &HostRuntime, order: &WeekOrder<'_>) -> Result<FileFault, AllocError> {
     match order.today {
         Some(_) => usage(rt, "--now requires a list of activities"),
         None => usage(rt, "--goal requires a list of activities"),
     }
 }
 
-/// Returns a file as a list with dates is read, or `None` if it has none. It must be a list of
-/// activities if the order asks for an instant or a goal.
+/// Returns the text that is read in place of a file, or `None` if it isn't a list with dates. It
+/// must be a list of activities if the order gives an instant or a goal.
 pub(crate) fn week_in(
     rt: &HostRuntime,
-    options: Option<Options<'_>>,
     order: &WeekOrder<'_>,
-    calendar: Option<&InstantCalendar>,
+    reading: &WeekReading<'_>,
     file: &[u8],
 ) -> Result<Option<WeekText>, FileFault> {
-    let read = week_file(rt.alloc(), options, file)?;
-    let dated = match calendar {
-        Some(calendar) => Some(list_of_instants(rt.alloc(), calendar, read.text(file))?),
-        None => None,
-    };
-    let text = WeekText { read, dated };
+    let text = week_text(rt.alloc(), reading, file)?;
     if has_week(rt.alloc(), order, text.text(file))? {
         return Ok(Some(text));
     }
@@ -144,12 +133,44 @@ fn do_week(
     file: &[u8],
 ) -> Result<(), CliFault> {
     let text = week_output(rt.alloc(), order, line, read.text(file))?;
-    read.note(rt, line, order.today, file);
+    keep_note(rt, order, read, line, file);
     write_text(&mut StdSink::new(io::writer(rt)), &text)
 }
 
-// Returns the calendar of `solve`, if dates are given. The holidays are read first.
-fn calendar_in(
+/// Prints a list with dates with the columns of its plan: days of a calendar, or instants.
+pub(crate) fn do_week_list(
+    rt: &HostRuntime,
+    order: &WeekOrder<'_>,
+    reading: &WeekReading<'_>,
+    calendar: Option<&Calendar>,
+    read: &WeekText,
+    line: &mut ProgressLine<'_>,
+    file: &[u8],
+) -> Result<(), CliFault> {
+    let text = week_back_output(rt.alloc(), order, reading, calendar, line, file)?;
+    keep_note(rt, order, read, line, file);
+    write_text(&mut StdSink::new(io::writer(rt)), &text)
+}
+
+// Plans a list with dates for a task of `solve`, and writes to standard output.
+fn do_week_task(
+    rt: &HostRuntime,
+    task: Task<'_>,
+    order: &WeekOrder<'_>,
+    reading: &WeekReading<'_>,
+    read: &WeekText,
+    line: &mut ProgressLine<'_>,
+    file: &[u8],
+) -> Result<(), CliFault> {
+    match task {
+        Task::List { .. } => do_week_list(rt, order, reading, None, read, line, file),
+        _ => do_week(rt, order, read, line, file),
+    }
+}
+
+/// Returns the calendar of `solve` or `check`, if `--start` and `--days` are given. It reads the
+/// holidays first.
+pub(crate) fn calendar_in(
     rt: &HostRuntime,
     words: WeekWords<'_>,
 ) -> Result<Option<InstantCalendar>, CliFault> {
@@ -168,7 +189,7 @@ fn calendar_in(
     Ok(Some(instants_in(rt, dates)?))
 }
 
-// Returns what a task of `solve` asks of a list with dates; `None` for a job shop.
+// Returns the order of a task of `solve` for a list with dates; `None` for a job shop.
 fn solve_order<'a>(
     task: Task<'a>,
     rows: Rows,
@@ -176,12 +197,17 @@ fn solve_order<'a>(
     today: Option<u32>,
 ) -> Option<WeekOrder<'a>> {
     match task {
-        Task::Solve { conflicts, subject } => week_order(subject, conflicts, rows, words, today),
+        Task::Solve { conflicts, subject }
+        | Task::List {
+            origin: Origin::Solved { conflicts },
+            subject,
+            ..
+        } => week_order(subject, conflicts, rows, words, today),
         _ => None,
     }
 }
 
-// Runs a task of `solve` on a file that was read. Dates are read for this calendar.
+// Runs a task of `solve` on a file that was read. Dates are read with this calendar.
 fn do_read(
     rt: &HostRuntime,
     options: Option<Options<'_>>,
@@ -193,7 +219,11 @@ fn do_read(
     log: &mut FileLog,
     file: &[u8],
 ) -> Result<(), FileFault> {
-    let Some(read) = week_in(rt, options, order, calendar, file)? else {
+    let reading = WeekReading {
+        options: list_options(task, options),
+        calendar,
+    };
+    let Some(read) = week_in(rt, order, &reading, file)? else {
         if calendar.is_some() {
             return Err(usage(rt, "--start requires a list with dates")?);
         }
@@ -202,11 +232,11 @@ fn do_read(
     if log.is_wanted() {
         return Err(usage(rt, "--log doesn't support lists with dates")?);
     }
-    Ok(do_week(rt, order, &read, line, file)?)
+    Ok(do_week_task(rt, task, order, &reading, &read, line, file)?)
 }
 
-/// Runs a task of `solve` on the file with this name, or on standard input if the name is `-`, and
-/// writes to standard output and to a log.
+/// Runs a task of `solve`, and writes to standard output and to a log. The file has this name, or
+/// is standard input if the name is `-`.
 pub(crate) fn do_solve_file(
     rt: &HostRuntime,
     options: Option<Options<'_>>,

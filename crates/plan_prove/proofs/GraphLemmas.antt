@@ -1,5 +1,6 @@
 -- All feasible starts of a shop keep its graph, so a refutation for the graph is one for the shop.
-use Rattle.std.proofs.Common.{◌≡◌, ℕ, suc, ◌+◌, ◌≤◌, ◌<◌, inl, inr, List, [], ◌∷◌, ◌++◌, Some, Vec, true, false, nat_eq, nat_lt, add-one, Contains, length, get_or, map, take, ap, sym, ◌∙◌, subst, arith}
+use Rattle.std.proofs.Common.{◌≡◌, ℕ, suc, ◌+◌, ◌≤◌, ◌<◌, inl, inr, List, [], ◌∷◌, ◌++◌, Some, Vec, true, false, nat_eq, nat_lt, add-one, Contains, length}
+use Rattle.std.proofs.Common.{get_or, map, take, ap, sym, ◌∙◌, subst, arith}
 use Rattle.std.specs.List.{All, AllPairs}
 use Rattle.std.specs.declared.alloc.Global.{Global}
 use Rattle.plan_shop.proofs.NumberLemmas.{there_passes, those_rise}

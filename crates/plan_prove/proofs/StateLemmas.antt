@@ -5,7 +5,8 @@ use Rattle.std.specs.Prelude.{IfNone}
 use Rattle.std.proofs.lemmas.List.{get_or_default, get_or_append_left, get_or_at, length_push}
 use Rattle.std.proofs.lemmas.List.Elements.{All-push}
 use Rattle.plan_prove.specs.Graphs.{time_in, KeepsApart, IsKept, NoneIsBelow}
-use Rattle.plan_prove.specs.States.{GoesBefore, NotBefore, StaysAway, RaisesEnd, IsKnown, StartsFrom, Leaves, Deduces, Follows, IsRaised, KeepsSide, Holds, IsRefuted, IsRoot, IsWithSide, Covers, AreRefuted, AreFirstStates}
+use Rattle.plan_prove.specs.States.{GoesBefore, NotBefore, StaysAway, RaisesEnd, IsKnown, StartsFrom, Leaves, Deduces, Follows, IsRaised, KeepsSide, Holds}
+use Rattle.plan_prove.specs.States.{IsRefuted, IsRoot, IsWithSide, Covers, AreRefuted, AreFirstStates}
 use Rattle.plan_prove.specs.declared.graph.Pair.{Pair}
 use Rattle.plan_prove.specs.declared.graph.Graph.{Graph}
 use Rattle.plan_prove.specs.declared.state.Side.{Side}

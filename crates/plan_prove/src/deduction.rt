@@ -63,7 +63,7 @@ fn follow(
 }
 
 // Deduces from an open pair: if only one side has room, the pair takes it.
-fn decide(
+fn orient_pair(
     graph: &Graph,
     limit: u32,
     state: &mut State,
@@ -107,7 +107,7 @@ fn settle(
 {
     let Pair { first, second } = graph.pairs[place];
     match side_at(&state.sides, place) {
-        Side::Open => decide(graph, limit, state, queue, place),
+        Side::Open => orient_pair(graph, limit, state, queue, place),
         Side::First => follow(graph, limit, state, queue, first, second),
         Side::Second => follow(graph, limit, state, queue, second, first),
     }

@@ -1,5 +1,5 @@
--- What each error of an `.sm` text says of the text by itself, in whatever order the checks are
--- made (docs/definitions.md, "Files").
+-- The condition on an `.sm` text that each error states by itself, whatever the order of the checks
+-- (docs/definitions.md, "Files").
 use Rattle.std.specs.Prelude.{◌≡◌, ◌≢◌, ◌⊎◌, ℕ, ◌+◌, ◌<◌, true, List, [], ◌∷◌, Some, None, Ok, Err, codes, count_by, get_or, length, sum, take}
 use Rattle.plan_net.specs.Limits.{fewest_activities, most_activities}
 use Rattle.plan_psplib.specs.declared.text.fault.FileCode.{FileCode}

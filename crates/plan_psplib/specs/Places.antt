@@ -1,4 +1,4 @@
--- Where the next word of a section stands, by the numbers before it: whole rows of the first jobs,
+-- The place of the next word of a section, by the numbers before it: whole rows of the first jobs,
 -- and the first numbers of the row of the next job (docs/definitions.md, "Files").
 use Rattle.std.specs.Prelude.{◌≡◌, ◌⊎◌, ℕ, ◌+◌, ◌<◌, ◌≤◌, List, [], ◌∷◌, ◌++◌, length, sum}
 use Rattle.std.specs.List.{AllByRecursion}

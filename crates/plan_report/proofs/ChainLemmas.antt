@@ -41,19 +41,6 @@ pub record IsStretch (p : Problem) (s slacks stretch : List ℕ) : Type 0 where
   pub first : get_or s (get_or stretch 0 0 - 1) 0 ≡ 0
   pub linked : (m : ℕ) → m + 1 < length stretch → IsLinked p s (get_or stretch m 0 - 1) (get_or stretch (m + 1) 0 - 1)
 
--- its first activity
-pub stretch_one : (p : Problem) (s slacks : List ℕ) (x : ℕ) → (1 ≤ x) × (x ≤ count p) → get_or slacks (x - 1) 0 ≡ 0 → get_or s (x - 1) 0 ≡ 0 → IsStretch p s slacks (x ∷ [])
-stretch_one p s slacks x inside free first = record {
-  some = omega arith;
-  inside = λ m below. at_first (λ y. (1 ≤ y) × (y ≤ count p)) m below inside;
-  tight = λ m below. at_first (λ y. get_or slacks (y - 1) 0 ≡ 0) m below free;
-  first = first;
-  linked = λ m below. absurd (omega (arith, below));
-} where
-  at_first : (P : ℕ → Type 0) (m : ℕ) → m < 1 → P x → P (get_or (x ∷ []) m 0)
-  at_first P zero below has = has
-  at_first P (suc m) below has = absurd (omega (arith, below))
-
 -- one more activity, which the last one lets start
 pub stretch_push : (p : Problem) (s slacks stretch : List ℕ) (x y : ℕ) → IsStretch p s slacks (stretch ++ x ∷ []) → (1 ≤ y) × (y ≤ count p) → get_or slacks (y - 1) 0 ≡ 0 → IsLinked p s (x - 1) (y - 1)
     → IsStretch p s slacks ((stretch ++ x ∷ []) ++ y ∷ [])
@@ -102,13 +89,6 @@ chain_from_stretch p s slacks stretch x is ends =
       last = subst (λ (z : ℕ). get_or s (z - 1) 0 + duration p (z - 1) ≡ makespan p s) last ends;
       linked = is.linked;
     }
-
--- the first activity, which was reached
-pub follow_first : (p : Problem) (s slacks reached nexts : List ℕ) (m : ℕ) → AreAllReached p s slacks reached nexts → m < length reached
-    → get_or s (get_or reached m 0 - 1) 0 ≡ 0 → IsStretch p s slacks (get_or reached m 0 ∷ [])
-follow_first p s slacks reached nexts m all below start =
-    let here = all.sound m below in
-    stretch_one p s slacks (get_or reached m 0) here.inside here.tight start
 
 -- the next one of an activity that has one
 pub follow_next : (p : Problem) (s slacks reached nexts stretch : List ℕ) (m : ℕ) → AreAllReached p s slacks reached nexts → m < length reached → get_or nexts m 0 < m

@@ -101,22 +101,11 @@ keeps_push marks0 marks reached0 reached k inside keeps = record {
   ];
 }
 
-pub keeps_same : (marks : List Bool) (reached : List ℕ) → Keeps marks marks reached reached
-keeps_same marks reached = record { longer = omega arith; same = λ m below. refl; marked = λ j is. is }
-
 -- the marks and activities of a search that goes from target to target
 pub record IsStep (p : Problem) (s slacks : List ℕ) (at : Option ℕ) (marks0 : List Bool) (reached0 : List ℕ) (marks : List Bool) (reached nexts : List ℕ) (n : ℕ) : Type 0 where
   pub search : IsSearch p s slacks marks reached nexts
   pub kept : Keeps marks0 marks reached0 reached
   pub done : AllMarked p s slacks marks (target_at reached0 at) n
-
-pub step_init : (p : Problem) (s slacks : List ℕ) (at : Option ℕ) (marks : List Bool) (reached nexts : List ℕ)
-    → IsSearch p s slacks marks reached nexts → IsStep p s slacks at marks reached marks reached nexts 0
-step_init p s slacks at marks reached nexts search = record {
-  search = search;
-  kept = keeps_same marks reached;
-  done = λ j below free leads. absurd (omega (arith, below));
-}
 
 -- the next one of an activity that leads to the target
 leads_on : (p : Problem) (s : List ℕ) (at : Option ℕ) (reached0 reached : List ℕ) (k : ℕ) → IfSome at (λ m. m < length reached0) → length reached0 ≤ length reached

@@ -5,7 +5,7 @@ use Rattle.std.specs.List.{position_from, position, prefix_len}
 use Rattle.std.specs.HashMap.{HashMap, get_by}
 use Rattle.std.proofs.lemmas.Bool.{cases_Bool}
 use Rattle.std.proofs.lemmas.Slice.Eq.{bytes_eq-Decides}
-use Rattle.plan_rows.specs.declared.row_tests.beside.PlanSeen.{PlanSeen}
+use Rattle.plan_rows.specs.declared.row_tests.other_rows.PlanSeen.{PlanSeen}
 use Rattle.plan_rows.specs.World.{Text, same_text}
 use Rattle.plan_rows.specs.RowTests.{RowKey, HeldKey, shown_key, same_key, AreCounts}
 use Rattle.plan_rows.proofs.KeyedLemmas.{same_key_swap, text_key}

@@ -15,9 +15,6 @@ text_from_same a b e = (bytes_eq-Decides a b).0 e
 pub same_text_refl : (a : Text) → same_text a a ≡ true
 same_text_refl a = (bytes_eq-Decides a a).1 refl
 
-pub same_text_sym : (a b : Text) → same_text a b ≡ true → same_text b a ≡ true
-same_text_sym a b e = (bytes_eq-Decides b a).1 (sym (text_from_same a b e))
-
 module _ {A : Type 0} (owner : A → Text) where
   -- the rows of one owner
   abbrev pub is_of : Text → A → Bool

@@ -13,7 +13,7 @@ use Rattle.plan_psplib.specs.Project.{Project, SaysProject}
 use Rattle.plan_psplib.proofs.OnceLemmas.{project_once}
 use Rattle.plan_rows.specs.declared.kinds.PlanKind.TheVariants as kinds
 use Rattle.plan_rows.specs.declared.row_tests.files.PlanFile.{PlanFile}
-use Rattle.plan_rows.specs.declared.row_tests.beside.PlanSeen.{PlanSeen}
+use Rattle.plan_rows.specs.declared.row_tests.other_rows.PlanSeen.{PlanSeen}
 use Rattle.plan_rows.specs.declared.tables.records.LagRecord.{LagRecord}
 use Rattle.plan_rows.specs.World.{Text, Plan, Lag, World, same_text, is_plan, is_plan_of, plan_in}
 use Rattle.plan_rows.specs.Names.{is_from_to, is_digest}

@@ -3,7 +3,7 @@ use Rattle.std.specs.Prelude.{◌≡◌, ◌⊎◌, ◌&&◌, ℕ, Bool, true, n
 use Rattle.std.specs.List.{list_any, AllByRecursion, AllZip}
 use Rattle.plan_psplib.specs.Project.{Project, SaysProject}
 use Rattle.plan_rows.specs.declared.kinds.PlanKind.TheVariants as kinds
-use Rattle.plan_rows.specs.declared.row_tests.beside.PlanSeen.{PlanSeen}
+use Rattle.plan_rows.specs.declared.row_tests.other_rows.PlanSeen.{PlanSeen}
 use Rattle.plan_rows.specs.declared.row_tests.review.Review.{Review}
 use Rattle.plan_rows.specs.declared.tables.records.LagRecord.{LagRecord}
 use Rattle.plan_rows.specs.Tables.{head_of, lag_kept, head_seen}

@@ -13,8 +13,8 @@ use Rattle.plan_rows.specs.declared.kinds.PlanKind.{PlanKind}
 use Rattle.plan_rows.specs.declared.kinds.PlanKind.TheVariants as kinds
 use Rattle.plan_rows.specs.declared.row_tests.files.PlanFile.{PlanFile}
 use Rattle.plan_rows.specs.declared.row_tests.places.Places.{Places}
-use Rattle.plan_rows.specs.declared.row_tests.beside.Beside.{Beside}
-use Rattle.plan_rows.specs.declared.row_tests.beside.PlanSeen.{PlanSeen}
+use Rattle.plan_rows.specs.declared.row_tests.other_rows.Beside.{Beside}
+use Rattle.plan_rows.specs.declared.row_tests.other_rows.PlanSeen.{PlanSeen}
 use Rattle.plan_rows.specs.Books.{published_in}
 use Rattle.plan_rows.specs.Tables.{desk_kept, head_seen}
 use Rattle.plan_rows.specs.World.{Text, Desk, Plan, World, same_text, is_plan_of, is_plan, is_bind, is_lag}

@@ -1,7 +1,7 @@
 -- The office that tables in memory hold (docs/definitions.md, "Books").
 use Rattle.std.specs.Prelude.{List, [], map, string_bytes}
-use Rattle.plan_rows.specs.declared.row_tests.beside.Beside.{Beside}
-use Rattle.plan_rows.specs.declared.row_tests.beside.PlanSeen.{PlanSeen}
+use Rattle.plan_rows.specs.declared.row_tests.other_rows.Beside.{Beside}
+use Rattle.plan_rows.specs.declared.row_tests.other_rows.PlanSeen.{PlanSeen}
 use Rattle.plan_rows.specs.declared.tables.Tables.{Tables}
 use Rattle.plan_rows.specs.declared.tables.records.DeskRecord.{DeskRecord}
 use Rattle.plan_rows.specs.declared.tables.records.PlanRecord.{PlanRecord}

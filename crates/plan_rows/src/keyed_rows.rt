@@ -15,7 +15,7 @@ pub struct PlanKey {
     pub n: u64,
 }
 
-/// All rows of an office, each table in the order of its key. Of a plan it has the key only.
+/// All rows of an office, each table in the order of its key. A plan has only its key here.
 #[derive(Debug, Drop)]
 pub struct RowsByKey {
     pub office: [u8; 32],

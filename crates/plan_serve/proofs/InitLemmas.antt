@@ -14,7 +14,8 @@ use Rattle.plan_store.specs.SqlBooks.{Counted}
 use Rattle.plan_door.specs.Keys.{ReadsKey, TakesKey, first_line}
 use Rattle.plan_door.specs.declared.fault.ServeFault.{ServeFault}
 use Rattle.plan_door.specs.declared.fault.ServeFault.TheVariants as fault
-use Rattle.plan_serve.specs.InitRun.{IsTold, IsLeft, MakesNone, MakesOffice, Inits, HasMade, HasMadeIn, IsInitFault, IsToldThere, IsOpenedFrom, IsOpenedOnce, InitsOnFiles, IsOfTablesThere, IsLeftThere, IsRefused}
+use Rattle.plan_serve.specs.InitRun.{IsTold, IsLeft, MakesNone, MakesOffice, Inits, HasMade, HasMadeIn, IsInitFault, IsToldThere, IsOpenedFrom, IsOpenedOnce}
+use Rattle.plan_serve.specs.InitRun.{InitsOnFiles, IsOfTablesThere, IsLeftThere, IsRefused}
 
 module _ {S : Type 0} (g : Ghosts S) (Opens : Held S → Type 0) (Refuses : StoreFault → Type 0) (Unopened : Type 0) (remaining rest : Option Text) (digest : Digest)
     (reads : ReadsKey remaining rest (Ok digest)) where

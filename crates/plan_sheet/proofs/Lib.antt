@@ -5,7 +5,6 @@ pub mod FoldLemmas
 pub mod AxisLemmas
 pub mod MarkupLemmas
 pub mod PieceLemmas
-pub mod UseLemmas
 pub mod ChangeLemmas
 pub mod CutLemmas
 pub mod ReportMarkupLemmas

@@ -9,7 +9,9 @@ use Rattle.plan_sheet.specs.Escape.{is_markup, markup_of, escaped}
 use Rattle.plan_sheet.specs.Marks.{marks}
 use Rattle.plan_sheet.specs.Names.{id_label}
 use Rattle.plan_sheet.specs.Place.{extent}
-use Rattle.plan_sheet.specs.Chart.{Chart, renamed, left_of, right_of, tip_of, diamond, rectangle_head, rectangle, slack_of, tight_class, tail_of, number_of, milestone_of, block_of, bar_of, bar_in, bars_of, label_room, line_head, line_of, lines_of, number_at, image_tag, image_head, image_of}
+use Rattle.plan_sheet.specs.Chart.{Chart, renamed, left_of, right_of, tip_of, diamond, rectangle_head, rectangle, slack_of, tight_class, tail_of, number_of}
+use Rattle.plan_sheet.specs.Chart.{milestone_of, block_of, bar_of, bar_in, bars_of, label_room, line_head, line_of, lines_of, number_at, image_tag, image_head}
+use Rattle.plan_sheet.specs.Chart.{image_of}
 use Rattle.plan_sheet.specs.declared.bars.Bar.{Bar}
 use Rattle.plan_sheet.proofs.EscapeLemmas.{no_markup, or_left, or_right}
 

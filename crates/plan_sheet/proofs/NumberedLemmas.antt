@@ -16,13 +16,6 @@ next_number f k before old new so_far step =
     step ∙ ap (λ bytes. bytes ++ f k) so_far ∙ flat_map_more f before (range_with_len 0 k) k
     ∙ ap (λ ns. before ++ flat_map f ns) (sym (range_more k))
 
--- the bounds of a part of a list that is within it
-pub drop_within : {A : Type 0} (n : ℕ) (xs : List A) → drop (min n (length xs)) xs ≡ drop n xs
-drop_within n xs = drop_min n xs
-
-pub take_within : {A : Type 0} (n : ℕ) (xs : List A) → take (min n (length xs)) xs ≡ take n xs
-take_within n xs = take_min n xs
-
 -- one more element of a list
 pub next_item : {X : Type 0} (f : ℕ → X) (first k j : ℕ) (old new : List X) (x : X) → first + k ≡ j → old ≡ map f (range_with_len first k) →
     new ≡ old ++ x ∷ [] → x ≡ f j → new ≡ map f (range_with_len first (k + 1))

@@ -25,7 +25,8 @@ use Rattle.plan_sheet.specs.Table.{Table, text_if, last_heads, heads, number_tex
 use Rattle.plan_sheet.specs.Usage.{use_area, use_labels, use_image, use_figure, use_figures, use_room, use_section, resource_count}
 use Rattle.plan_sheet.specs.Uses.{uses_of}
 use Rattle.plan_sheet.specs.declared.bars.Bar.{Bar}
-use Rattle.plan_sheet.specs.declared.styles.TheConstants.{HEAD, LEGEND, NOTE_TO, STYLES_TO, TITLE_TO, CAPACITY_LINE, USE_NAME, ROW_NUMBER, ROW_NAME, NAME_CELL, PAGE_TO, TABLE_FROM, TABLE_TITLE, TABLE_TO}
+use Rattle.plan_sheet.specs.declared.styles.TheConstants.{HEAD, LEGEND, NOTE_TO, STYLES_TO, TITLE_TO, CAPACITY_LINE, USE_NAME, ROW_NUMBER, ROW_NAME, NAME_CELL}
+use Rattle.plan_sheet.specs.declared.styles.TheConstants.{PAGE_TO, TABLE_FROM, TABLE_TITLE, TABLE_TO}
 use Rattle.plan_sheet.specs.declared.uses.Use.{Use}
 use Rattle.plan_sheet.proofs.MarkupLemmas.{same_append, same_escaped, same_shown, same_if, same_flat_map, same_image, same_image_head}
 

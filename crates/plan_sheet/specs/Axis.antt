@@ -1,6 +1,7 @@
 -- Places on the axis of a chart, and the distance of its marks (docs/definitions.md, "Sheets"). With
 -- days the axis is one of calendar days from the first working day on, else one of time units.
-use Rattle.std.specs.Prelude.{ℕ, ◌+◌, ◌-◌, ◌*◌, ◌/◌, ◌%◌, ◌==◌, Bool, true, false, not, if◌then◌else◌, nat_le, nat_lt, List, [], ◌∷◌, length, Option, Some, None, max, min, slice_get, unsigned_abs, pos, ◌+ℤ◌}
+use Rattle.std.specs.Prelude.{ℕ, ◌+◌, ◌-◌, ◌*◌, ◌/◌, ◌%◌, ◌==◌, Bool, true, false, not, if◌then◌else◌, nat_le, nat_lt, List, [], ◌∷◌, length, fold, Option}
+use Rattle.std.specs.Prelude.{Some, None, max, min, slice_get, unsigned_abs, pos, ◌+ℤ◌}
 use Rattle.jiff_core.specs.Date.{epoch_day}
 use Rattle.jiff_core.specs.declared.civil.date.Date.{Date}
 use Rattle.plan_sheet.specs.Place.{place}
@@ -92,13 +93,32 @@ starts_week days t = if nat_lt t 1 then false else not (week_at days (t - 1) == 
 unfoldable pub is_labelled_week : ℕ → List Date → ℕ → Bool
 is_labelled_week span days t = (week_at days t - week_at days 0) % week_distance span == 0
 
+-- the weekday of a day, 0 for a Monday
+abbrev pub weekday : Date → ℕ
+weekday day = day_number day % 7
+
+-- the first weekday of these days, 7 if there are none
+abbrev pub first_weekday : List Date → ℕ
+first_weekday days = fold (λ least day. min least (weekday day)) 7 days
+
+-- a day, if there is one, is on the first weekday of these days
+abbrev pub is_on_first : List Date → Option Date → Bool
+is_on_first days None = false
+is_on_first days (Some day) = weekday day == first_weekday days
+
+-- instant t begins a labelled week, on the first weekday: so labels are whole weeks apart
+unfoldable pub starts_labelled : ℕ → List Date → ℕ → Bool
+starts_labelled span days t =
+    if not (starts_week days t) then false else if is_labelled_week span days t
+    then is_on_first days (slice_get days t) else false
+
 -- instant t has a label: the first one has, and the first one of each labelled week that has room
 -- for it, between the first label and the end of the image
 unfoldable pub has_label : ℕ → List Date → ℕ → Bool
 has_label span days t =
     if nat_lt t 1 then true else if nat_lt (place span (axis_from days t)) 436 then false
     else if nat_lt 1291 (place span (axis_from days t)) then false
-    else if starts_week days t then is_labelled_week span days t else false
+    else starts_labelled span days t
 
 -- the number of days that have a mark
 abbrev pub day_count : List Date → ℕ

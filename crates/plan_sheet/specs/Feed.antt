@@ -16,8 +16,8 @@ use Rattle.plan_sheet.specs.Parts.{EventNames, event_name, event_names_of, is_wa
 use Rattle.plan_sheet.specs.Ics.{Event, event_text, calendar_head, calendar_end, text_value}
 use Rattle.plan_sheet.specs.declared.bars.Bar.{Bar}
 use Rattle.plan_sheet.specs.declared.parts.Part.{Part}
-use Rattle.plan_sheet.specs.declared.feed.Events as declared_events
-use Rattle.plan_sheet.specs.declared.feed.Work as declared_work
+use Rattle.plan_sheet.specs.declared.calendar_file.Events as declared_events
+use Rattle.plan_sheet.specs.declared.calendar_file.Work as declared_work
 
 -- the events that are wanted: the word of their identifiers, the number of their revision, the name
 -- of the one resource, machine or order, whether their names have the

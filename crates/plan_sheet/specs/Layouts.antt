@@ -1,4 +1,4 @@
--- What a sheet shows, and in which lines (docs/definitions.md, "Sheets").
+-- The contents of a sheet and their lines (docs/definitions.md, "Sheets").
 use Rattle.std.specs.Prelude.{ℕ, ◌+◌, Bool, true, false, nat_lt, if◌then◌else◌}
 use Rattle.std.specs.Prelude.{List, [], ◌∷◌, map}
 use Rattle.std.specs.List.{flat_map, range_with_len}

@@ -12,7 +12,8 @@ use Rattle.plan_sheet.specs.Escape.{escaped}
 use Rattle.plan_sheet.specs.Names.{id_text, label, name_text}
 use Rattle.plan_sheet.specs.declared.bars.Bar.{Bar}
 use Rattle.plan_sheet.specs.declared.table.Table as declared
-use Rattle.plan_sheet.specs.declared.styles.TheConstants.{DAY_HEADS, FIRST_HEADS, FLOAT_HEAD, HEADS_TO, ID_HEADS, LINK_HEADS, MACHINE_HEAD, NAME_CELL, ROW_NAME, ROW_NUMBER, SLACK_HEAD, TABLE_FROM, TABLE_TO, TIME_HEADS}
+use Rattle.plan_sheet.specs.declared.styles.TheConstants.{DAY_HEADS, FIRST_HEADS, FLOAT_HEAD, HEADS_TO, ID_HEADS, LINK_HEADS, MACHINE_HEAD, NAME_CELL, ROW_NAME}
+use Rattle.plan_sheet.specs.declared.styles.TheConstants.{ROW_NUMBER, SLACK_HEAD, TABLE_FROM, TABLE_TO, TIME_HEADS}
 
 -- what a table shows: the bars of a chart, their days if it has columns for them, perhaps with
 -- weekdays, their machines with names if it has a column for them, the floats and slacks of

@@ -1,6 +1,6 @@
 //! Places on the axis of a chart, and the distance of its marks.
 
-ghost use Rattle.std.specs.Prelude.{◌≡◌, ◌*◌, ◌<◌, ◌≤◌};
+ghost use Rattle.std.specs.Prelude.{◌≡◌, ◌*◌, ◌<◌, ◌≤◌, slice_get};
 ghost use Rattle.plan_sheet.specs.Axis as spec;
 
 use crate::place::{fine_place, place};
@@ -188,6 +188,49 @@ fn is_labelled_week(span: u32, days: &[Date], t: u32) -> bool
     week_at(days, t).saturating_sub(week_at(days, 0)) % distance == 0
 }
 
+// Returns the weekday of a day, 0 for a Monday.
+fn weekday(day: Date) -> u32
+    ensures { result ≡ spec.weekday day }
+{
+    day_number(day) % 7
+}
+
+// Returns the first weekday of these days, 7 if there are none.
+fn first_weekday(days: &[Date]) -> u32
+    ensures { result ≡ spec.first_weekday days.now }
+{
+    let mut least = 7;
+    for &day in days {
+        least = least.min(weekday(day));
+    }
+    least
+}
+
+// Returns whether instant `t` has a day on the first weekday of these days.
+fn is_on_first(days: &[Date], t: u32) -> bool
+    ensures { result ≡ spec.is_on_first days.now (slice_get days.now t) }
+{
+    match days.get(t as usize) {
+        Some(&day) => weekday(day) == first_weekday(days),
+        None => false,
+    }
+}
+
+// Returns whether instant `t` begins a labelled week, on the first weekday.
+#[tactic(auto, unfolding(crate::specs::Axis::starts_labelled))]
+fn starts_labelled(span: u32, days: &[Date], t: u32) -> bool
+    ensures { result ≡ spec.starts_labelled span days.now t }
+{
+    if !starts_week(days, t) {
+        return false;
+    }
+    if is_labelled_week(span, days, t) {
+        is_on_first(days, t)
+    } else {
+        false
+    }
+}
+
 /// Returns whether instant `t` has a label, for which there is room on both sides.
 #[tactic(auto, unfolding(crate::specs::Axis::has_label))]
 pub(crate) fn has_label(span: u32, days: &[Date], t: u32) -> bool
@@ -203,11 +246,7 @@ pub(crate) fn has_label(span: u32, days: &[Date], t: u32) -> bool
     if 1291 < x {
         return false;
     }
-    if starts_week(days, t) {
-        is_labelled_week(span, days, t)
-    } else {
-        false
-    }
+    starts_labelled(span, days, t)
 }
 
 /// Returns the number of days that have a mark.

@@ -7,10 +7,10 @@ ghost use Rattle.plan_sheet.specs.Cuts as cuts;
 ghost use Rattle.plan_sheet.specs.Escape as escape;
 
 use crate::axis::{begin_place, end_place};
+use crate::axis_marks::push_marks;
 use crate::bars::Bar;
 use crate::cuts::cut;
 use crate::escape::escaped;
-use crate::marks::push_marks;
 use crate::names::id_label;
 use crate::pieces::push_counted;
 use crate::place::extent;

@@ -10,7 +10,7 @@ ghost use Rattle.plan_sheet.specs.Layouts.{count_of, layout_of};
 ghost use Rattle.plan_sheet.specs.Parts.{event_names_of};
 ghost use Rattle.plan_sheet.specs.PlanEvents as spec;
 
-use crate::feed::{Events, Work, bars_ics};
+use crate::calendar_file::{Events, Work, bars_ics};
 use crate::layouts::{Layout, bars_of};
 use crate::parts::EventNames;
 use plan_calendar::Calendar;

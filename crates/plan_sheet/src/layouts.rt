@@ -1,4 +1,4 @@
-//! What a sheet shows, and in which lines.
+//! The contents of a sheet and their lines.
 
 ghost use Rattle.std.specs.Prelude.{◌≡◌, ◌+◌, ◌++◌, ◌≤◌, ◌<◌, length, map, slice_index};
 ghost use Rattle.std.specs.Prelude.{EachIndex, IfOk, OnOk};
@@ -15,8 +15,8 @@ use plan_shop::Shop;
 use plan_table::NameLine;
 use std::alloc::{AllocError, Global};
 
-/// What a sheet shows, and in which lines. Index `k` of a list of starts is activity `k + 1` or flat
-/// step `k`.
+/// The contents of a sheet and their lines. Index `k` of a list of starts is activity `k + 1` or
+/// flat step `k`.
 #[derive(Clone, Copy, Drop)]
 pub enum Layout<'p> {
     /// The activities of a project, each in the line of its number, from 1 on.

@@ -3,7 +3,9 @@
 #![tactic(auto)]
 
 mod axis;
+mod axis_marks;
 mod bars;
+mod calendar_file;
 mod changes;
 mod chart;
 mod cuts;
@@ -11,10 +13,8 @@ mod day_labels;
 mod days;
 mod escape;
 mod events;
-mod feed;
 mod ics;
 mod layouts;
-mod marks;
 mod moments;
 mod names;
 mod page;
@@ -29,9 +29,9 @@ mod titles;
 mod usage;
 mod uses;
 
+pub use calendar_file::Events;
 pub use escape::escaped;
 pub use events::ics_file;
-pub use feed::Events;
 pub use layouts::Layout;
 pub use names::SheetNames;
 pub use page::Heading;

@@ -68,7 +68,7 @@ pub struct Calendared<'a> {
     pub days: &'a [Date],
 }
 
-// What a chart shows: its bars, the numbers of its lines, and the makespan.
+// The contents of a chart: its bars, the numbers of its lines, and the makespan.
 #[derive(Drop)]
 struct Drawn {
     bars: Vec<Bar>,

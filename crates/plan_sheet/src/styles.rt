@@ -13,13 +13,13 @@ pub(crate) const NARROW_BAR: &str = "<rect class=\"bar";
 /// The class of a bar without slack.
 pub(crate) const TIGHT_CLASS: &str = " tight";
 
-/// What is between the class of a rectangle and its place.
+/// The text between the class of a rectangle and its place.
 pub(crate) const BAR_LEFT: &str = "\" x=\"";
 
-/// What is between the place of a rectangle and its width.
+/// The text between the place of a rectangle and its width.
 pub(crate) const BAR_WIDTH: &str = "\" y=\"2\" width=\"";
 
-/// What is between the width of a rectangle and its description.
+/// The text between the width of a rectangle and its description.
 pub(crate) const BAR_TIP: &str = "\" height=\"16\"><title>";
 
 /// The colours, light and dark.
@@ -131,7 +131,7 @@ pub(crate) const TABLE_TO: &str = "</tbody>\n</table>\n</div>\n";
 /// The start of a row up to its number.
 pub(crate) const ROW_NUMBER: &str = "<tr><th scope=\"row\">";
 
-/// What is between the number of a row and its name.
+/// The text between the number of a row and its name.
 pub(crate) const ROW_NAME: &str = "</th><td class=\"name\">";
 
 /// The start of a cell with a name.
@@ -147,7 +147,7 @@ pub(crate) const USE_TO: &str = "H1330V108z\"/>\n";
 pub(crate) const CAPACITY_LINE: &str =
     "<path class=\"most\" d=\"M330 28h1000\"/><text class=\"end\" x=\"324\" y=\"34\">";
 
-/// What is between the number of a capacity and the name of its resource.
+/// The text between the number of a capacity and the name of its resource.
 pub(crate) const USE_NAME: &str =
     "</text>\n<svg width=\"270\" height=\"112\"><text x=\"4\" y=\"74\">";
 
@@ -157,13 +157,13 @@ pub(crate) const STYLES_FROM: &str = "</title>\n<style>\n";
 /// The end of the styles, up to the title on the page.
 pub(crate) const STYLES_TO: &str = "</style>\n</head>\n<body>\n<h1>";
 
-/// What is between the title of a page and its note.
+/// The text between the title of a page and its note.
 pub(crate) const TITLE_TO: &str = "</h1>\n<p>";
 
-/// What is between the note of a page and its charts.
+/// The text between the note of a page and its charts.
 pub(crate) const NOTE_TO: &str = "</p>\n<h2>Gantt chart</h2>\n";
 
-/// What the colours of a chart mean.
+/// The meaning of the colours of a chart.
 pub(crate) const LEGEND: &str =
     "<div class=\"key\"><svg width=\"24\" height=\"12\" class=\"chart\">\
 <rect class=\"bar tight\" width=\"24\" height=\"12\"/></svg> no slack \

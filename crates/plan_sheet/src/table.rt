@@ -22,7 +22,7 @@ use plan_table::NameLine;
 use std::alloc::{AllocError, Global};
 use std::fmt::Write;
 
-/// What a table shows.
+/// The contents of a table.
 #[derive(Drop)]
 pub struct Table<'a> {
     pub chart: &'a Chart<'a>,

@@ -9,10 +9,10 @@ ghost use Rattle.plan_sheet.specs.Chart.{chart_of};
 ghost use Rattle.plan_sheet.specs.Usage as spec;
 
 use crate::axis::begin_place;
+use crate::axis_marks::push_marks;
 use crate::changes::next_change;
 use crate::chart::{Chart, cut_label, push_image_head};
 use crate::escape::escaped;
-use crate::marks::push_marks;
 use crate::names::label;
 use crate::pieces::push_counted;
 use crate::styles::{CAPACITY_LINE, USE_FROM, USE_NAME, USE_TO};

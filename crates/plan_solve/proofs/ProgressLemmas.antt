@@ -1,4 +1,4 @@
--- What a watcher hears in several calls, and that it is true of a problem.
+-- The reports that a watcher receives in several calls are true of a problem.
 use Rattle.std.proofs.Common.{◌≡◌, ◌∙◌, ◌≤◌, ℕ, inl, inr, max, List, sym, subst, arith}
 use Rattle.plan_sgs.specs.Problem.{Problem}
 use Rattle.plan_kernel.specs.declared.input.Input.{Input}
@@ -7,17 +7,6 @@ use Rattle.plan_kernel.specs.Kernels as kernels
 use Rattle.plan_kernel.proofs.PlanLemmas.{plain_feasible, plain_cost, plain_lower}
 use Rattle.plan_solve.specs.Progress.{Progress, Hears, HearsNothing, HearsTruth, IsProgressOf}
 use Rattle.plan_solve.specs.Solutions.{IsLowerBound}
-
--- what is heard by one call and by another behind it
-pub truth_twice : (s : Problem) (allowed : ℕ) (before between after : Progress → Type 0) → HearsTruth s allowed before between → HearsTruth s allowed between after → HearsTruth s allowed before after
-truth_twice s allowed before between after first second p was = elim (second p was) [
-  | inl earlier ↦ first p earlier
-  | inr true ↦ inr true
-]
-
--- nothing is heard by another behind it
-pub truth_then_nothing : (s : Problem) (allowed : ℕ) (before between after : Progress → Type 0) → HearsTruth s allowed before between → HearsNothing between after → HearsTruth s allowed before after
-truth_then_nothing s allowed before between after first second p was = first p (second p was)
 
 -- the greater of a lower bound and that of a kernel is a lower bound of all makespans
 pub greater_lower : (input : Input) (p : Problem) (simple lower greater : ℕ) → plans.IsPlain input p → IsLowerBound p simple → plans.IsLowerBound input lower

@@ -1,7 +1,7 @@
 -- Searches that can be continued (docs/definitions.md, "Solutions").
 use Rattle.plan_sgs.specs.Problem.{Problem}
 use Rattle.plan_kernel.specs.Plans.{IsPlain}
-use Rattle.plan_solve.specs.declared.running.Session.{Session}
+use Rattle.plan_solve.specs.declared.sessions.Session.{Session}
 
 -- the clauses and facts of a search are those of a problem
 abbrev pub IsSessionOf : Problem → Session → Type 0

@@ -10,7 +10,7 @@ pub use Rattle.plan_active.specs.Bounds.{IsLowerBound}
 use Rattle.plan_active.specs.Shifts.{IsActiveInTime}
 use Rattle.plan_solve.specs.declared.fault.SolveFault.{SolveFault}
 use Rattle.plan_solve.specs.declared.fault.SolveFault.TheVariants.{NoMemory, BadConflicts}
-use Rattle.plan_solve.specs.declared.solving.Solved.{Solved}
+use Rattle.plan_solve.specs.declared.solutions.Solved.{Solved}
 
 -- an active schedule with its makespan, whose ends can all be shown
 pub record IsActiveSchedule (p : Problem) (schedule : Schedule) : Type 0 where

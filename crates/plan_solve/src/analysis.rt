@@ -3,8 +3,8 @@
 ghost use Rattle.std.specs.Prelude.{◌≡◌};
 
 use crate::activity::Activity;
+use crate::arrays::{is_marked, mark};
 use crate::explanation::{Explainer, Why};
-use crate::lists::{is_marked, mark};
 use crate::model::Model;
 use crate::prover::Prover;
 use crate::stop::{Cause, Clash};

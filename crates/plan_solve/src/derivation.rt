@@ -2,7 +2,7 @@
 
 ghost use Rattle.std.specs.Prelude.{◌≡◌};
 
-use crate::lists::{at, put, row};
+use crate::arrays::{at, put, row};
 use crate::prover::Prover;
 use plan_kernel::{Arc, Input, Kernel, LIMIT, Member, Reason};
 use std::alloc::{AllocError, Global};

@@ -1,6 +1,6 @@
 //! The numbers of a problem, by what propagation looks up.
 
-use crate::lists::{at, empty_rows, mark, push_to, row};
+use crate::arrays::{at, empty_rows, mark, push_to, row};
 use plan_kernel::{Absence, Input, Order};
 use std::alloc::{AllocError, Global};
 
@@ -27,7 +27,7 @@ pub struct Model {
     links: Vec<Link>,
     arcs: u32,
     orders: Vec<Order>,
-    /// What is missing of resources.
+    /// Missing amounts of resources.
     pub absences: Vec<Absence>,
     tails: Vec<u32>,
     /// For each activity the links that begin with it.
@@ -187,7 +187,7 @@ impl Model {
         at(&self.durations, activity)
     }
 
-    /// What an activity needs of a resource.
+    /// Returns the need of an activity for a resource.
     pub fn need(&self, activity: u32, resource: u32) -> u32 {
         at(
             &self.needs,
@@ -200,12 +200,12 @@ impl Model {
         at(&self.capacities, resource)
     }
 
-    /// What is absent of a resource at an instant.
+    /// Returns the absent amount of a resource at an instant.
     pub fn absent(&self, resource: u32, instant: u32) -> u64 {
         self.absent_in(resource, instant, instant.saturating_add(1))
     }
 
-    /// What is absent of a resource from an instant to another, over time.
+    /// Returns the absent energy of a resource between two instants.
     pub fn absent_in(&self, resource: u32, from: u32, until: u32) -> u64 {
         let mut sum: u64 = 0;
         for absence in &self.absences {

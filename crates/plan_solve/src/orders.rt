@@ -1,6 +1,6 @@
 //! Pairs of activities that can't overlap.
 
-use crate::lists::{is_marked, mark};
+use crate::arrays::{is_marked, mark};
 use plan_kernel::Order;
 use plan_sgs::Instance;
 use std::alloc::{AllocError, Global};

@@ -1,7 +1,7 @@
 //! Pairs of activities that can't overlap, in a problem with windows and absences.
 
+use crate::arrays::at;
 use crate::derivation::need;
-use crate::lists::at;
 use plan_kernel::{Input, Order};
 use std::alloc::{AllocError, Global};
 

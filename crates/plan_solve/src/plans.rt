@@ -9,9 +9,9 @@ ghost use Rattle.plan_solve.specs.Solutions as spec;
 use crate::fault::SolveFault;
 use crate::plan_orders::plan_orders;
 use crate::prover::{Prover, prover_of};
-use crate::running::next_clash;
 use crate::search::Search;
-use crate::solving::check;
+use crate::sessions::next_clash;
+use crate::solutions::check;
 use crate::watcher::{Unwatched, Watcher};
 use plan_kernel::{Absence, Input, Kernel, LIMIT, Reason, with_orders};
 use std::alloc::{AllocError, Global};
@@ -23,8 +23,8 @@ const CONFLICTS_BETWEEN: u64 = 64;
 /// The greatest horizon.
 pub const LATEST_COST: u32 = 1_000_000_000;
 
-/// What a search for a plan of least cost comes to. A plan has a start for each activity. Its cost is
-/// the greatest end of an activity with its tail.
+/// The outcome of a search for a plan of least cost. A plan has a start for each activity. Its cost
+/// is the greatest end of an activity with its tail.
 #[derive(Debug, Drop)]
 pub enum PlanAnswer {
     /// No plan costs less than this one.
@@ -241,7 +241,7 @@ pub fn solve_plan(
         answers.IsAnswerUpTo input horizon solved.answer) }
     ensures conflicts { IfOk result (λ solved. solved.conflicts ≤ conflicts) }
     ensures refused { IfErr result (spec.RefusesSolving conflicts) }
-    // What is refused takes no memory.
+    // A refusal takes no memory.
     ensures early { IsErrOf result SolveFault.NoMemory → spec.IsConflictLimit conflicts }
 {
     solve_plan_watched(alloc, input, horizon, proposal, conflicts, &mut Unwatched)
@@ -260,7 +260,7 @@ pub fn solve_plan_watched<W: Watcher>(
         answers.IsAnswerUpTo input horizon solved.answer) }
     ensures conflicts { IfOk result (λ solved. solved.conflicts ≤ conflicts) }
     ensures refused { IfErr result (spec.RefusesSolving conflicts) }
-    // What is refused takes no memory.
+    // A refusal takes no memory.
     ensures early { IsErrOf result SolveFault.NoMemory → spec.IsConflictLimit conflicts }
     ensures told { HearsNothing (W.was_told watcher.old) (W.was_told watcher.new) }
 {

@@ -10,8 +10,8 @@ use crate::fault::SolveFault;
 use crate::log::{Log, Unlogged};
 use crate::orders::orders_of;
 use crate::schedules::{by_rules, tightened};
+use crate::solutions::{Solved, check, searched};
 use crate::solvable::Solvable;
-use crate::solving::{Solved, check, searched};
 use crate::watcher::{Unwatched, Watcher};
 use plan_kernel::Input;
 use plan_sgs::{Instance, Schedule};
@@ -50,7 +50,7 @@ impl<'a> Solvable for Instance<'a> {
 pub fn solve(alloc: Global, instance: &Instance, conflicts: u64) -> Result<Solved, SolveFault>
     ensures solved { IfOk result (spec.IsSolvedProject instance.now conflicts) }
     ensures refused { IfErr result (spec.RefusesSolving conflicts) }
-    // What is refused takes no memory.
+    // A refusal takes no memory.
     ensures early { IsErrOf result SolveFault.NoMemory → spec.IsConflictLimit conflicts }
 {
     solve_watched(alloc, instance, conflicts, &mut Unwatched)
@@ -65,7 +65,7 @@ pub fn solve_watched<W: Watcher>(
 ) -> Result<Solved, SolveFault>
     ensures solved { IfOk result (spec.IsSolvedProject instance.now conflicts) }
     ensures refused { IfErr result (spec.RefusesSolving conflicts) }
-    // What is refused takes no memory.
+    // A refusal takes no memory.
     ensures early { IsErrOf result SolveFault.NoMemory → spec.IsConflictLimit conflicts }
     // All that the watcher is told is true of the project, whatever the search comes to.
     ensures told { HearsTruth (problem_of instance.now) conflicts
@@ -85,7 +85,7 @@ pub fn solve_logged<W: Watcher, L: Log>(
 ) -> Result<Solved, SolveFault>
     ensures solved { IfOk result (spec.IsSolvedProject instance.now conflicts) }
     ensures refused { IfErr result (spec.RefusesSolving conflicts) }
-    // What is refused takes no memory.
+    // A refusal takes no memory.
     ensures early { IsErrOf result SolveFault.NoMemory → spec.IsConflictLimit conflicts }
     // All that the watcher is told is true of the project, whatever the search comes to.
     ensures told { HearsTruth (problem_of instance.now) conflicts

@@ -1,12 +1,12 @@
-//! What follows from bounds that have risen.
+//! The consequences of bounds that have risen.
 
-use crate::lists::{Waiting, is_marked, row};
+use crate::arrays::{Waiting, is_marked, row};
 use crate::literals::{at_least, at_most, negated};
 use crate::model::Model;
-use crate::parts::Parts;
 use crate::stop::{Cause, Stop};
-use crate::table;
+use crate::timetable;
 use crate::trail::{Entry, Trail};
+use crate::usage::Parts;
 use crate::watches::Watches;
 use crate::windows::Windows;
 use plan_kernel::{Kernel, Literal};
@@ -26,7 +26,7 @@ pub struct State {
     busy: Waiting,
 }
 
-// What follows along the arcs from an activity that starts later.
+// Pushes the successors of an activity that starts later.
 fn push_successors(model: &Model, trail: &mut Trail, activity: u32) -> Result<(), Stop> {
     for &place in row(&model.links_from, activity) {
         let link = model.link(place);
@@ -36,7 +36,7 @@ fn push_successors(model: &Model, trail: &mut Trail, activity: u32) -> Result<()
     Ok(())
 }
 
-// What follows along the arcs to an activity that starts sooner, or from an earlier makespan.
+// Pushes the predecessors of an activity that starts sooner, or of an earlier makespan.
 fn push_predecessors(model: &Model, trail: &mut Trail, activity: u32) -> Result<(), Stop> {
     for &place in row(&model.links_to, activity) {
         let link = model.link(place);
@@ -78,7 +78,7 @@ fn side_of(model: &Model, trail: &Trail, place: u32, is_second_first: bool) -> S
     }
 }
 
-// What follows for a side from the earliest start of its first activity.
+// Pushes the second activity of a side to the end of the first.
 fn push_second(model: &Model, trail: &mut Trail, side: Side) -> Result<(), Stop> {
     let end = trail
         .earliest(side.first)
@@ -92,7 +92,7 @@ fn push_second(model: &Model, trail: &mut Trail, side: Side) -> Result<(), Stop>
     Ok(())
 }
 
-// What follows for a side from the latest start of its second activity.
+// Pushes the first activity of a side before the latest start of the second.
 fn push_first(model: &Model, trail: &mut Trail, side: Side) -> Result<(), Stop> {
     let (latest, duration) = (trail.latest(side.second), model.duration(side.first));
     if trail.is_true(side.literal) {
@@ -105,14 +105,14 @@ fn push_first(model: &Model, trail: &mut Trail, side: Side) -> Result<(), Stop> 
     Ok(())
 }
 
-// What follows from an order that holds one way.
+// Applies the side of an order that holds one way.
 fn propagate_order(model: &Model, trail: &mut Trail, half: u32, place: u32) -> Result<(), Stop> {
     let side = side_of(model, trail, place, half % 2 != 0);
     push_second(model, trail, side)?;
     push_first(model, trail, side)
 }
 
-// What follows for an order of an activity that starts later, or sooner.
+// Applies the orders of an activity that starts later or sooner.
 fn propagate_bound(model: &Model, trail: &mut Trail, half: u32, place: u32) -> Result<(), Stop> {
     let activity = half / 2;
     let is_second = model.order(place).second == activity;
@@ -161,7 +161,7 @@ impl State {
         Ok(())
     }
 
-    // What follows from the start of an activity.
+    // Applies the consequences of a new bound of a start.
     fn propagate_start(&mut self, model: &Model, entry: Entry) -> Result<(), Stop> {
         let activity = entry.half / 2;
         if entry.half % 2 == 0 {
@@ -178,7 +178,7 @@ impl State {
         Ok(())
     }
 
-    // What follows from an entry.
+    // Applies the consequences of an entry.
     fn propagate_entry(
         &mut self,
         alloc: Global,
@@ -200,7 +200,7 @@ impl State {
         }
     }
 
-    // What follows from the entries by arcs, orders and clauses, until the clock is due.
+    // Applies arcs, orders and clauses to the entries, until the clock is due.
     fn propagate_entries(
         &mut self,
         alloc: Global,
@@ -219,7 +219,7 @@ impl State {
         Ok(())
     }
 
-    // What follows by the resources, until a bound rises or the clock is due.
+    // Applies the resources, until a bound rises or the clock is due.
     fn propagate_resources(&mut self, model: &Model) -> Result<(), Stop> {
         for _ in 0..u64::MAX {
             if self.trail.work.is_due() || !self.trail.is_settled() {
@@ -228,7 +228,7 @@ impl State {
             let Some(activity) = self.stale.pop() else {
                 break;
             };
-            table::propagate(model, &mut self.parts, &mut self.trail, activity)?;
+            timetable::propagate(model, &mut self.parts, &mut self.trail, activity)?;
         }
         for _ in 0..model.kinds {
             if self.trail.work.is_due() {
@@ -243,8 +243,8 @@ impl State {
         Ok(())
     }
 
-    /// What follows from all bounds that have risen. Returns `false` if the clock is due: the next
-    /// call continues.
+    /// Applies all consequences of bounds that have risen. Returns `false` if the clock is due: the
+    /// next call continues.
     pub fn propagate(
         &mut self,
         alloc: Global,
@@ -276,7 +276,7 @@ impl State {
         self.windows.check_all(alloc, model, &self.trail, horizon)
     }
 
-    /// What follows before any bound has risen.
+    /// Applies the consequences that hold before any bound has risen.
     pub fn propagate_all(&mut self, model: &Model) -> Result<(), Stop> {
         for activity in 0..model.count {
             self.note(model, activity)?;

@@ -1,9 +1,9 @@
 //! A first list of starts for a problem with windows and absences: serial generation, latest starts
 //! first. It is a proposal, which the kernel checks: no clause says that it is a plan.
 
+use crate::arrays::{at, is_marked, mark, put};
 use crate::derivation::need;
-use crate::lists::{at, is_marked, mark, put};
-use crate::parts::MOST_CELLS;
+use crate::usage::MOST_CELLS;
 use plan_kernel::Input;
 use std::alloc::{AllocError, Global};
 

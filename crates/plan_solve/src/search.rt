@@ -4,7 +4,7 @@ ghost use Rattle.std.specs.Prelude.{◌≡◌, ◌≤◌, IfOk};
 
 use crate::activity::Activity;
 use crate::analysis::{Analysis, greatest_level};
-use crate::lists::at;
+use crate::arrays::at;
 use crate::literals::{at_most, negated};
 use crate::model::Model;
 use crate::propagation::State;
@@ -17,7 +17,7 @@ use crate::watches::literal_at;
 use plan_kernel::{Kernel, LIMIT, Lesson, Literal};
 use std::alloc::{AllocError, Global};
 
-/// A search. What it holds beside the kernel decides how long it takes, and nothing else.
+/// A search. Its parts beside the kernel decide how long it takes, and nothing else.
 #[derive(Drop)]
 pub struct Search {
     pub prover: Prover,

@@ -9,10 +9,10 @@ ghost use Rattle.plan_solve.specs.Solutions as spec;
 
 use crate::fault::SolveFault;
 use crate::log::{Log, Unlogged};
-use crate::running::Session;
 use crate::schedules::shorter;
+use crate::sessions::Session;
+use crate::solutions::{Solved, check, searched, searched_from, unsearched};
 use crate::solvable::Solvable;
-use crate::solving::{Solved, check, searched, searched_from, unsearched};
 use crate::watcher::{Unwatched, Watcher};
 use plan_active::{active_shop_schedule, shop_bound};
 use plan_kernel::{Input, Order};
@@ -99,7 +99,7 @@ impl Solvable for Shop {
 pub fn solve_shop(alloc: Global, shop: &Shop, conflicts: u64) -> Result<Solved, SolveFault>
     ensures solved { IfOk result (spec.IsSolvedShop shop.now conflicts) }
     ensures refused { IfErr result (spec.RefusesSolving conflicts) }
-    // What is refused takes no memory.
+    // A refusal takes no memory.
     ensures early { IsErrOf result SolveFault.NoMemory → spec.IsConflictLimit conflicts }
 {
     solve_shop_watched(alloc, shop, conflicts, &mut Unwatched)
@@ -114,7 +114,7 @@ pub fn solve_shop_watched<W: Watcher>(
 ) -> Result<Solved, SolveFault>
     ensures solved { IfOk result (spec.IsSolvedShop shop.now conflicts) }
     ensures refused { IfErr result (spec.RefusesSolving conflicts) }
-    // What is refused takes no memory.
+    // A refusal takes no memory.
     ensures early { IsErrOf result SolveFault.NoMemory → spec.IsConflictLimit conflicts }
     // All that the watcher is told is true of the shop, whatever the search comes to.
     ensures told { HearsTruth (problem_of shop.now) conflicts
@@ -134,7 +134,7 @@ pub fn solve_shop_logged<W: Watcher, L: Log>(
 ) -> Result<Solved, SolveFault>
     ensures solved { IfOk result (spec.IsSolvedShop shop.now conflicts) }
     ensures refused { IfErr result (spec.RefusesSolving conflicts) }
-    // What is refused takes no memory.
+    // A refusal takes no memory.
     ensures early { IsErrOf result SolveFault.NoMemory → spec.IsConflictLimit conflicts }
     // All that the watcher is told is true of the shop, whatever the search comes to.
     ensures told { HearsTruth (problem_of shop.now) conflicts
@@ -183,7 +183,7 @@ pub fn solve_shop_from<W: Watcher, L: Log>(
     ensures session { IsSessionOf (problem_of shop.now) session.new }
     ensures solved { IfOk result (spec.IsSolvedShop shop.now conflicts) }
     ensures refused { IfErr result (spec.RefusesSolving conflicts) }
-    // What is refused takes no memory.
+    // A refusal takes no memory.
     ensures early { IsErrOf result SolveFault.NoMemory → spec.IsConflictLimit conflicts }
     // It is no worse than what was known.
     ensures no_worse { IfOk result (spec.IsNoWorse known) }

@@ -1,6 +1,6 @@
 //! The bounds of all quantities, with the order in which they rose.
 
-use crate::lists::{at, put};
+use crate::arrays::{at, put};
 use crate::literals::negated;
 use crate::stop::{Cause, Clash, Stop};
 use crate::work::Work;

@@ -1,8 +1,8 @@
-//! Who is told how far a search is.
+//! Watchers of a search, which receive its progress.
 
 ghost use Rattle.plan_solve.specs.Progress.{Progress, Hears, HearsNothing};
 
-/// Who is told how far a search is from time to time, ends it, and is told when it is over.
+/// A watcher of a search. It receives the progress from time to time and the end, and can end it.
 pub trait Watcher {
     /// That it was told this, as far as is known.
     ghost was_told: { Self → Progress → Type 0 };

@@ -28,7 +28,8 @@ use Rattle.plan_rows.specs.Names.{is_digest}
 use Rattle.plan_rows.specs.World.{Digest, Published, Desk, Plan, Bind, Lag, same_text, is_code, is_desk, is_plan, is_bind_of, is_bind, is_lag_of, is_lag}
 use Rattle.plan_store.specs.Tables as tables
 use Rattle.plan_store.specs.TableRows.{row_at}
-use Rattle.plan_store.specs.Rows.{kind_in, plan_kind_in, digest_in, digest_value, decoded, written_code, read_code, written_desk, read_desk, written_plan, read_plan, written_bind, read_bind, written_lag, read_lag}
+use Rattle.plan_store.specs.Rows.{kind_in, plan_kind_in, digest_in, digest_value, decoded, written_code, read_code, written_desk, read_desk, written_plan}
+use Rattle.plan_store.specs.Rows.{read_plan, written_bind, read_bind, written_lag, read_lag}
 use Rattle.plan_store.proofs.QueryForms.{is_given}
 use Rattle.plan_store.proofs.EditLemmas.{cast_int}
 

@@ -37,7 +37,9 @@ use Rattle.plan_store.proofs.EffectLemmas.{went, same_value}
 use Rattle.plan_store.proofs.CodecLemmas.{digest_back}
 use Rattle.plan_store.proofs.BookCallLemmas.{store_left}
 use Rattle.plan_store.proofs.TransactionLemmas.{survives_itself}
-use Rattle.plan_store.proofs.CreateMeanings.{IsCreation, with_meta, with_published, with_desks, with_plans, with_binds, create_meta, creates_meta, create_published, creates_published, create_desks, creates_desks, create_plans, creates_plans, create_binds, creates_binds, create_lags, creates_lags, fill_meta, fill_terms, fill_is, fill_plain}
+use Rattle.plan_store.proofs.CreateMeanings.{IsCreation, with_meta, with_published, with_desks, with_plans, with_binds, create_meta, creates_meta}
+use Rattle.plan_store.proofs.CreateMeanings.{create_published, creates_published, create_desks, creates_desks, create_plans, creates_plans, create_binds}
+use Rattle.plan_store.proofs.CreateMeanings.{creates_binds, create_lags, creates_lags, fill_meta, fill_terms, fill_is, fill_plain}
 
 -- a new table has no row, and the others keep theirs
 pub record Made (before after : Schema) (old new : State) : Type 0 where

@@ -1,5 +1,6 @@
 -- The result of each query that lists a table of the office.
-use Rattle.std.proofs.Common.{◌≡◌, ◌<ℤ◌, ℕ, ℤ, pos, true, false, ◌==◌, nat_lt, List, [], ◌∷◌, map, refl, sym, ap, ◌∙◌, string_bytes, Ordering, Less, Equal, Greater, is_gt, is_lt, int_cmp, nat_cmp, arith}
+use Rattle.std.proofs.Common.{◌≡◌, ◌<ℤ◌, ℕ, ℤ, pos, true, false, ◌==◌, nat_lt, List, [], ◌∷◌, map, refl, sym, ap, ◌∙◌, string_bytes, Ordering, Less, Equal}
+use Rattle.std.proofs.Common.{Greater, is_gt, is_lt, int_cmp, nat_cmp, arith}
 use Rattle.std.specs.Ordering.{ordering_then, ordering_reverse}
 use Rattle.std.specs.Cmp.Lexicographic.{slice_cmp}
 use Rattle.std.proofs.lemmas.Cmp.{nat_list_cmp_total}

@@ -1,5 +1,6 @@
 -- Rows of a table whose rowids rise.
-use Rattle.std.proofs.Common.{◌≡◌, ◌+◌, ℕ, zero, suc, ℤ, pos, true, false, not, ◌||◌, List, [], ◌∷◌, ◌++◌, length, map, drop, None, IsTrue, refl, sym, ap, ap₂, subst, ◌∙◌, arith, append_assoc, length-append, Less}
+use Rattle.std.proofs.Common.{◌≡◌, ◌+◌, ℕ, zero, suc, ℤ, pos, true, false, not, ◌||◌, List, [], ◌∷◌, ◌++◌, length, map, drop, None, IsTrue, refl, sym, ap, ap₂}
+use Rattle.std.proofs.Common.{subst, ◌∙◌, arith, append_assoc, length-append, Less}
 use Rattle.std.specs.List.{AllByRecursion}
 use Rattle.std.proofs.lemmas.Bool.{and_parts}
 use Rattle.std.proofs.lemmas.List.{get_or_past}

@@ -1,5 +1,7 @@
 -- The result of each query on the office in the tables.
-use Rattle.std.proofs.Common.{◌≡◌, ◌<ℤ◌, ℕ, ℤ, pos, Bool, true, false, ◌&&◌, ◌||◌, ◌==◌, nat_lt, cond, List, [], ◌∷◌, length, map, filter, find, slice_get, Option, Some, None, IfSome, option_map, refl, sym, ap, ap₂, subst, ◌∙◌, string_bytes, Ordering, Less, Equal, Greater, is_gt, is_lt, int_cmp, nat_cmp, arith}
+use Rattle.std.proofs.Common.{◌≡◌, ◌<ℤ◌, ℕ, ℤ, pos, Bool, true, false, ◌&&◌, ◌||◌, ◌==◌, nat_lt, cond, List, [], ◌∷◌, length, map, filter, find, slice_get}
+use Rattle.std.proofs.Common.{Option, Some, None, IfSome, option_map, refl, sym, ap, ap₂, subst, ◌∙◌, string_bytes, Ordering, Less, Equal, Greater, is_gt}
+use Rattle.std.proofs.Common.{is_lt, int_cmp, nat_cmp, arith}
 use Rattle.std.specs.List.{AllByRecursion, AllZip, list_any}
 use Rattle.std.specs.Ordering.{ordering_then, ordering_reverse}
 use Rattle.std.specs.Cmp.Lexicographic.{slice_cmp}
@@ -31,13 +33,15 @@ use Rattle.plan_rows.specs.declared.rows.LagEntry.{LagEntry}
 use Rattle.plan_rows.specs.declared.rows.PlanRow.{PlanRow}
 use Rattle.plan_rows.specs.Names.{kind_text, plan_kind_text}
 use Rattle.plan_rows.specs.Plans.{code_before}
-use Rattle.plan_rows.specs.World.{Digest, Published, Desk, Plan, Bind, Lag, World, same_text, is_code, is_desk, is_plan_of, is_plan, is_bind_by, is_bind_of, is_bind, is_lag_by, is_lag_of, is_lag, code_in, desk_in, plan_in}
+use Rattle.plan_rows.specs.World.{Digest, Published, Desk, Plan, Bind, Lag, World, same_text, is_code, is_desk, is_plan_of, is_plan, is_bind_by, is_bind_of}
+use Rattle.plan_rows.specs.World.{is_bind, is_lag_by, is_lag_of, is_lag, code_in, desk_in, plan_in}
 use Rattle.plan_rows.specs.Views.{view}
 use Rattle.plan_rows.specs.Plans.{in_order, bind_before, lag_before, place_of, arc_of, places_of, lags_of}
 use Rattle.plan_rows.specs.Books.{Matches, IsPlanAnswer, IsDeskAnswer, IsCapacityAnswer, ListsCodes, published_in, bind_in, lag_in}
 use Rattle.plan_store.specs.declared.query_rows.PlanPart.{PlanPart}
 use Rattle.plan_store.specs.TableRows.{row_at, Keeps}
-use Rattle.plan_store.specs.Rows.{kind_in, plan_kind_in, text_in, blob_in, number_in, digest_in, digest_value, number_value, written_code, read_code, written_desk, read_desk, written_plan, read_plan, written_bind, read_bind, written_lag, read_lag, office_in}
+use Rattle.plan_store.specs.Rows.{kind_in, plan_kind_in, text_in, blob_in, number_in, digest_in, digest_value, number_value, written_code, read_code}
+use Rattle.plan_store.specs.Rows.{written_desk, read_desk, written_plan, read_plan, written_bind, read_bind, written_lag, read_lag, office_in}
 use Rattle.plan_store.specs.Stores.{world_of, HoldRows}
 use Rattle.plan_store.specs.Transactions.{meaning_of}
 use Rattle.plan_store.specs.BookCalls.{Stands}

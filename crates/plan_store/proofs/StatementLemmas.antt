@@ -23,11 +23,21 @@ use Rattle.plan_store.specs.TableRows.{row_at}
 use Rattle.plan_store.specs.Rows.{digest_value, number_value, written_code, read_code, written_desk, read_desk, written_plan, read_plan, written_bind, read_bind, written_lag, read_lag}
 use Rattle.plan_store.specs.Stores.{world_of, HoldRows}
 use Rattle.plan_store.proofs.QueryForms.{alone, is_given}
-use Rattle.plan_store.proofs.WriteMeanings.{publish_text, publish_is, publish_plain, publish_terms, republish_text, republish_is, republish_plain, republish_query, open_desk_text, open_desk_is, open_desk_plain, open_desk_terms, set_key_text, set_key_is, set_key_plain, set_key_query, raise_text, raise_is, raise_plain, raise_query, add_plan_text, add_plan_is, add_plan_plain, add_plan_terms, set_calendar_text, set_calendar_is, set_calendar_plain, set_calendar_query, remove_plan_text, remove_plan_is, remove_plan_plain, remove_plan_query, remove_binds_text, remove_binds_is, remove_binds_plain, remove_binds_query, remove_lags_text, remove_lags_is, remove_lags_plain, remove_lags_query, bind_text, bind_is, bind_plain, bind_terms, rebind_text, rebind_is, rebind_plain, rebind_query, set_lag_text, set_lag_is, set_lag_plain, set_lag_terms, reset_lag_text, reset_lag_is, reset_lag_plain, reset_lag_query, remove_lag_text, remove_lag_is, remove_lag_plain, remove_lag_query}
+use Rattle.plan_store.proofs.WriteMeanings.{publish_text, publish_is, publish_plain, publish_terms, republish_text, republish_is, republish_plain}
+use Rattle.plan_store.proofs.WriteMeanings.{republish_query, open_desk_text, open_desk_is, open_desk_plain, open_desk_terms, set_key_text, set_key_is}
+use Rattle.plan_store.proofs.WriteMeanings.{set_key_plain, set_key_query, raise_text, raise_is, raise_plain, raise_query, add_plan_text, add_plan_is}
+use Rattle.plan_store.proofs.WriteMeanings.{add_plan_plain, add_plan_terms, set_calendar_text, set_calendar_is, set_calendar_plain, set_calendar_query}
+use Rattle.plan_store.proofs.WriteMeanings.{remove_plan_text, remove_plan_is, remove_plan_plain, remove_plan_query, remove_binds_text, remove_binds_is}
+use Rattle.plan_store.proofs.WriteMeanings.{remove_binds_plain, remove_binds_query, remove_lags_text, remove_lags_is, remove_lags_plain, remove_lags_query}
+use Rattle.plan_store.proofs.WriteMeanings.{bind_text, bind_is, bind_plain, bind_terms, rebind_text, rebind_is, rebind_plain, rebind_query, set_lag_text}
+use Rattle.plan_store.proofs.WriteMeanings.{set_lag_is, set_lag_plain, set_lag_terms, reset_lag_text, reset_lag_is, reset_lag_plain, reset_lag_query}
+use Rattle.plan_store.proofs.WriteMeanings.{remove_lag_text, remove_lag_is, remove_lag_plain, remove_lag_query}
 use Rattle.plan_store.proofs.EffectLemmas.{insert_sets, update_sets, delete_sets}
 use Rattle.plan_store.proofs.KeepLemmas.{few_pass}
-use Rattle.plan_store.proofs.CodecLemmas.{code_casts, desk_casts, plan_casts, bind_casts, lag_casts, code_back, desk_back, plan_back, bind_back, lag_back, code_tested, desk_tested, plan_tested, bind_of_tested, bind_tested, lag_of_tested, lag_tested}
-use Rattle.plan_store.proofs.StepLemmas.{Steps, code_inserted, code_updated, desk_inserted, desk_updated, plan_inserted, plan_updated, plan_deleted, bind_inserted, bind_updated, bind_deleted, lag_inserted, lag_updated, lag_deleted}
+use Rattle.plan_store.proofs.CodecLemmas.{code_casts, desk_casts, plan_casts, bind_casts, lag_casts, code_back, desk_back, plan_back, bind_back, lag_back}
+use Rattle.plan_store.proofs.CodecLemmas.{code_tested, desk_tested, plan_tested, bind_of_tested, bind_tested, lag_of_tested, lag_tested}
+use Rattle.plan_store.proofs.StepLemmas.{Steps, code_inserted, code_updated, desk_inserted, desk_updated, plan_inserted, plan_updated, plan_deleted}
+use Rattle.plan_store.proofs.StepLemmas.{bind_inserted, bind_updated, bind_deleted, lag_inserted, lag_updated, lag_deleted}
 
 -- ---- a key names one row
 

@@ -1,5 +1,6 @@
 -- The text of an office's rows that a hasher received, step by step.
-use Rattle.std.proofs.Common.{◌≡◌, ◌⊎◌, inl, inr, ℕ, suc, ◌+◌, ◌<◌, take, get_or, Bool, true, false, ◌==◌, List, [], ◌∷◌, ◌++◌, length, map, find, Option, Some, None, Ok, refl, sym, ap, ap₂, subst, ◌∙◌, arith, cond, string_bytes}
+use Rattle.std.proofs.Common.{◌≡◌, ◌⊎◌, inl, inr, ℕ, suc, ◌+◌, ◌<◌, take, get_or, Bool, true, false, ◌==◌, List, [], ◌∷◌, ◌++◌, length, map, find, Option, Some}
+use Rattle.std.proofs.Common.{None, Ok, refl, sym, ap, ap₂, subst, ◌∙◌, arith, cond, string_bytes}
 use Rattle.std.specs.List.{flat_map, AllByRecursion}
 use Rattle.std.proofs.lemmas.Bool.{and_parts, both_ways, cases_Bool, cond-true, cond-false}
 use Rattle.std.proofs.lemmas.Bool.Decides.{nat_tests}

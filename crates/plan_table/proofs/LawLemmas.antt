@@ -1,4 +1,4 @@
--- What the text of a table says: the project of the table.
+-- The text of a table says the project of the table.
 use Rattle.std.proofs.Common.{◌≡◌, ◌≢◌, ℕ, ◌+◌, ◌≤◌, Bool, true, false, List, [], ◌∷◌, ◌++◌, Some, length, map, sum, codes, refl, sym, ap, ◌∙◌, subst, append-nil, arith, cond}
 use Rattle.std.specs.Prelude.{not, All, nat_le}
 use Rattle.std.specs.List.{AllByRecursion, list_all, flat_map}

@@ -18,10 +18,6 @@ pub fails_first : {A B : Type 0} (e : ReadError) (first : Result A Fault) (next 
 fails_first errors.Memory first next total h is = tt
 fails_first (errors.Fault f) first next total h is = sym is ∙ ap (λ r. r >>= next) h
 
--- what is read first, and then the rest
-pub ok_first : {A B : Type 0} (first : Result A Fault) (x : A) (next : A → Result B Fault) (total : Result B Fault) → first ≡ Ok x → (first >>= next) ≡ total → next x ≡ total
-ok_first first x next total h is = sym (ap (λ r. r >>= next) h) ∙ is
-
 -- a fault fails whatever is read
 pub other_type : (A B : Type 0) (e : ReadError) (c : TableCode) (line : ℕ) (word : List ℕ) → Fails e (fault {A = A} c line word) → Fails e (fault {A = B} c line word)
 other_type A B errors.Memory c line word h = tt

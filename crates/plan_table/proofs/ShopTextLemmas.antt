@@ -1,4 +1,4 @@
--- What the text of a list of orders says: the shop of the list.
+-- The text of a list of orders says the shop of the list.
 use Rattle.std.proofs.Common.{◌≡◌, ℕ, ◌+◌, ◌≤◌, ◌<◌, ◌==◌, Bool, true, false, List, [], ◌∷◌, ◌++◌, Option, Some, None, Ok, length, map, codes, refl, sym, ap, ◌∙◌, subst, append_assoc, append-nil, arith, cond}
 use Rattle.std.specs.Prelude.{not, count_by, is_some, nat_eq, nat_le, nat_lt, take}
 use Rattle.std.specs.List.{AllByRecursion, flat_map, list_all, position, position_or_len}

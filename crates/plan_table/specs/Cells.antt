@@ -1,4 +1,4 @@
--- What the cells of an activity say.
+-- The values in the cells of an activity.
 use Rattle.std.specs.Prelude.{ℕ, ◌==◌, ◌&&◌, ◌||◌, Bool, if◌then◌else◌, List, [], Option, Some, None, Result, Ok, length, nat_le}
 use Rattle.std.specs.List.{list_all}
 use Rattle.std.specs.Str.{str_eq_ignore_ascii_case}

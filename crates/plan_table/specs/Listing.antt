@@ -1,4 +1,4 @@
--- What the text of a table says: its activities, its resources, and whether the ids are its own.
+-- The list that a text says: its activities, its resources, and whether the ids are its own.
 use Rattle.std.specs.Prelude.{ℕ, ◌+◌, if◌then◌else◌, List, [], ◌∷◌, ◌++◌, Option, Some, None, Result, Ok, Err, length, take, nat_le, slice_index_or, count_by, is_some}
 use Rattle.std.specs.Str.{is_utf8}
 use Rattle.std.specs.Str.Lossy.{utf8_valid_len}

@@ -1,4 +1,4 @@
--- What a table is refused for.
+-- The reasons for which a table is refused.
 use Rattle.std.specs.Prelude.{◌≡◌, ◌⊎◌, ℕ, zero, suc, ◌-◌, List, [], ◌∷◌, Ok, Err}
 use Rattle.std.specs.List.{flat_map}
 use Rattle.plan_net.specs.Cycle.{IsNamedCycle}

@@ -1,4 +1,4 @@
--- What a row of a table says: an activity.
+-- The activity that a row of a table says.
 use Rattle.std.specs.Prelude.{ℕ, ◌==◌, ◌&&◌, Bool, if◌then◌else◌, List, [], ◌∷◌, ◌++◌, Result, Ok, length, drop, not, nat_le, nat_lt}
 use Rattle.std.specs.List.{list_all, list_any, sum_by}
 use Rattle.std.specs.Str.Lossy.{utf8_lossy}

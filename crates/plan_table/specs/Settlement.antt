@@ -1,5 +1,5 @@
--- What the columns of a list are. A header that isn't a known one doesn't say it alone: it is settled
--- by the cells of the column, and by the given capacities.
+-- The kinds of the columns of a list. An unknown header doesn't decide the kind alone: the cells of
+-- the column and the given capacities do.
 use Rattle.std.specs.Prelude.{◌≡◌, ℕ, ◌+◌, ◌==◌, ◌&&◌, ◌||◌, Bool, true, false, if◌then◌else◌, List, [], ◌∷◌, ◌++◌, Option, Some, None, Result, Ok, length, map, drop, not, is_some}
 use Rattle.std.specs.List.{list_any}
 use Rattle.plan_psplib.specs.Lines.{trim}

@@ -1,4 +1,4 @@
--- What the text of a list of orders says: a job shop.
+-- The job shop that the text of a list of orders says.
 use Rattle.std.specs.Prelude.{ℕ, ◌+◌, ◌==◌, ◌&&◌, Bool, true, false, if◌then◌else◌, List, [], ◌∷◌, ◌++◌, Result, Ok, codes, count_by, drop, length, map, nat_le, nat_lt}
 use Rattle.std.specs.String.{string_bytes}
 use Rattle.plan_net.specs.Limits.{longest_sum}

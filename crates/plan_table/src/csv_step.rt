@@ -4,7 +4,7 @@ ghost use Rattle.std.specs.Prelude.{◌≡◌};
 ghost use Rattle.csv.specs.Machine as machine;
 ghost use Rattle.plan_table.specs.Csv as spec;
 
-/// Where a reader stands in a record.
+/// The state of a reader in a record.
 #[derive(Clone, Copy, PartialEq, Eq)]
 pub enum State {
     StartRecord,
@@ -15,7 +15,7 @@ pub enum State {
     AfterCr,
 }
 
-/// What a byte does.
+/// The action of a byte.
 #[derive(Clone, Copy, PartialEq, Eq)]
 pub enum Action {
     Skip,

@@ -70,7 +70,7 @@ fn is_digit(byte: u8) -> bool
     byte >= 48 && byte <= 57
 }
 
-// Where the digits at the front of a cell end, if something follows them.
+// Returns the end of the digits at the front of a cell, if something follows them.
 fn digits_end(cell: &[u8]) -> Option<usize>
     ensures { result ≡ spec.digits_end cell.now }
 {

@@ -24,7 +24,7 @@ use std::alloc::{AllocError, Global};
 /// The most activities of a table.
 const MOST_ROWS: usize = 500;
 
-/// What rows say so far.
+/// The entries of the rows so far.
 #[derive(Drop)]
 pub struct Entries {
     pub activities: Vec<Activity>,
@@ -331,7 +331,7 @@ fn read_activity_row(
     add(alloc, entries, line, activity)
 }
 
-// What a row adds.
+// Reads the entry of a row.
 #[tactic(auto, unfolding(crate::specs::Entries::entry_read))]
 fn read_entry(
     alloc: Global,
@@ -359,7 +359,7 @@ fn read_entry(
     read_activity_row(alloc, heads, ids, entries, row.line, &id, &row.cells)
 }
 
-// What rows say, with these ids of all activities.
+// Reads the entries of rows, with these ids of all activities.
 #[tactic(auto, unfolding(crate::specs::Entries::entries_at))]
 fn read_all(
     alloc: Global,
@@ -383,7 +383,7 @@ fn read_all(
     Ok(entries)
 }
 
-/// What the rows of a table say. T12 (the line of the row) if there are more than 500 activities
+/// Reads the rows of a table. T12 (the line of the row) if there are more than 500 activities
 /// comes before any other error of a row; T12 (line 0) if there is none comes last.
 #[tactic(auto, unfolding(crate::specs::Entries::entries_in))]
 pub fn read_entries(alloc: Global, heads: &[Head], rows: &[Row]) -> Result<Entries, ReadError>

@@ -1,4 +1,4 @@
-//! What the text of a table says.
+//! The list that a text says.
 
 ghost use Rattle.std.specs.Prelude.{◌≡◌, ◌≤◌, [], None, length, map, option_map, slice_index_or};
 ghost use Rattle.plan_psplib.specs.Plain.{longest_text};
@@ -111,7 +111,7 @@ fn or_none(capacities: &Option<Vec<Option<u32>>>) -> &[Option<u32>]
     }
 }
 
-// What rows say under columns, with overrides.
+// Reads rows under columns, with overrides.
 #[tactic(auto, unfolding(crate::specs::Listing::rows_under))]
 fn read_rows_under(
     alloc: Global,
@@ -136,7 +136,7 @@ fn read_rows_under(
     })
 }
 
-// What records say, with overrides.
+// Reads records, with overrides.
 #[tactic(auto, unfolding(crate::specs::Listing::table_in))]
 fn read_rows(alloc: Global, overrides: &[Override<'_>], rows: &[Row]) -> Result<Listing, ReadError>
     ensures { Gives spec.listing_of result (spec.table_in (map override_of overrides.now)
@@ -195,7 +195,7 @@ pub fn read_rows_of(alloc: Global, text: &[u8]) -> Result<Vec<Row>, ReadError>
     closed_records(alloc, text)
 }
 
-/// What the text of a table says with overrides, or the first check that it fails.
+/// Reads the text of a table with overrides, or returns the first check that it fails.
 pub fn read_listing(
     alloc: Global,
     overrides: &[Override<'_>],

@@ -36,7 +36,7 @@ fn name_section(text: &[u8]) -> Lines<'_>
     lines
 }
 
-// Where the first blank stands.
+// Returns the place of the first blank.
 fn first_blank(text: &[u8]) -> Option<usize>
     ensures { result ≡ position blank text.now }
 {
@@ -66,7 +66,7 @@ fn name_in(text: &[u8]) -> Option<NameLine<'_>>
     }
 }
 
-/// What a line names.
+/// Returns the name in a line.
 pub fn named<'a>(key: &[u8], text: &'a [u8]) -> Option<NameLine<'a>>
     ensures { option_map spec.name_of result ≡ spec.named key.now text.now }
 {

@@ -12,7 +12,7 @@ use crate::fault::{ReadError, TableCode};
 use plan_psplib::Words;
 use std::alloc::{AllocError, Global};
 
-/// What other rows can name an activity by: its id and its name.
+/// The id and the name of an activity, by which other rows can refer to it.
 #[derive(Drop)]
 pub struct Label {
     pub id: Vec<u8>,

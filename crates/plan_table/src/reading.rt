@@ -88,7 +88,7 @@ fn check_cycle(alloc: Global, listing: &Listing) -> Result<(), ReadError>
 /// Only activities without a cycle make a table; otherwise the fault names the cycle by its ids (T11).
 /// Behind all other checks a need above its capacity is T19, unless the activity takes no time.
 pub fn read_table(alloc: Global, text: &[u8]) -> Result<Table, ReadError>
-    // What is read is what the text says.
+    // The table is the one that the text says.
     ensures found { IfOk result (λ t. table_read text.now ≡ Ok t) }
     // Its needs are at most its capacities.
     ensures fits { IfOk result (λ t. table_fits t ≡ Ok tt) }
@@ -106,7 +106,7 @@ pub fn read_sound_table(
     overrides: &[Override<'_>],
     text: &[u8],
 ) -> Result<Table, ReadError>
-    // What is read is what the text says with these capacities.
+    // The table is the one that the text says with these capacities.
     ensures found { IfOk result (λ t. table_read_with (map override_of overrides.now) text.now
         ≡ Ok t) }
     // Which check is the first that fails, or which cycle there is.
@@ -133,7 +133,7 @@ pub fn read_table_with(
     overrides: &[Override<'_>],
     text: &[u8],
 ) -> Result<Table, ReadError>
-    // What is read is what the text says with these capacities.
+    // The table is the one that the text says with these capacities.
     ensures found { IfOk result (λ t. table_read_with (map override_of overrides.now) text.now
         ≡ Ok t) }
     // Its needs are at most its capacities.

@@ -22,7 +22,7 @@ pub struct Row {
     pub cells: Vec<Vec<u8>>,
 }
 
-/// What has been read of a text.
+/// The part of a text that has been read.
 #[derive(Drop)]
 pub struct Machine {
     pub state: State,
@@ -99,7 +99,7 @@ impl Machine {
         Ok(())
     }
 
-    // What an action does with a byte.
+    // Does an action with a byte.
     fn act(&mut self, alloc: Global, byte: u8, action: Action) -> Result<(), AllocError>
         ensures { OnOk result (spec.machine_of self.new ≡ spec.acted
             (spec.machine_of self.old) byte (spec.action_of action)) }
@@ -226,7 +226,7 @@ fn delimiter_of(line: &[u8]) -> u8
     }
 }
 
-// Where the first line ends.
+// Returns the end of the first line.
 fn first_line_end(text: &[u8]) -> Option<usize>
     ensures { result ≡ position is_line_feed text.now }
 {

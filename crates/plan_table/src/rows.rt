@@ -111,7 +111,7 @@ pub struct Ids<'a> {
     pub before: &'a [Label],
 }
 
-// What a cell of a column says of an activity.
+// Reads the cell of a column of an activity.
 #[tactic(auto, unfolding(crate::specs::Rows::cell_read))]
 fn read_cell(
     alloc: Global,

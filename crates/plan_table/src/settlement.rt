@@ -1,4 +1,4 @@
-//! What the columns of a list are: an unknown header is settled by the cells of its column.
+//! The kinds of the columns of a list: the cells of a column settle an unknown header.
 
 ghost use Rattle.std.specs.Prelude.{◌≡◌, ◌&&◌, [], map, not, IfOk};
 ghost use Rattle.std.specs.List.{list_any};
@@ -18,7 +18,7 @@ use crate::synonyms::{is_note_word, is_successor_word, synonym_kind};
 use plan_psplib::trim;
 use std::alloc::{AllocError, Global};
 
-/// What settles columns: the given capacities, the rows behind the header, and where the ids are.
+/// The facts that settle columns: the given capacities, the rows, and the place of the ids.
 #[derive(Clone, Copy)]
 pub struct Body<'a> {
     pub overrides: &'a [Override<'a>],
@@ -109,7 +109,7 @@ fn ids_from(overrides: &[Override<'_>], heads: &[Head]) -> Option<usize>
     None
 }
 
-/// Where the ids are: in the column `id`, or else in the first one that can have them.
+/// Returns the place of the ids: the column `id`, or else the first one that can have them.
 pub fn ids_place(overrides: &[Override<'_>], heads: &[Head]) -> Option<usize>
     ensures { result ≡ spec.ids_place (map override_of overrides.now) (map head_of heads.now) }
 {
@@ -119,7 +119,7 @@ pub fn ids_place(overrides: &[Override<'_>], heads: &[Head]) -> Option<usize>
     }
 }
 
-// What a column without a capacity and without another kind is.
+// Returns the kind of a column without a capacity and without another kind.
 fn note_or_resource(key: &[u8]) -> Column
     ensures { result ≡ spec.note_or_resource key.now }
 {
@@ -137,7 +137,7 @@ fn is_new(kind: Column, before: &[Head], behind: &[Head]) -> bool
     !(has_kind(before, kind) || has_kind(behind, kind))
 }
 
-// What column `k` between others is if its header isn't a known one.
+// Returns the kind of column `k` between others if its header isn't a known one.
 #[tactic(auto, unfolding(crate::specs::Settlement::other_column))]
 fn other_column(body: &Body<'_>, before: &[Head], k: usize, head: &Head, behind: &[Head]) -> Column
     ensures { result ≡ spec.other_column (spec.body_of body.now) (map head_of before.now) k

@@ -23,7 +23,7 @@ const MOST_ORDERS: usize = 50;
 /// The most machines of a list.
 const MOST_MACHINES: usize = 20;
 
-/// What rows say so far.
+/// The entries of the rows so far.
 #[derive(Drop)]
 pub struct ShopEntries {
     pub orders: Vec<String>,
@@ -275,7 +275,7 @@ fn check_entries(alloc: Global, entries: &ShopEntries) -> Result<(), ReadError>
     )
 }
 
-// What records say.
+// Reads records.
 #[tactic(auto, unfolding(crate::specs::ShopReading::shop_in))]
 fn read_entries(alloc: Global, rows: &[Row]) -> Result<ShopEntries, ReadError>
     ensures { Gives (λ e. spec.table_of (spec.entries_of e)) result (spec.shop_in
@@ -302,7 +302,7 @@ fn read_entries(alloc: Global, rows: &[Row]) -> Result<ShopEntries, ReadError>
 /// headers), and at the end T12 (line 0: no order or no machine) and T15 (an order with more steps
 /// than there are machines).
 pub fn read_shop_table(alloc: Global, text: &[u8]) -> Result<ShopTable, ReadError>
-    // What is read is what the text says.
+    // The list is the one that the text says.
     ensures found { IfOk result (λ t. spec.shop_table_read text.now ≡ Ok t) }
     // Which check is the first that fails.
     ensures refused { IfErr result (λ e. Fails e (spec.shop_table_read text.now)) }

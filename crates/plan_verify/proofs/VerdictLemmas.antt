@@ -1,4 +1,4 @@
--- What a kernel shows.
+-- The bounds that a kernel shows.
 use Rattle.std.proofs.Common.{◌≡◌, ◌∙◌, ℕ, ◌≤◌, List, sym, arith}
 use Rattle.plan_sgs.specs.Problem.{Problem}
 use Rattle.plan_kernel.specs.declared.input.Input.{Input}

@@ -1,4 +1,4 @@
--- What a log shows of a problem (docs/definitions.md, "Verdicts of logs").
+-- The facts about a problem that a log shows (docs/definitions.md, "Verdicts of logs").
 use Rattle.std.specs.Prelude.{◌≡◌, ◌⊎◌, ℕ, ◌≤◌, List, ◌++◌, codes}
 use Rattle.std.specs.Fmt.{decimal}
 use Rattle.plan_psplib.specs.Project.{Project, SaysProject, IsFirstFailing}

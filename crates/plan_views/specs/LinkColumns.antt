@@ -1,14 +1,15 @@
 -- Columns with the resources and the predecessors of activities (docs/definitions.md, "Tables and
 -- charts").
 use Rattle.std.specs.Prelude.{ℕ, ◌+◌, ◌-◌, ◌==◌, if◌then◌else◌, List, [], ◌∷◌, ◌++◌}
-use Rattle.std.specs.Prelude.{Option, Some, None, map, fold, length, slice_index, codes, decimal}
+use Rattle.std.specs.Prelude.{Option, Some, None, map, fold, max, length, slice_index, codes, decimal}
 use Rattle.std.specs.List.{range_with_len, slice_get}
 use Rattle.plan_net.specs.Network.{Net, count_of}
 use Rattle.plan_sgs.specs.Instances.{Planned}
 use Rattle.plan_table.specs.Names.{Name, first_name}
-use Rattle.plan_formats.specs.Columns.{Column}
+use Rattle.plan_formats.specs.Columns.{Column, characters}
 use Rattle.plan_formats.specs.NamedTables.{with_column}
 use Rattle.plan_formats.specs.Tables.{Table}
+use Rattle.plan_formats.specs.declared.column.Layout.{Layout}
 use Rattle.plan_formats.specs.declared.column.Layout.TheVariants as layout
 use Rattle.plan_views.specs.Predecessors.{predecessor_words}
 use Rattle.plan_views.specs.declared.links.ActivityLinks as declared
@@ -80,22 +81,33 @@ links_of l = record {
   predecessors = l.predecessors.items;
 }
 
--- those of activity j
+-- those of activity j, with these words for the predecessors
 abbrev pub links_at : Planned → List Name → List Name → ℕ → Links
-links_at i names ids j = record {
+links_at i names words j = record {
   number = j;
   resources = needs_text names (needs_of i j);
-  predecessors = predecessors_text ids j i.project.network.arcs;
+  predecessors = predecessors_text words j i.project.network.arcs;
 }
 
--- those of all activities, by the names of the resources and the words for the predecessors
-abbrev pub links_by : Planned → List Name → List Name → List Links
-links_by i names words =
-    map (links_at i names words) (range_with_len 1 (count_of i.project.network))
+-- no text
+abbrev pub no_links : ℕ → Links
+no_links j = record { number = j; resources = []; predecessors = [] }
 
--- the same by the ids of the activities
+-- the links of activity j if it has an id; no text without one
+abbrev pub links_if : Option Name → Planned → List Name → List Name → ℕ → Links
+links_if None i names words j = no_links j
+links_if (Some id) i names words j = links_at i names words j
+
+-- those of all activities, by the names of the resources, the ids of the activities and the words for
+-- the predecessors
+abbrev pub links_by : Planned → List Name → List Name → List Name → List Links
+links_by i names ids words =
+    map (λ j. links_if (first_name j ids) i names words j)
+    (range_with_len 1 (count_of i.project.network))
+
+-- the same with the words that the ids give
 abbrev pub project_links : Planned → List Name → List Name → List Links
-project_links i names ids = links_by i names (predecessor_words ids i.project.network)
+project_links i names ids = links_by i names ids (predecessor_words ids i.project.network)
 
 -- the texts by the numbers of the activities
 abbrev pub resource_line : Links → Name
@@ -104,16 +116,51 @@ resource_line l = record { number = l.number; name = l.resources }
 abbrev pub predecessor_line : Links → Name
 predecessor_line l = record { number = l.number; name = l.predecessors }
 
--- a column for CSV and JSON, which the text doesn't show
-abbrev pub field_column : List ℕ → Column
-field_column word = record { heading = word; word = word; layout = layout.Field }
+-- the characters of the longest of some texts and of a heading
+abbrev pub longest : List ℕ → List Name → ℕ
+longest heading texts =
+    fold (λ most text. max most (characters text.name)) (characters heading) texts
+
+-- a column of texts, with as many places as the longest of them and the heading have characters
+abbrev pub texts_column : List ℕ → List Name → Column
+texts_column word texts = record {
+  heading = word;
+  word = word;
+  layout = layout.Words (longest word texts);
+}
+
+-- a table with one more column of such texts
+abbrev pub with_texts : List ℕ → List Name → Table → Table
+with_texts word texts t = with_column (texts_column word texts) texts t
 
 -- a table with the resources of its activities
 abbrev pub with_resources : List Links → Table → Table
-with_resources links t = with_column (field_column (codes "resources")) (map resource_line links) t
+with_resources links t = with_texts (codes "resources") (map resource_line links) t
+
+-- the layout of a mark that columns follow
+abbrev pub wide : Layout → Layout
+wide (layout.Right places) = layout.Right places
+wide layout.Mark = layout.WideMark
+wide layout.WideMark = layout.WideMark
+wide layout.Label = layout.Label
+wide layout.Line = layout.Line
+wide (layout.Words places) = layout.Words places
+wide layout.Member = layout.Member
+
+abbrev pub wide_column : Column → Column
+wide_column c = record { heading = c.heading; word = c.word; layout = wide c.layout }
+
+-- a table whose marks columns can follow
+abbrev pub with_wide_marks : Table → Table
+with_wide_marks t = record {
+  above = t.above;
+  columns = map wide_column t.columns;
+  rows = t.rows;
+  below = t.below;
+}
 
 -- a table with the resources and the predecessors of its activities
 abbrev pub with_links : List Links → Table → Table
 with_links links t =
-    with_column (field_column (codes "predecessors")) (map predecessor_line links)
-    (with_resources links t)
+    with_texts (codes "predecessors") (map predecessor_line links)
+    (with_resources links (with_wide_marks t))

@@ -5,7 +5,7 @@ ghost use Rattle.plan_gantt.specs.Limits.{latest_end};
 
 use crate::bars::ChartRow;
 
-/// What the rows of a chart belong to.
+/// The owner of the rows of a chart.
 #[derive(Clone, Copy, Debug, PartialEq, Eq)]
 pub enum Owner {
     Activity,

@@ -36,7 +36,9 @@ pub use dates::date_view;
 pub use days::days_view;
 pub use id_comparisons::{IdSchedule, id_comparison_view};
 pub use line_lists::{name_view, verdict_view};
-pub use links::{ActivityLinks, needs_text, predecessors_text, project_links, with_links};
+pub use links::{
+    ActivityLinks, needs_text, predecessors_text, project_links, texts_column, with_links,
+};
 pub use moments::{MomentStyle, MomentTexts, moments_view, plan_moments};
 pub use plans::PlanRef;
 pub use schedules::schedule_view;

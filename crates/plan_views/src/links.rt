@@ -8,7 +8,7 @@ ghost use Rattle.plan_formats.specs.Tables.{table_of};
 ghost use Rattle.plan_views.specs.LinkColumns as spec;
 
 use crate::predecessors::{predecessor_words, word_lines};
-use plan_formats::{Column, Layout, Table, with_column};
+use plan_formats::{Column, Layout, Table, characters, with_column};
 use plan_sgs::Instance;
 use plan_table::{NameLine, first_name};
 use std::alloc::{AllocError, Global};
@@ -128,24 +128,48 @@ pub fn predecessors_text(
     Ok(text)
 }
 
-// Returns the resources and the predecessors of activity `j`.
+// Returns the resources and the predecessors of activity `j`, which have these words.
 fn links_at(
     alloc: Global,
     instance: &Instance<'_>,
     resources: &[NameLine<'_>],
-    ids: &[NameLine<'_>],
+    words: &[NameLine<'_>],
     j: u32,
 ) -> Result<ActivityLinks, AllocError>
     requires { IsActivity instance.now.project.network j }
     ensures { IfOk result (λ links. spec.links_of links ≡ spec.links_at instance.now
-        (map name_of resources.now) (map name_of ids.now) j) }
+        (map name_of resources.now) (map name_of words.now) j) }
 {
     let needs = instance.needs(j);
     let arcs = instance.network().arcs();
     Ok(ActivityLinks {
         number: j as u64,
         resources: needs_text(alloc, resources, needs)?,
-        predecessors: predecessors_text(alloc, ids, j, arcs)?,
+        predecessors: predecessors_text(alloc, words, j, arcs)?,
+    })
+}
+
+// Returns the same for an activity that has an id; no text for another one.
+fn links_if(
+    alloc: Global,
+    instance: &Instance<'_>,
+    resources: &[NameLine<'_>],
+    ids: &[NameLine<'_>],
+    words: &[NameLine<'_>],
+    j: u32,
+) -> Result<ActivityLinks, AllocError>
+    requires { IsActivity instance.now.project.network j }
+    ensures { IfOk result (λ links. spec.links_of links ≡ spec.links_if
+        (named j (map name_of ids.now)) instance.now
+        (map name_of resources.now) (map name_of words.now) j) }
+{
+    if first_name(ids, j as u64).is_some() {
+        return links_at(alloc, instance, resources, words, j);
+    }
+    Ok(ActivityLinks {
+        number: j as u64,
+        resources: Vec::new(alloc),
+        predecessors: Vec::new(alloc),
     })
 }
 
@@ -154,14 +178,15 @@ fn links_by(
     alloc: Global,
     instance: &Instance<'_>,
     resources: &[NameLine<'_>],
+    ids: &[NameLine<'_>],
     words: &[NameLine<'_>],
 ) -> Result<Vec<ActivityLinks>, AllocError>
     ensures { IfOk result (λ links. map spec.links_of links.items ≡ spec.links_by instance.now
-        (map name_of resources.now) (map name_of words.now)) }
+        (map name_of resources.now) (map name_of ids.now) (map name_of words.now)) }
 {
     let mut links = Vec::new(alloc);
     for k in 0..instance.network().len() {
-        links.push(links_at(alloc, instance, resources, words, k as u32 + 1)?)?;
+        links.push(links_if(alloc, instance, resources, ids, words, k as u32 + 1)?)?;
     }
     Ok(links)
 }
@@ -169,7 +194,7 @@ fn links_by(
 /// Returns the resources and the predecessors of each activity of a project as texts, by the names
 /// of its resources and the ids of its activities. A resource without a name is `R` and its number;
 /// resources of which nothing is needed are left out. A wait is `A+2`, and other predecessors without
-/// an id are left out.
+/// an id are left out. An activity without an id has no text.
 pub fn project_links(
     alloc: Global,
     instance: &Instance<'_>,
@@ -181,7 +206,7 @@ pub fn project_links(
 {
     let words = predecessor_words(alloc, ids, instance.network())?;
     let lines = word_lines(alloc, &words)?;
-    links_by(alloc, instance, resources, &lines)
+    links_by(alloc, instance, resources, ids, &lines)
 }
 
 // Returns the resources by the numbers of the activities.
@@ -220,15 +245,74 @@ fn predecessor_lines<'a>(
     Ok(lines)
 }
 
-// Returns a column for CSV and JSON, which the text doesn't show.
-fn field(word: &'static str) -> Column
-    ensures { column_of result ≡ spec.field_column word.now }
+// Returns the characters of the longest of some texts and of a heading.
+fn longest(heading: &str, texts: &[NameLine<'_>]) -> usize
+    ensures { result ≡ spec.longest heading.now (map name_of texts.now) }
+{
+    let mut most = characters(heading.as_bytes());
+    for text in texts {
+        most = most.max(characters(text.name));
+    }
+    most
+}
+
+/// Returns a column of texts, which has as many characters in the text as the longest of them or as
+/// the heading.
+pub fn texts_column(word: &'static str, texts: &[NameLine<'_>]) -> Column
+    ensures { column_of result ≡ spec.texts_column word.now (map name_of texts.now) }
 {
     Column {
         heading: word,
         word,
-        layout: Layout::Field,
+        layout: Layout::Words(longest(word, texts)),
     }
+}
+
+// Returns the layout of a mark that columns follow, and another layout as it is.
+fn wide(layout: Layout) -> Layout
+    ensures { result ≡ spec.wide layout }
+{
+    match layout {
+        Layout::Mark => Layout::WideMark,
+        other => other,
+    }
+}
+
+// Returns a column; columns can follow its mark.
+fn wide_column(column: &Column) -> Column
+    ensures { column_of result ≡ spec.wide_column (column_of column.now) }
+{
+    Column {
+        heading: column.heading,
+        word: column.word,
+        layout: wide(column.layout),
+    }
+}
+
+// Returns columns whose marks columns can follow.
+fn wide_columns(alloc: Global, columns: &[Column]) -> Result<Vec<Column>, AllocError>
+    ensures { IfOk result (λ made. map column_of made.items
+        ≡ map spec.wide_column (map column_of columns.now)) }
+{
+    let mut made = Vec::new(alloc);
+    for column in columns {
+        made.push(wide_column(column))?;
+    }
+    Ok(made)
+}
+
+// Returns a table whose marks columns can follow.
+fn with_wide_marks<'a>(alloc: Global, table: Table<'a>) -> Result<Table<'a>, AllocError>
+    ensures { IfOk result (λ made.
+        table_of made ≡ spec.with_wide_marks (table_of table.entry)) }
+{
+    let columns = wide_columns(alloc, &table.columns)?;
+    Ok(Table {
+        above: table.above,
+        columns,
+        rows: table.rows,
+        below: table.below,
+    })
 }
 
 // Returns a table with the resources of its activities.
@@ -241,11 +325,12 @@ fn with_resources<'a>(
         ≡ spec.with_resources (map spec.links_of links.now) (table_of table.entry)) }
 {
     let lines = resource_lines(alloc, links)?;
-    with_column(alloc, table, field("resources"), &lines)
+    let column = texts_column("resources", &lines);
+    with_column(alloc, table, column, &lines)
 }
 
 /// Returns a table with two more columns, `resources` and `predecessors`: for each row the texts of
-/// the activity whose number is in its first cell. CSV and JSON have them, the text doesn't.
+/// the activity whose number is in its first cell.
 pub fn with_links<'a>(
     alloc: Global,
     table: Table<'a>,
@@ -255,6 +340,8 @@ pub fn with_links<'a>(
         ≡ spec.with_links (map spec.links_of links.now) (table_of table.entry)) }
 {
     let lines = predecessor_lines(alloc, links)?;
-    let table = with_resources(alloc, table, links)?;
-    with_column(alloc, table, field("predecessors"), &lines)
+    let marked = with_wide_marks(alloc, table)?;
+    let table = with_resources(alloc, marked, links)?;
+    let column = texts_column("predecessors", &lines);
+    with_column(alloc, table, column, &lines)
 }

@@ -1,7 +1,8 @@
 -- A week that has a plan has one that ends by its limit: while a plan is longer, there is an
 -- instant behind all dates at which no activity is in progress. All later ones can start one
 -- instant earlier.
-use Rattle.std.proofs.Common.{◌≡◌, ◌≢◌, ◌∙◌, ℕ, zero, suc, ◌+◌, ◌-◌, ◌≤◌, ◌<◌, ◌&&◌, ◌⊎◌, max, min, inl, inr, true, List, [], ◌∷◌, Some, None, cond, nat_le, nat_lt, map, length, get_or, refl, sym, ap, subst, arith}
+use Rattle.std.proofs.Common.{◌≡◌, ◌≢◌, ◌∙◌, ℕ, zero, suc, ◌+◌, ◌-◌, ◌≤◌, ◌<◌, ◌&&◌, ◌⊎◌, max, min, inl, inr, true, List, [], ◌∷◌, Some, None, cond, nat_le}
+use Rattle.std.proofs.Common.{nat_lt, map, length, get_or, refl, sym, ap, subst, arith}
 use Rattle.std.specs.List.{All, sum_by}
 use Rattle.std.proofs.lemmas.Bool.{cases_lt, cases_eq, cond-true, cond-false, and_from, and_left, and_right, le-leb, lt-leb, lt-ltb, le-ltb}
 use Rattle.std.proofs.lemmas.List.{get_or-map, get_or_past, length-map}

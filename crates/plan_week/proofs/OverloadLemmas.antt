@@ -1,5 +1,6 @@
 -- Overloads: where they begin, and that they leave no plan.
-use Rattle.std.proofs.Common.{◌≡◌, ◌∙◌, ℕ, zero, suc, ◌+◌, ◌-◌, ◌≤◌, ◌<◌, ◌&&◌, ◌⊎◌, inl, inr, List, [], ◌∷◌, Option, Some, None, Contains, cond, nat_eq, nat_le, nat_lt, length, get_or, refl, sym, ap, subst, arith}
+use Rattle.std.proofs.Common.{◌≡◌, ◌∙◌, ℕ, zero, suc, ◌+◌, ◌-◌, ◌≤◌, ◌<◌, ◌&&◌, ◌⊎◌, inl, inr, List, [], ◌∷◌, Option, Some, None, Contains, cond, nat_eq}
+use Rattle.std.proofs.Common.{nat_le, nat_lt, length, get_or, refl, sym, ap, subst, arith}
 use Rattle.std.specs.List.{sum_by}
 use Rattle.std.specs.Option.{IfSome, IfNone}
 use Rattle.std.proofs.lemmas.Bool.{cases_lt, cases_eq, cond-true, cond-false, cond_both, and_from, and_left, and_right, le-leb, lt-leb, lt-ltb, le-ltb}
@@ -15,7 +16,8 @@ use Rattle.plan_week.specs.declared.week.State.{State}
 use Rattle.plan_week.specs.declared.week.State.TheVariants.{Open, Begun, Done}
 use Rattle.plan_week.specs.declared.week.Week.{Week}
 use Rattle.plan_week.specs.Weeks.{project_of, state_of, rest_of, end_of, needed_by, needed, missing, no_absence, KeepsState, IsWeekPlan}
-use Rattle.plan_week.specs.Overloads.{settled_start, held_from, held_by, held, IsOverload, IsSettled, IsLeaving, BeginsAt, IsFirstOf, IsFoundOf, IsEarlier, IsFirstOverload, HasNoOverload, OverloadsLeaveNoPlan}
+use Rattle.plan_week.specs.Overloads.{settled_start, held_from, held_by, held, IsOverload, IsSettled, IsLeaving, BeginsAt, IsFirstOf, IsFoundOf, IsEarlier}
+use Rattle.plan_week.specs.Overloads.{IsFirstOverload, HasNoOverload, OverloadsLeaveNoPlan}
 
 -- the amount that an activity holds from a start on
 pub held_none : (week : Week) (t k i start : ℕ) → (t < start) ⊎ (start + rest_of week i ≤ t) → held_from week t k i (Some start) ≡ 0

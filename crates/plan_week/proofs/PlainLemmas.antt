@@ -12,7 +12,8 @@ use Rattle.plan_kernel.specs.Plans.{taken_by}
 use Rattle.plan_week.specs.declared.week.State.{State}
 use Rattle.plan_week.specs.declared.week.State.TheVariants.{Open, Begun, Done}
 use Rattle.plan_week.specs.declared.week.Week.{Week}
-use Rattle.plan_week.specs.Weeks.{project_of, state_of, rest, rest_of, is_open, KeepsState, end_of, KeepsArc, needed_by, needed, missing, IsWeekPlan, makespan_of, IsPlainWeek, PlansAreFeasible, MakespansStay}
+use Rattle.plan_week.specs.Weeks.{project_of, state_of, rest, rest_of, is_open, KeepsState, end_of, KeepsArc, needed_by, needed, missing, IsWeekPlan}
+use Rattle.plan_week.specs.Weeks.{makespan_of, IsPlainWeek, PlansAreFeasible, MakespansStay}
 use Rattle.plan_week.proofs.ListLemmas.{unmapped}
 
 -- all of each activity is left

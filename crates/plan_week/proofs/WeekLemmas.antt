@@ -1,5 +1,6 @@
 -- The problem of a week has its plans.
-use Rattle.std.proofs.Common.{◌≡◌, ◌∙◌, ℕ, ◌+◌, ◌-◌, ◌≤◌, ◌<◌, ◌^◌, ◌&&◌, max, min, inl, inr, Bool, true, List, Vec, [], ◌∷◌, Some, None, cond, nat_eq, nat_le, nat_lt, map, length, get_or, refl, sym, ap, subst, arith}
+use Rattle.std.proofs.Common.{◌≡◌, ◌∙◌, ℕ, ◌+◌, ◌-◌, ◌≤◌, ◌<◌, ◌^◌, ◌&&◌, max, min, inl, inr, Bool, true, List, Vec, [], ◌∷◌, Some, None, cond, nat_eq, nat_le}
+use Rattle.std.proofs.Common.{nat_lt, map, length, get_or, refl, sym, ap, subst, arith}
 use Rattle.std.specs.List.{All, filter, sum_by}
 use Rattle.std.proofs.lemmas.Bool.{cases_lt, cond-false, and_left, and_right, le-leb, lt-leb, le-ltb}
 use Rattle.std.specs.declared.alloc.Global.{Global}

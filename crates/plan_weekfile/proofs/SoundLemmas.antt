@@ -53,12 +53,6 @@ sound_listed now bytes text found list p listed dates same is read table week =
 
 -- ---- the errors of each step
 
--- the error of the dates
-pub sound_dates : (now : Option ℕ) (bytes : List ℕ) (error : WeekError) (fault : ListFault)
-    → IsNoWeekList [] now (utf8_of bytes) error → fault ≡ fault_of_week error → IsNoSoundWeek now bytes fault
-sound_dates now bytes errors.Memory fault h is = subst (IsNoSoundWeek now bytes) (sym is) tt
-sound_dates now bytes (errors.Fault f) fault h is = subst (IsNoSoundWeek now bytes) (sym is) (inl h)
-
 -- the error of the plain list
 pub sound_plain : (now : Option ℕ) (bytes text : List ℕ) (list : WeekList) (error : SpreadsheetFault) (fault : ListFault)
     → IsWeekList [] now (utf8_of bytes) list → text ≡ text_of list bytes → plain.IsNoPlain [] text error

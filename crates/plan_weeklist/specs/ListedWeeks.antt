@@ -69,8 +69,8 @@ duration_by lasts Interrupted remaining = number_or lasts remaining
 abbrev pub duration_of : ℕ → Dates → ℕ
 duration_of lasts dates = duration_by lasts dates.begun dates.remaining
 
--- the state of an activity that isn't done. What remains of one that began is the number that is
--- given, or else its duration less the time that has passed.
+-- the state of an activity that isn't done. The rest of a begun one is the number that is given, or
+-- else its duration less the time that has passed.
 abbrev pub begun_state : ℕ → ℕ → Beginning → Dates → State
 begun_state today lasts Missing dates = Open (number_or 0 dates.earliest) dates.fixed
 begun_state today lasts Interrupted dates = Open (number_or 0 dates.earliest) dates.fixed

@@ -156,6 +156,51 @@ def is_plan(week, starts):
     return all(fits_at(week, starts, t) for t in range(week.today, last + 1))
 
 
+def miss(week, starts, i):
+    """How an activity misses its dates: a kind, and the date; or None."""
+    state = week.states[i]
+    if not isinstance(state, Open):
+        return None
+    if starts[i] < week.today:
+        return "past", week.today
+    if starts[i] < state.earliest:
+        return "early", state.earliest
+    return None if state.fixed in (None, starts[i]) else ("moved", state.fixed)
+
+
+def broken(week, starts, i):
+    """The first predecessor whose end and lag an activity doesn't wait for, or None."""
+    if not isinstance(week.states[i], Open):
+        return None
+    waited = [
+        first
+        for first, second, lag in week.arcs
+        if second == i and starts[i] < starts[first] + week.rest(first) + lag
+    ]
+    return min(waited, default=None)
+
+
+def verdict(week, starts):
+    """The first violation of starts, or that there is none: a word, and what it is about. What has
+    begun or is done has its settled start."""
+    for i in range(week.count()):
+        missed, before = miss(week, starts, i), broken(week, starts, i)
+        if missed is not None:
+            return missed[0], i, missed[1]
+        if before is not None:
+            return "broken", i, before
+    last = max([week.today] + ends(week, starts) + [a.earliest + a.duration for a in week.absences])
+    for instant in range(week.today, last + 1):
+        for resource, capacity in enumerate(week.capacities):
+            used = week.missing(resource, instant)
+            for i, start in enumerate(starts):
+                if start <= instant < start + week.rest(i):
+                    used += week.needs[i][resource]
+            if used > capacity:
+                return "over", instant, resource
+    return ("feasible",)
+
+
 def overload(week):
     """The first instant and its least resource where what can't move is too much, or None."""
     settled = [week.settled(i) for i in range(week.count())]
@@ -331,11 +376,30 @@ def drawn_state(draw, duration, today):
     return Open()
 
 
+def drawn_starts(week, draw):
+    """Starts of a week: some near a plan, and some by chance."""
+    found = plans(week)
+    for _ in range(3):
+        near = found and draw.random() < 0.8
+        starts = list(draw.choice(found)) if near else [None] * week.count()
+        for i, state in enumerate(week.states):
+            if not isinstance(state, Open):
+                starts[i] = week.settled(i)
+            elif starts[i] is None:
+                starts[i] = draw.randint(max(0, week.today - 1), week.today + 10)
+            elif draw.random() < 0.15:
+                starts[i] = max(0, starts[i] + draw.choice([-3, -2, -1, 1, 2, 4]))
+        yield starts
+
+
 def test(cases):
-    """Compares both ways to find plans, on very small weeks."""
+    """Compares both ways to find plans, on very small weeks, and verdicts with plans."""
     none = 0
     for seed in range(cases):
         week = drawn(seed, most=3, long=3)
+        for starts in drawn_starts(week, random.Random(seed)):
+            is_feasible = verdict(week, starts) == ("feasible",)
+            assert is_feasible == is_plan(week, starts), f"seed {seed}: {starts}"
         one, other = plans(week), plans_by_starts(week)
         assert least_makespan(week, one) == least_makespan(week, other), f"seed {seed}"
         if week.latest_due() is not None:

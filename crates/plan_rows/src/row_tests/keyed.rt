@@ -8,7 +8,7 @@ ghost use Rattle.plan_rows.specs.Tables.{world_beside, desk_kept, head_seen, bin
 ghost use Rattle.plan_rows.specs.RowTests.{Tells, KeysDiffer, RowKey, same_key};
 ghost use Rattle.plan_rows.specs.PlanReview.{AreKeys, AreSeen};
 
-use crate::row_tests::beside::{Beside, PlanSeen};
+use crate::row_tests::other_rows::{Beside, PlanSeen};
 use crate::rows::CodeRow;
 use crate::tables::{BindRecord, DeskRecord, LagRecord};
 use std::alloc::{AllocError, Global};

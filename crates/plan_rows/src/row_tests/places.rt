@@ -2,15 +2,15 @@
 
 ghost use Rattle.std.specs.Prelude.{◌≡◌, List, IfOk, filter, length};
 ghost use Rattle.std.specs.List.{position};
-ghost use Rattle.plan_rows.specs.declared.row_tests.beside.Beside.{Beside as Others};
-ghost use Rattle.plan_rows.specs.declared.row_tests.beside.PlanSeen.{PlanSeen as Seen};
+ghost use Rattle.plan_rows.specs.declared.row_tests.other_rows.Beside.{Beside as Others};
+ghost use Rattle.plan_rows.specs.declared.row_tests.other_rows.PlanSeen.{PlanSeen as Seen};
 ghost use Rattle.plan_rows.specs.World.{is_code, is_desk, is_plan, is_plan_of};
 ghost use Rattle.plan_rows.specs.Books.{published_in};
 ghost use Rattle.plan_rows.specs.Tables.{desk_kept, head_seen};
 ghost use Rattle.plan_rows.specs.RowTests.{AreFirst, AreCounts, ArePlaces};
 
-use crate::row_tests::beside::{Beside, PlanSeen};
 use crate::row_tests::keyed::Keyed;
+use crate::row_tests::other_rows::{Beside, PlanSeen};
 use std::alloc::{AllocError, Global};
 use std::collections::HashMap;
 

@@ -13,9 +13,9 @@ ghost use Rattle.plan_rows.specs.PlanReview.{lag_key_of, is_owner, owner_key_of}
 ghost use Rattle.plan_rows.specs.PlanReview.{IsStruckBy, IsStruck, SomeLeft};
 ghost use Rattle.plan_rows.specs.PlanReview.{HasReviewed};
 
-use crate::row_tests::beside::{Beside, PlanSeen};
 use crate::row_tests::files::PlanFile;
 use crate::row_tests::keyed::{Keyed, keys_differ, keys_of};
+use crate::row_tests::other_rows::{Beside, PlanSeen};
 use crate::row_tests::places::Places;
 use crate::row_tests::rows::read_row;
 use crate::row_tests::tested::rows_are_good;

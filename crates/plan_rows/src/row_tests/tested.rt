@@ -2,7 +2,7 @@
 
 ghost use Rattle.std.specs.Prelude.{◌≡◌, true, List, map};
 ghost use Rattle.std.specs.List.{AllByRecursion};
-ghost use Rattle.plan_rows.specs.declared.row_tests.beside.PlanSeen.{PlanSeen as Seen};
+ghost use Rattle.plan_rows.specs.declared.row_tests.other_rows.PlanSeen.{PlanSeen as Seen};
 ghost use Rattle.plan_rows.specs.World as spec;
 ghost use Rattle.plan_rows.specs.World.{Plan};
 ghost use Rattle.plan_net.specs.Limits.{longest_lag};
@@ -16,7 +16,7 @@ ghost use Rattle.plan_rows.specs.PlanReview.{AreSeen};
 
 use crate::kinds::{Kind, PlanKind};
 use crate::limits::MOST_PLANS;
-use crate::row_tests::beside::{Beside, PlanSeen};
+use crate::row_tests::other_rows::{Beside, PlanSeen};
 use crate::row_tests::places::Places;
 use crate::row_tests::rows::{is_desk_row, is_published_row};
 use crate::rows::CodeRow;

@@ -8,7 +8,7 @@ ghost use Rattle.plan_rows.specs.Tables.{world_kept, plan_kept};
 ghost use Rattle.plan_rows.specs.RowTests.{Tells};
 ghost use Rattle.plan_rows.specs.PlanReview.{HasReviewed};
 
-use crate::row_tests::beside::Beside;
+use crate::row_tests::other_rows::Beside;
 use crate::row_tests::review::Review;
 use crate::tables::{PlanRecord, Tables};
 use std::alloc::{AllocError, Global};

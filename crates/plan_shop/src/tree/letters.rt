@@ -7,7 +7,7 @@ ghost use Rattle.plan_shop.specs.Trees as spec;
 use crate::tree::ShopTree;
 use std::alloc::AllocError;
 
-// What decides the letters that may follow a word: a job whose next step takes no time, or else the
+// The rule for the letters that may follow a word: a job whose next step takes no time, or else the
 // job whose next step would end first, with that end.
 #[derive(Drop)]
 enum Front {

@@ -12,10 +12,10 @@ loop-init g c = record {
 
 pub loop-preserved : goal.loop-preserved
 loop-preserved g c = record {
-  awaited = omega (arith, c.serve_next.ensures.awaited, c.loop.invariant.awaited);
+  awaited = omega (arith, c.serve_turn.ensures.awaited, c.loop.invariant.awaited);
   visits = visiting_more g.V.Reader.Client.known g.V.Writer.Sink.taken g.V.Visitors.admits g.V.Visitors.dismisses
-      g.B.Book.shelf c.args.office.now c.loop.office c.serve_next.new.office c.args.visitors.now c.loop.visitors c.serve_next.new.visitors
-      c.loop.counter c.loop.invariant.visits c.serve_next.ensures.turn;
+      g.B.Book.shelf c.args.office.now c.loop.office c.serve_turn.new.office c.args.visitors.now c.loop.visitors c.serve_turn.new.visitors
+      c.loop.counter c.loop.invariant.visits c.serve_turn.ensures.turn;
 }
 
 pub returns-clause-visits : goal.returns-clause-visits
@@ -40,8 +40,8 @@ returns-then-is_closed-clause-closed g c e = (
   search rules,
   c.loop.counter + 1,
   omega (arith, c.loop-test.true),
-  omega (arith, c.serve_next.ensures.awaited, c.loop.invariant.awaited),
+  omega (arith, c.serve_turn.ensures.awaited, c.loop.invariant.awaited),
   visiting_more g.V.Reader.Client.known g.V.Writer.Sink.taken g.V.Visitors.admits g.V.Visitors.dismisses
-      g.B.Book.shelf c.args.office.now c.loop.office c.serve_next.new.office c.args.visitors.now c.loop.visitors c.serve_next.new.visitors
-      c.loop.counter c.loop.invariant.visits c.serve_next.ensures.turn,
+      g.B.Book.shelf c.args.office.now c.loop.office c.serve_turn.new.office c.args.visitors.now c.loop.visitors c.serve_turn.new.visitors
+      c.loop.counter c.loop.invariant.visits c.serve_turn.ensures.turn,
 )

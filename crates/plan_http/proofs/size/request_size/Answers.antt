@@ -11,9 +11,9 @@ returns-in-Whole-clause-size c more h count begins passed =
     let bytes = c.args.front.now ++ more in
     let found = c.in-Whole.ensures.judged bytes more refl (λ no. absurd cc) in
     let same : found.head ≡ h = one_head bytes found.head h found.begins begins in
-    let checks = checks_at c.args.front.now c.judge.new.headers c.in-Whole.spans found.head found.at in
+    let checks = checks_at c.args.front.now c.judge_head.new.headers c.in-Whole.spans found.head found.at in
     let passes = ap first_failing checks ∙ ap (λ g. first_failing (head_checks g.minor (fields_of g))) same ∙ passed.passes in
-    let counted = length_at c.args.front.now c.judge.new.headers c.in-Whole.spans found.head found.at in
+    let counted = length_at c.args.front.now c.judge_head.new.headers c.in-Whole.spans found.head found.at in
     let body = c.body_size-body.ensures.passed passes ∙ counted ∙ ap length_of same ∙ sym passed.count_is in
     let head = found.at.len ∙ ap (λ g. length (print_request g)) same in
     rw (head, body) refl

@@ -1,7 +1,7 @@
 use Rattle.std.proofs.Common.{◌≡◌, ◌∙◌, List, Result, Ok, Err, IfOk, ap, subst, map}
 use Rattle.std.specs.Prelude.{IsErrAnd}
 use Rattle.sqlite.specs.Held.{state}
-use Rattle.plan_rows.specs.declared.row_tests.beside.Beside.{Beside}
+use Rattle.plan_rows.specs.declared.row_tests.other_rows.Beside.{Beside}
 use Rattle.plan_rows.specs.declared.rows.CodeRow.{CodeRow}
 use Rattle.plan_rows.specs.declared.tables.records.DeskRecord.{DeskRecord}
 use Rattle.plan_rows.specs.declared.tables.records.BindRecord.{BindRecord}

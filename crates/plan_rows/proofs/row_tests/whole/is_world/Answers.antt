@@ -1,6 +1,6 @@
 use Rattle.std.proofs.Common.{◌≡◌, ◌∙◌, List, sym, ap, subst, map, IfOk}
 use Rattle.std.specs.List.{AllByRecursion}
-use Rattle.plan_rows.specs.declared.row_tests.beside.Beside.{Beside}
+use Rattle.plan_rows.specs.declared.row_tests.other_rows.Beside.{Beside}
 use Rattle.plan_rows.specs.declared.rows.CodeRow.{CodeRow}
 use Rattle.plan_rows.specs.declared.tables.Tables.{Tables}
 use Rattle.plan_rows.specs.declared.tables.records.DeskRecord.{DeskRecord}

@@ -1,7 +1,0 @@
-use Rattle.std.proofs.Common.{◌≡◌}
-use Rattle.plan_print.specs.Margins.{floats_in}
-use Rattle.plan_print.proofs.margins.floats_in.Given as goal
-
--- the floats of the activities so far
-abbrev pub invariant-loop-k : goal.invariant-loop-k
-invariant-loop-k l = l.floats.items ≡ floats_in l.dates l.k

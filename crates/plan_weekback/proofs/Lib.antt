@@ -1,0 +1,5 @@
+pub mod BackLemmas
+pub mod EntryLemmas
+pub mod OutputLemmas
+pub mod ReadingLemmas
+pub mod SamenessLemmas

@@ -1,0 +1,6 @@
+pub mod Entries
+pub mod Columns
+pub mod Readings
+pub mod Sameness
+pub mod Comparisons
+pub mod Outputs

@@ -1,0 +1,5 @@
+pub mod Opened
+pub mod Kept
+pub mod Starts
+pub mod Sentences
+pub mod Outputs

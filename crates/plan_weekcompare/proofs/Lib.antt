@@ -1,0 +1,6 @@
+mod LineLemmas
+mod RowLemmas
+mod ShownLemmas
+mod InstantLemmas
+mod TimeLemmas
+mod OutputLemmas

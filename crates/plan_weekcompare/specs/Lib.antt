@@ -1,0 +1,4 @@
+pub mod Shown
+pub mod Lines
+pub mod Schedules
+pub mod Outputs

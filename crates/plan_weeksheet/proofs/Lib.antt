@@ -1,0 +1,11 @@
+mod StarLemmas
+mod SumLemmas
+mod StepLemmas
+mod ListLemmas
+mod FitLemmas
+mod ProjectLemmas
+mod PageLemmas
+mod WithinLemmas
+mod OutputLemmas
+mod UseLemmas
+mod EndLemmas

@@ -1,0 +1,5 @@
+mod MissLemmas
+mod ArcLemmas
+mod PinLemmas
+mod StartLemmas
+mod VerdictLemmas

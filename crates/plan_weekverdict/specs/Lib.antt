@@ -1,0 +1,3 @@
+pub mod Verdicts
+pub mod Starts
+pub mod Pins
