@@ -41,7 +41,7 @@ pub use fault::SolveFault;
 pub use log::{Log, Unlogged};
 pub use plans::{LATEST_COST, PlanAnswer, SolvedPlan, solve_plan, solve_plan_watched};
 pub use projects::{solve, solve_logged, solve_watched};
-pub use proposals::first_starts;
+pub use proposals::{first_starts, starts_by};
 pub use sessions::Session;
 pub use shops::{
     rule_solution, shop_session, solve_shop, solve_shop_from, solve_shop_logged, solve_shop_watched,

@@ -1,5 +1,5 @@
-//! A first list of starts for a problem with windows and absences: serial generation, latest starts
-//! first. It is a proposal, which the kernel checks: no clause says that it is a plan.
+//! Lists of starts for a problem with windows and absences: serial generation, by latest starts or by
+//! given keys. They are proposals, which the kernel checks: no clause says that one is a plan.
 
 use crate::arrays::{at, is_marked, mark, put};
 use crate::derivation::need;
@@ -213,15 +213,15 @@ impl Placement {
         }
     }
 
-    // Returns the activity without a start that waits for none and has the least latest start.
-    fn next(&self, bounds: &Bounds) -> Option<u32> {
+    // Returns the activity without a start that waits for none and has the least key.
+    fn next(&self, keys: &[u32]) -> Option<u32> {
         let (mut next, mut least) = (None, u32::MAX);
         for activity in 0..narrow(self.starts.len()) {
             let is_open = !is_marked(&self.is_placed, activity) && at(&self.waits, activity) == 0;
-            let latest = at(&bounds.latest, activity);
-            if is_open && (next.is_none() || latest < least) {
+            let key = at(keys, activity);
+            if is_open && (next.is_none() || key < least) {
                 next = Some(activity);
-                least = latest;
+                least = key;
             }
         }
         next
@@ -253,19 +253,44 @@ impl Placement {
     }
 }
 
-/// Returns a start for each activity of a problem: each in turn as early as it can be, the one with
-/// the least latest start first; before them those that have one start only.
-pub fn first_starts(alloc: Global, input: &Input, horizon: u32) -> Result<Vec<u32>, AllocError> {
-    let mut bounds = bounds_of(alloc, input, horizon)?;
+// Returns a start for each activity of a problem: each in turn as early as it can be, the one with the
+// least key first; before them those that have one start only.
+fn placed(
+    alloc: Global,
+    input: &Input,
+    horizon: u32,
+    mut bounds: Bounds,
+    keys: &[u32],
+) -> Result<Vec<u32>, AllocError> {
     let mut profile = Profile::new(alloc, input, horizon)?;
     let mut placement = Placement::new(alloc, input)?;
     placement.fix(input, &bounds, &mut profile);
     for _ in 0..input.durations.len() {
-        let Some(activity) = placement.next(&bounds) else {
+        let Some(activity) = placement.next(keys) else {
             break;
         };
         placement.place(input, &bounds, &mut profile, activity);
         placement.release(input, &mut bounds, activity);
     }
     Ok(placement.starts)
+}
+
+/// Returns a start for each activity of a problem: each in turn as early as it can be, the one with
+/// the least latest start first; before them those that have one start only.
+pub fn first_starts(alloc: Global, input: &Input, horizon: u32) -> Result<Vec<u32>, AllocError> {
+    let bounds = bounds_of(alloc, input, horizon)?;
+    let keys = Vec::from_slice(alloc, &bounds.latest)?;
+    placed(alloc, input, horizon, bounds, &keys)
+}
+
+/// Returns a start for each activity of a problem as [`first_starts`] does, but the one with the
+/// least key first. There is a key for each activity.
+pub fn starts_by(
+    alloc: Global,
+    input: &Input,
+    horizon: u32,
+    keys: &[u32],
+) -> Result<Vec<u32>, AllocError> {
+    let bounds = bounds_of(alloc, input, horizon)?;
+    placed(alloc, input, horizon, bounds, keys)
 }

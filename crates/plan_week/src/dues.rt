@@ -51,6 +51,17 @@ pub fn tardiness_of(week: &Week, starts: &[u32], activity: usize) -> u64
     end.saturating_sub(due as u64)
 }
 
+/// Returns the greatest tardiness of an activity.
+pub fn greatest_tardiness(week: &Week, starts: &[u32]) -> u64
+    ensures { result ≡ spec.greatest_tardiness week.now starts.now }
+{
+    let mut greatest: u64 = 0;
+    for place in 0..week.durations.len() {
+        greatest = greatest.max(tardiness_of(week, starts, place));
+    }
+    greatest
+}
+
 // Returns the latest due date minus the due date of each activity.
 fn tails_of(alloc: Global, week: &Week) -> Result<Vec<u32>, AllocError>
     ensures { IfOk result (λ tails. spec.AreTailsOf week.now tails.items) }

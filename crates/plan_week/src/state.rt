@@ -53,6 +53,17 @@ pub fn end_of(week: &Week, starts: &[u32], activity: usize) -> u64
     at(starts, activity) as u64 + rest_of(week, activity) as u64
 }
 
+/// Returns the greatest end of an activity.
+pub fn makespan_of(week: &Week, starts: &[u32]) -> u64
+    ensures { result ≡ spec.makespan_of week.now starts.now }
+{
+    let mut greatest: u64 = 0;
+    for place in 0..week.durations.len() {
+        greatest = greatest.max(end_of(week, starts, place));
+    }
+    greatest
+}
+
 /// Whether an activity is still to be started.
 pub fn is_open(state: State) -> bool
     ensures { result ≡ spec.is_open state }

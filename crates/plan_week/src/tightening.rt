@@ -8,7 +8,7 @@ ghost use Rattle.plan_week.specs.Tightening as spec;
 ghost use Rattle.plan_week.specs.Weeks as weeks;
 
 use crate::dues::limited_input;
-use crate::state::{at, rest_of};
+use crate::state::makespan_of;
 use crate::week::Week;
 use plan_solve::{LATEST_COST, PlanAnswer, SolveFault, Watcher, solve_plan_watched};
 use std::alloc::{AllocError, Global};
@@ -53,18 +53,6 @@ fn found_in(answer: PlanAnswer) -> Option<Found>
         PlanAnswer::NoPlan => None,
         PlanAnswer::Unknown { .. } => None,
     }
-}
-
-// Returns the greatest end of an activity.
-fn makespan_of(week: &Week, starts: &[u32]) -> u64
-    ensures { result ≡ weeks.makespan_of week.now starts.now }
-{
-    let mut greatest: u64 = 0;
-    for place in 0..week.durations.len() {
-        let end = at(starts, place) as u64 + rest_of(week, place) as u64;
-        greatest = greatest.max(end);
-    }
-    greatest
 }
 
 // Returns a plan that is as it was.

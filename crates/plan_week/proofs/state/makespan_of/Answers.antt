@@ -2,7 +2,7 @@ use Rattle.std.proofs.Common.{◌≡◌, ◌∙◌, ℕ, ap, arith}
 use Rattle.plan_sgs.specs.Problem.{count, greatest_below}
 use Rattle.plan_week.specs.Weeks.{project_of, end_of}
 use Rattle.plan_week.proofs.WeekLemmas.{project_count}
-use Rattle.plan_week.proofs.tightening.makespan_of.Goals as goal
+use Rattle.plan_week.proofs.state.makespan_of.Goals as goal
 
 pub returns : goal.returns
 returns c =
