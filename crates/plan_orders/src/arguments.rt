@@ -219,19 +219,19 @@ const FILE_OR_LIST_HELP: &str = "the input file, or a list (CSV), or - for stand
 
 const PROJECT_RULE: Argument = Argument {
     name: "RULE",
-    form: Form::Text,
+    form: Form::Name,
     help: "the priority rule: lft, slk, spt, mts or num",
 };
 
 const SHOP_RULE: Argument = Argument {
     name: "RULE",
-    form: Form::Text,
+    form: Form::Name,
     help: "the priority rule: spt, mwkr or fcfs",
 };
 
 const RULE: Argument = Argument {
     name: "RULE",
-    form: Form::Text,
+    form: Form::Name,
     help: "the priority rule: lft, slk, spt, mts or num; for a job shop spt, mwkr or fcfs",
 };
 
@@ -799,12 +799,12 @@ const SCHEDULE_COMMANDS: [Entry; 5] = [
             RULE,
             Argument {
                 name: "START",
-                form: Form::Text,
+                form: Form::Name,
                 help: "the first date, for example 2024-03-01",
             },
             Argument {
                 name: "MARKS",
-                form: Form::Text,
+                form: Form::Name,
                 help: "the working days: mon-fri or mon,wed,fri; or seven digits, Monday first: \
                     1 for a working day, 0 for a free day",
             },
