@@ -2,4 +2,4 @@
 
 /// The digest of all sources of the program but this file, in hexadecimal digits, as
 /// `./release --digest` prints it.
-pub(crate) const SOURCES: &str = "f01681c09f707910999835a3785979aa6e1d950f76d85494465c5b94a56e8f6f";
+pub(crate) const SOURCES: &str = "f5ac5ef84361a1b65db8e425b1254f8abb25a2855cd1d599a97fb402a8a1253d";
