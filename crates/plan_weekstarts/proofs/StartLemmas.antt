@@ -17,7 +17,7 @@ use Rattle.plan_report.specs.IdSheets.{id_sheet}
 use Rattle.plan_report.specs.StartsText.{SaysStarts, starts_in}
 use Rattle.plan_table.specs.Names.{Name}
 use Rattle.plan_weekstarts.specs.Opened.{open_durations, open_ids}
-use Rattle.plan_weekstarts.specs.Starts.{SaysOpen, SaysFor, SaysOpenStarts, TellsLimit, TellsAboveLimit, TellsNoOpen, TellsNoOpenStarts, activities_of, inner, network_of, open_sheet, open_text}
+use Rattle.plan_weekstarts.specs.Starts.{SaysFor, SaysIn, SaysOpen, SaysOpenStarts, TellsLimit, TellsAboveLimit, TellsNoOpen, TellsNoOpenStarts, activities_of, inner, network_of, open_sheet, open_text, sheet_in}
 use Rattle.plan_weeklist.specs.declared.listed.ListedWeek.{ListedWeek}
 
 -- numbers between the first and the last are in time if all are
@@ -61,25 +61,32 @@ pub tells_starts : (listed : ListedWeek) (durations text : List ℕ) (e : CliFau
 tells_starts listed durations text e told =
     refuses_as (TellsNoStarts (open_sheet listed durations) (open_text listed text)) (TellsNoOpen listed durations text) e (λ line tells. inr tells) told
 
--- the starts in a text, by the sheet and the text in the program
-pub said_open : (listed : ListedWeek) (durations text kept : List ℕ) (net : Net) (ids : List Name) (all starts : List ℕ)
-    → net ≡ network_of durations → ids ≡ open_ids listed.week (activities_of listed) → kept ≡ open_text listed text
-    → SaysStarts (id_sheet ids net) kept all → starts ≡ inner all → SaysOpen listed durations text starts
-said_open listed durations text kept net ids all starts same_net same_ids same_text said is = (
+-- the starts in a text, by the ids and the text in the program
+pub said_in : (listed : ListedWeek) (net : Net) (text kept : List ℕ) (ids : List Name) (all starts : List ℕ)
+    → ids ≡ open_ids listed.week (activities_of listed) → kept ≡ open_text listed text
+    → SaysStarts (id_sheet ids net) kept all → starts ≡ inner all → SaysIn listed net text starts
+said_in listed net text kept ids all starts same_ids same_text said is = (
   all,
-  subst (λ (n : Net). SaysStarts (id_sheet (open_ids listed.week (activities_of listed)) n) (open_text listed text) all) same_net
-      (subst (λ (names : List Name). SaysStarts (id_sheet names net) (open_text listed text) all) same_ids
-      (subst (λ (t : List ℕ). SaysStarts (id_sheet ids net) t all) same_text said)),
+  subst (λ (names : List Name). SaysStarts (id_sheet names net) (open_text listed text) all) same_ids
+      (subst (λ (t : List ℕ). SaysStarts (id_sheet ids net) t all) same_text said),
   is,
 )
 
 -- the error of the starts in a text
-pub told_open : (listed : ListedWeek) (durations text kept : List ℕ) (net : Net) (ids : List Name) (error : ReadError) (e : CliFault)
-    → net ≡ network_of durations → ids ≡ open_ids listed.week (activities_of listed) → kept ≡ open_text listed text
-    → Fails error (starts_in (id_sheet ids net) kept) → IsStartsError error e → Refuses (TellsNoOpen listed durations text) e
-told_open listed durations text kept net ids error e same_net same_ids same_text fails told =
-    tells_starts listed durations text e
-    (subst (λ (n : Net). Refuses (TellsNoStarts (id_sheet (open_ids listed.week (activities_of listed)) n) (open_text listed text)) e) same_net
-    (subst (λ (names : List Name). Refuses (TellsNoStarts (id_sheet names net) (open_text listed text)) e) same_ids
+pub told_in : (listed : ListedWeek) (net : Net) (text kept : List ℕ) (ids : List Name) (error : ReadError) (e : CliFault)
+    → ids ≡ open_ids listed.week (activities_of listed) → kept ≡ open_text listed text
+    → Fails error (starts_in (id_sheet ids net) kept) → IsStartsError error e → Refuses (TellsNoStarts (sheet_in listed net) (open_text listed text)) e
+told_in listed net text kept ids error e same_ids same_text fails told =
+    subst (λ (names : List Name). Refuses (TellsNoStarts (id_sheet names net) (open_text listed text)) e) same_ids
     (subst (λ (t : List ℕ). Refuses (TellsNoStarts (id_sheet ids net) t) e) same_text
-    (told_no_starts (id_sheet ids net) kept error told.first e fails told.read told.told))))
+    (told_no_starts (id_sheet ids net) kept error told.first e fails told.read told.told))
+
+-- the same for activities with these durations
+pub said_open : (listed : ListedWeek) (durations text : List ℕ) (net : Net) (starts : List ℕ) → net ≡ network_of durations
+    → SaysIn listed net text starts → SaysOpen listed durations text starts
+said_open listed durations text net starts same said = subst (λ (n : Net). SaysIn listed n text starts) same said
+
+pub told_open : (listed : ListedWeek) (durations text : List ℕ) (net : Net) (e : CliFault) → net ≡ network_of durations
+    → Refuses (TellsNoStarts (sheet_in listed net) (open_text listed text)) e → Refuses (TellsNoOpen listed durations text) e
+told_open listed durations text net e same told =
+    tells_starts listed durations text e (subst (λ (n : Net). Refuses (TellsNoStarts (sheet_in listed n) (open_text listed text)) e) same told)
