@@ -21,7 +21,7 @@ use Rattle.plan_weeks.specs.declared.fault.PlanFault.{PlanFault}
 use Rattle.plan_weeks.specs.declared.planning.Goal.{Goal}
 use Rattle.plan_weeks.specs.declared.planning.WeekPlan.{WeekPlan}
 use Rattle.plan_weekstarts.proofs.EarlierLemmas.{open_start}
-use Rattle.plan_weekstarts.specs.Earlier.{GivesEarlier, IsEarlier}
+use Rattle.plan_weekstarts.specs.Earlier.{GivesEarlier, IsEarlier, IsTaken}
 use Rattle.plan_weekstarts.specs.Starts.{TellsNoOpenStarts}
 use Rattle.plan_weekverdict.specs.Starts.{AreAllStarts, open_before, start_by}
 
@@ -42,12 +42,13 @@ kept_text listed text earlier plan gives keeps given starts said are active =
 
 pub like_text : (goal : Goal) (listed : ListedWeek) (text : List ℕ) (earlier list : List (Option ℕ)) (plan : WeekPlan) → list ≡ earlier
     → GivesEarlier listed text earlier → IsPlanned goal listed.week plan → IsActive listed.week plan.starts.items
-    → KeepsActive listed.week list plan → IsPlanLike goal (Some text) listed plan
-like_text goal listed text earlier list plan same gives planned active keeps = record {
+    → KeepsActive listed.week list plan → IsTaken listed text → IsPlanLike goal (Some text) listed plan
+like_text goal listed text earlier list plan same gives planned active keeps taken = record {
   planned = planned;
   like_earlier = record {
     active = active;
     same = kept_text listed text earlier plan gives (subst (λ (xs : List (Option ℕ)). KeepsActive listed.week xs plan) same keeps);
+    taken = taken;
   };
 }
 

@@ -8,6 +8,7 @@ use Rattle.plan_weeklist.specs.declared.listed.ListedWeek.{ListedWeek}
 use Rattle.plan_weeks.specs.WeekPlans.{IsPlanned}
 use Rattle.plan_weeks.specs.declared.planning.Goal.{Goal}
 use Rattle.plan_weeks.specs.declared.planning.WeekPlan.{WeekPlan}
+use Rattle.plan_weekstarts.specs.Earlier.{IsTaken}
 use Rattle.plan_weekstarts.specs.Starts.{SaysOpenStarts, TellsNoOpenStarts}
 use Rattle.plan_weekverdict.specs.Starts.{AreAllStarts}
 
@@ -18,10 +19,11 @@ KeepsText listed text plan =
     → AreAllStarts listed.week given starts → IsActive listed.week starts
     → plan.starts.items ≡ starts
 
--- a plan in the order of the one that a text gives: no open activity can start earlier by itself
+-- a plan in the order of the one in a text: no open activity can start earlier by itself
 pub record IsLikeText (listed : ListedWeek) (text : List ℕ) (plan : WeekPlan) : Type 0 where
   pub active : IsActive listed.week plan.starts.items
   pub same : KeepsText listed text plan
+  pub taken : IsTaken listed text
 
 -- the same if there is a text
 abbrev pub IsLike : Option (List ℕ) → ListedWeek → WeekPlan → Type 0

@@ -1,5 +1,5 @@
 -- The starts of open activities in an earlier plan.
-use Rattle.std.proofs.Common.{◌≡◌, ◌∙◌, ◌<◌, ◌≤◌, ℕ, List, [], ◌∷◌, Option, Some, None, Ok, Err, inl, inr, ap, get_or, length, map, refl, subst, sym, arith}
+use Rattle.std.proofs.Common.{◌≡◌, ◌∙◌, ◌<◌, ◌≤◌, ℕ, true, List, [], ◌∷◌, Option, Some, None, Ok, Err, inl, inr, ap, get_or, length, map, refl, subst, sym, arith}
 use Rattle.std.specs.Prelude.{IsTrue}
 use Rattle.std.proofs.lemmas.List.{get_or-map}
 use Rattle.plan_documents.proofs.ErrorLemmas.{refuses_as}
@@ -20,8 +20,9 @@ use Rattle.plan_week.specs.declared.week.State.TheVariants.{Open, Begun, Done}
 use Rattle.plan_week.specs.declared.week.Week.{Week}
 use Rattle.plan_week.specs.Weeks.{is_open, project_of, state_of}
 use Rattle.plan_weeklist.specs.declared.listed.ListedWeek.{ListedWeek}
-use Rattle.plan_weekstarts.proofs.StartLemmas.{tells_some, told_open}
-use Rattle.plan_weekstarts.specs.Earlier.{GivesEarlier, IsEarlier}
+use Rattle.plan_weekstarts.proofs.StartLemmas.{said_open, says_none, says_some, tells_some, told_open}
+use Rattle.plan_weekstarts.specs.Earlier.{GivesEarlier, IsEarlier, IsTaken}
+use Rattle.plan_weekstarts.specs.Kept.{is_table}
 use Rattle.plan_weekstarts.specs.Opened.{open_durations}
 use Rattle.plan_weekstarts.specs.Starts.{SaysFor, SaysIn, SaysOpen, SaysOpenStarts, TellsAboveLimit, TellsNoOpen, TellsNoOpenStarts, inner, network_of, open_text, sheet_in}
 use Rattle.plan_weekverdict.specs.Starts.{AreAllStarts, open_before, start_by}
@@ -52,6 +53,9 @@ none_open listed durations text given earlier is none empty placed other said =
     let here : other ≡ [] = none_given listed durations text other none (subst (λ (d : List ℕ). SaysFor listed d text other) (sym is) said) in
     subst (λ (starts : List ℕ). IsEarlier listed.week starts earlier) (empty ∙ sym here) placed
 
+pub none_taken : (listed : ListedWeek) (durations text : List ℕ) → durations ≡ open_durations listed.week → length durations ≡ 0 → IsTaken listed text
+none_taken listed durations text is none = inl ([], says_none listed durations text is none)
+
 -- ---- some activity is open
 
 some_said : (listed : ListedWeek) (durations text given : List ℕ) → 0 < length durations → SaysFor listed durations text given
@@ -78,7 +82,15 @@ read_earlier listed durations text given net earlier is some same said placed ot
     subst (λ (starts : List ℕ). IsEarlier listed.week starts earlier)
     (said_once listed net text given other said (said_by listed durations text other net is some same says)) placed
 
+pub read_taken : (listed : ListedWeek) (durations text given : List ℕ) (net : Net) → durations ≡ open_durations listed.week → 0 < length durations
+    → net ≡ network_of durations → SaysIn listed net text given → IsTaken listed text
+read_taken listed durations text given net is some same said =
+    inl (given, says_some listed durations text given is some (said_open listed durations text net given same said))
+
 -- ---- a text doesn't give the starts
+
+pub table_taken : (listed : ListedWeek) (text : List ℕ) → is_table text ≡ true → IsTaken listed text
+table_taken listed text is = inr is
 
 ok_isnt_err : {A E : Type 0} (r : Result A E) (x : A) (e : E) → r ≡ Ok x → r ≡ Err e → ⊥
 ok_isnt_err (Ok y) x e is isnt = absurd isnt

@@ -1,9 +1,10 @@
 -- The starts of the open activities of a week in an earlier plan.
-use Rattle.std.specs.Prelude.{◌≡◌, ℕ, ◌<◌, IsTrue, List, Option, Some, None, get_or}
+use Rattle.std.specs.Prelude.{◌≡◌, ◌⊎◌, ℕ, ◌<◌, true, IsTrue, List, Option, Some, None, get_or}
 use Rattle.plan_sgs.specs.Problem.{count}
 use Rattle.plan_week.specs.declared.week.Week.{Week}
 use Rattle.plan_week.specs.Weeks.{project_of, state_of, is_open}
 use Rattle.plan_weeklist.specs.declared.listed.ListedWeek.{ListedWeek}
+use Rattle.plan_weekstarts.specs.Kept.{is_table}
 use Rattle.plan_weekstarts.specs.Starts.{SaysOpenStarts}
 use Rattle.plan_weekverdict.specs.Starts.{open_before}
 
@@ -18,3 +19,8 @@ IsEarlier week given earlier =
 abbrev pub GivesEarlier : ListedWeek → List ℕ → List (Option ℕ) → Type 0
 GivesEarlier listed text earlier =
     (given : List ℕ) → SaysOpenStarts listed text given → IsEarlier listed.week given earlier
+
+-- a text gives the starts of all open activities, or is a table with ids
+abbrev pub IsTaken : ListedWeek → List ℕ → Type 0
+IsTaken listed text =
+    ((given : List ℕ) × SaysOpenStarts listed text given) ⊎ (is_table text ≡ true)

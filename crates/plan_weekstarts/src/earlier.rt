@@ -1,9 +1,10 @@
 //! The starts of the open activities of a week in an earlier plan.
 
-ghost use Rattle.std.specs.Prelude.{◌≡◌, IfErr, IfOk};
+ghost use Rattle.std.specs.Prelude.{◌≡◌, true, IfErr, IfOk};
 ghost use Rattle.plan_errors.specs.Faults.{refusal_line};
 ghost use Rattle.plan_errors.specs.Output.{Refuses};
 ghost use Rattle.plan_weekstarts.specs.Earlier as spec;
+ghost use Rattle.plan_weekstarts.specs.Kept.{is_table};
 ghost use Rattle.plan_weekstarts.specs.Starts.{TellsNoOpenStarts};
 
 use crate::known::known_starts;
@@ -39,7 +40,8 @@ fn proposed(
     text: &[u8],
     refusal: Refusal,
 ) -> Result<Vec<Option<u32>>, CliFault>
-    ensures { IfErr result (Refuses (λ line. line ≡ refusal_line refusal)) }
+    ensures taken { IfOk result (λ _. is_table text.now ≡ true) }
+    ensures refused { IfErr result (Refuses (λ line. line ≡ refusal_line refusal)) }
 {
     match known_starts(alloc, listed, text)? {
         Some(earlier) => Ok(earlier),
@@ -51,7 +53,7 @@ fn proposed(
 /// doesn't have. The text is one of starts as for `read_open_starts`. If it doesn't give the starts
 /// of all open activities, it can be a printed table or CSV with ids. Rows of other activities are
 /// ignored. Errors: those of `read_open_starts`.
-#[tactic(auto, using(crate::proofs::EarlierLemmas::none_open, crate::proofs::EarlierLemmas::read_earlier, crate::proofs::EarlierLemmas::unread, crate::proofs::EarlierLemmas::limit_told, crate::proofs::EarlierLemmas::starts_told, crate::proofs::EarlierLemmas::again_told))]
+#[tactic(auto, using(crate::proofs::EarlierLemmas::none_open, crate::proofs::EarlierLemmas::none_taken, crate::proofs::EarlierLemmas::read_earlier, crate::proofs::EarlierLemmas::read_taken, crate::proofs::EarlierLemmas::table_taken, crate::proofs::EarlierLemmas::unread, crate::proofs::EarlierLemmas::limit_told, crate::proofs::EarlierLemmas::starts_told, crate::proofs::EarlierLemmas::again_told))]
 pub fn earlier_starts(
     alloc: Global,
     listed: &ListedWeek,
@@ -59,6 +61,7 @@ pub fn earlier_starts(
 ) -> Result<Vec<Option<u32>>, CliFault>
     ensures same { IfOk result (λ earlier.
         spec.GivesEarlier listed.now text.now earlier.items) }
+    ensures taken { IfOk result (λ _. spec.IsTaken listed.now text.now) }
     ensures refused { IfErr result (Refuses (TellsNoOpenStarts listed.now text.now)) }
 {
     let durations = open_durations(alloc, &listed.week)?;

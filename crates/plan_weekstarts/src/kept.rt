@@ -75,8 +75,8 @@ fn has_head(alloc: Global, text: &[u8]) -> Result<bool, AllocError>
     Ok(false)
 }
 
-// Whether a text is a table with ids.
-fn is_table(alloc: Global, text: &[u8]) -> Result<bool, AllocError>
+/// Whether a text is a table with ids.
+pub(crate) fn is_table(alloc: Global, text: &[u8]) -> Result<bool, AllocError>
     ensures { IfOk result (λ is. is ≡ spec.is_table text.now) }
 {
     if text.len() <= LONGEST_TEXT {

@@ -1,7 +1,11 @@
 //! The starts that a table with ids has for some open activities. No clause says which these are:
 //! they are only a proposal.
 
+ghost use Rattle.std.specs.Prelude.{◌≡◌, true, IfOk, IfSome};
+ghost use Rattle.plan_weekstarts.specs.Kept as spec;
+
 use crate::cells::{begins_with, fields_of, has_field, is_id_head, without_mark, words_of};
+use crate::kept::is_table;
 use plan_psplib::{Lines, check_text, number};
 use plan_week::state_of;
 use plan_weeklist::ListedWeek;
@@ -160,8 +164,10 @@ pub(crate) fn known_starts(
     alloc: Global,
     listed: &ListedWeek,
     text: &[u8],
-) -> Result<Option<Vec<Option<u32>>>, AllocError> {
-    if check_text(text).is_err() {
+) -> Result<Option<Vec<Option<u32>>>, AllocError>
+    ensures { IfOk result (λ found. IfSome found (λ _. spec.is_table text.now ≡ true)) }
+{
+    if !is_table(alloc, text)? || check_text(text).is_err() {
         return Ok(None);
     }
     match table_in(alloc, text)? {
