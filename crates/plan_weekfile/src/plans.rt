@@ -79,8 +79,8 @@ pub fn plan_of<W: Watcher>(
     ensures told { HearsNothing (W.was_told watcher.old) (W.was_told watcher.new) }
 {
     match order.like {
-        Some(text) => like_plan(alloc, order, listed, text, watcher),
-        None => best_plan(alloc, order, listed, watcher),
+        Some(text) => Ok(like_plan(alloc, order, listed, text, watcher)?),
+        None => Ok(best_plan(alloc, order, listed, watcher)?),
     }
 }
 

@@ -71,7 +71,7 @@ pub fn earlier_starts(
     let network = network_of(alloc, &durations)?;
     match read_in(alloc, listed, &network, text) {
         Ok(given) => Ok(at_places(alloc, &listed.week, &given)?),
-        Err(CliFault::Refused(refusal)) => proposed(alloc, listed, text, refusal),
+        Err(CliFault::Refused(refusal)) => Ok(proposed(alloc, listed, text, refusal)?),
         Err(fault) => Err(fault),
     }
 }

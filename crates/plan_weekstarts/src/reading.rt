@@ -88,7 +88,7 @@ fn read_open(
         (spec.TellsNoOpen listed.now durations.now text.now)) }
 {
     let network = network_of(alloc, durations)?;
-    read_in(alloc, listed, &network, text)
+    Ok(read_in(alloc, listed, &network, text)?)
 }
 
 /// Reads the starts of the activities that are open, one after another. If none is open, the text
