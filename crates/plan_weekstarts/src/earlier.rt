@@ -18,11 +18,7 @@ use std::alloc::{AllocError, Global};
 
 // Returns the given starts of the open activities at the places of these.
 #[tactic(auto, using(crate::proofs::EarlierLemmas::placed))]
-fn at_places(
-    alloc: Global,
-    week: &Week,
-    given: &[u32],
-) -> Result<Vec<Option<u32>>, AllocError>
+fn at_places(alloc: Global, week: &Week, given: &[u32]) -> Result<Vec<Option<u32>>, AllocError>
     ensures { IfOk result (λ earlier. spec.IsEarlier week.now given.now earlier.items) }
 {
     let all = all_starts(alloc, week, given)?;

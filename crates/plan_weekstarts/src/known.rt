@@ -53,12 +53,7 @@ fn cells_of(alloc: Global, columns: Columns, line: &[u8]) -> Result<Vec<&[u8]>, 
 }
 
 // Whether the first cell of a row is an id.
-fn has_id(
-    alloc: Global,
-    columns: Columns,
-    cells: &[&[u8]],
-    id: &[u8],
-) -> Result<bool, AllocError> {
+fn has_id(alloc: Global, columns: Columns, cells: &[&[u8]], id: &[u8]) -> Result<bool, AllocError> {
     if columns.is_csv {
         has_field(alloc, cells, id)
     } else {
@@ -119,20 +114,19 @@ fn take_row(
     }
 }
 
-// Returns no start for each activity of a week.
+// Returns 0 for each activity that has begun or is done, so that it comes first, and no start for the
+// others.
 fn none_yet(alloc: Global, listed: &ListedWeek) -> Result<Vec<Option<u32>>, AllocError> {
     let mut earlier = Vec::new(alloc);
-    for _ in 0..listed.week.durations.len() {
-        earlier.push(None)?;
+    for place in 0..listed.week.durations.len() {
+        let is_ahead = is_open(state_of(&listed.week, place));
+        earlier.push(if is_ahead { None } else { Some(0) })?;
     }
     Ok(earlier)
 }
 
 // Returns the lines of a table behind the names of its columns, and these columns.
-fn table_in<'a>(
-    alloc: Global,
-    text: &'a [u8],
-) -> Result<Option<(Columns, Lines<'a>)>, AllocError> {
+fn table_in<'a>(alloc: Global, text: &'a [u8]) -> Result<Option<(Columns, Lines<'a>)>, AllocError> {
     let mut rest = Lines::new(without_mark(text));
     while let Some(line) = rest.next_line() {
         if let Some(columns) = columns_in(alloc, line.text)? {
