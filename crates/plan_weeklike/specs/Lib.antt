@@ -1,0 +1,3 @@
+pub mod ActivePlans
+pub mod Moves
+pub mod Bounds
