@@ -12,17 +12,22 @@ import { capacitiesOf, projectText } from "./subject.js";
 
 const MOST_SECONDS = 10;
 const ID_HEAD = /^(?:(?:activity |task )?id|n[ro]\.?|number)$/i;
+// the ids of the row of the capacities, as the program knows them
+const CAPACITY_WORDS = ["capacity", "kapazit\u00e4t", "kapazitaet", "capacit\u00e9", "capacite", "capacidad"];
 const NO_DATES = { now: "", goal: "makespan", start: "", days: "1111100", holidays: "" };
 const GOALS = { makespan: "the shortest plan", tardiness: "the least delay" };
 const WORKING = { 1111100: "Mo\u2013Fr", 1111110: "Mo\u2013Sa", 1111111: "all days" };
+
+// a text with its ASCII letters in lower case
+const asciiLower = (text) => text.replace(/[A-Z]/g, (letter) => letter.toLowerCase());
 
 /** Returns a list without its dates, in which each absence has an id of its own, and the cells with
  * the begins of the absences; null if a list has neither. */
 export function withoutDates(list, given) {
   const [heads, ...rows] = cellsOf(list).map((row) => row.map((cell) => cell.trim()));
   const at = heads.findIndex((head) => ID_HEAD.test(head));
-  const rowsOf = (word) => rows.filter((row) => row[at]?.toLowerCase() === word);
-  const [capacities = []] = rowsOf("capacity"), absences = rowsOf("absence");
+  const rowsOf = (words) => rows.filter((row) => words.includes(asciiLower(row[at] ?? "")));
+  const [capacities = []] = rowsOf(CAPACITY_WORDS), absences = rowsOf(["absence"]);
   const dates = heads.map((head, place) =>
     isOfDates(head) && !capacities[place] && !given.has(head));
   if (!dates.includes(true) && !absences.length) return null;

@@ -9,7 +9,7 @@ SHOP = {"ids": {}, "names": {"1": "order 4711"}, "resources": {"0": "saw"}, "cou
 # a list in whose lines 3 and 4 the errors are
 LIST = "id,name,duration,predecessors,crew\nA,Dig,2,,1\nB,\"Walls, north\",x,A,1\n7,,3,B,9\ncapacity,,,,2\n"
 # another, from a German spreadsheet
-GERMAN = "Nr.;Vorgangsname;Dauer;Maler\n1;W\u00e4nde;x;1\nKapazit\u00e4t;;;2\n"
+GERMAN = "Nr.;Vorgangsname;Dauer;Maler\n1;W\u00e4nde;x;1\nKapazit\u00e4ten;;;2\n"
 
 PROJECTS = [
     ("E10 F2 line 3", "Save the file as plain text in UTF-8."),
@@ -92,7 +92,7 @@ LISTS = [
 ]
 GERMANS = [
     ("T5 line 2 duration", "Write a whole number as the duration of 1 W\u00e4nde (line 2)."),
-    ("T5 line 3 duration", "Write capacity in place of Kapazit\u00e4t (line 3)."),
+    ("T5 line 3 duration", "Write capacity in place of Kapazit\u00e4ten (line 3)."),
 ]
 # what to do about the columns that a note names
 IGNORED = [

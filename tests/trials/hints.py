@@ -175,7 +175,7 @@ SUBJECTS = [
         "F3",
         "columns.csv: the columns aren't those of a table of start times",
     ),
-    ("check bad.txt good.txt", "F3", "bad.txt: a line of the header is missing"),
+    ("check bad.txt good.txt", "F3", "bad.txt: a header is missing; a list has duration, or order and machine"),
     ("chart lft --starts good.txt p.sm", "I1", "lft: a file can't be read"),
     ("compare p.sm good.txt nowhere.txt", "I1", "nowhere.txt: a file can't be read"),
     ("report --starts nowhere.txt p.sm", "I1", "nowhere.txt: a file can't be read"),
@@ -237,7 +237,7 @@ SUBJECTS = [
         "T5",
         "bad.orders.csv: \"x\" isn't a whole number of at most 10000",
     ),
-    ("import empty.csv", "T5", "empty.csv: a duration isn't a number"),
+    ("import empty.csv", "T5", "empty.csv: a duration isn't a number; capacities are in the row capacity"),
     (
         "import sixty.csv",
         "T5",

@@ -23,7 +23,7 @@ sys.path.insert(0, os.path.dirname(os.path.abspath(__file__)))
 
 from answers import Wrong, plan, same, written
 from tables import BLANKS, Refused, cell_at, decoded, delimiter_of, drawn_bytes, drawn_table, header_of, kind_in, lower
-from tables import is_note, open_columns, records, settled, without, without_groups
+from tables import is_capacities, is_note, open_columns, records, settled, without, without_groups
 
 SOLVE = ("solve", "--conflicts", "50")
 DATES = ("2024-03-01", "mon-fri")
@@ -62,7 +62,7 @@ def lines_of(found):
     kinds = settled(kinds, keys, names, [cells for _, cells in found[1:]], {})
     rows = found[1:]
     if "id" in kinds:
-        rows = [(line, cells) for line, cells in rows if lower(cell_at(cells, kinds.index("id"))) != "capacity"]
+        rows = [(line, cells) for line, cells in rows if not is_capacities(cell_at(cells, kinds.index("id")))]
     return [line for line, _ in rows]
 
 

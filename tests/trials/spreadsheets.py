@@ -134,7 +134,7 @@ def columns_of(head, rows):
 def others_of(head, rows, ids):
     """The columns of no kind: the place, the header, the capacity, and whether a cell has a text.
     Words for notes and depths of rows are columns of their own if they have no capacity."""
-    given = [cells for _, cells in rows if ids is not None and cells[ids].lower() == "capacity"]
+    given = [cells for _, cells in rows if ids is not None and tables.is_capacities(cells[ids])]
     for place, name in enumerate(head):
         most = given[0][place] if given and place < len(given[0]) else ""
         if name and kind_of(name) is None and (most or name.lower() not in NOTES | OUTLINES):
@@ -167,7 +167,7 @@ def project_of(text):
         raise Line("T3 no column duration")
     ids = places.get("id")
     named = [cells[ids] if ids is not None else str(k + 1) for k, (_, cells) in enumerate(rows)]
-    activities = [(name, row) for name, row in zip(named, rows) if name.lower() != "capacity"]
+    activities = [(name, row) for name, row in zip(named, rows) if not tables.is_capacities(name)]
     numbers = {name: k + 2 for k, (name, _) in enumerate(activities)}
     waits = []
     found = [activity_of(numbers, name, *row, places, resources, waits) for name, row in activities]
@@ -186,7 +186,7 @@ def ids_of(text, count):
     place = columns_of(head, rows)[0].get("id")
     if place is None:
         return []
-    found = [cells[place] for _, cells in rows if cells[place].lower() != "capacity"]
+    found = [cells[place] for _, cells in rows if not tables.is_capacities(cells[place])]
     return found + [f"wait+{k}" for k in range(count - len(found))]
 
 

@@ -167,6 +167,11 @@ def lower(text):
     return "".join(c.lower() if c.isascii() else c for c in text)
 
 
+def is_capacities(name):
+    """Whether an id is that of the row of the capacities, in one of four languages."""
+    return lower(name) in ("capacity", "kapazität", "kapazitaet", "capacité", "capacite", "capacidad")
+
+
 def duration_of(cell, line):
     """The days in a cell: a number, perhaps with a fraction of zero, and perhaps a word for days."""
     parts = re.fullmatch(rf"([0-9]*)([.,]0)?[{BLANKS}]*(.*)", cell, re.S)
@@ -201,7 +206,7 @@ def settled(kinds, keys, names, rows, given):
     ids = [k for k, kind in enumerate(kinds) if kind == "id"]
     ids += [k for k in sorted(open_columns) if KINDS.get(keys[k]) == "id"]
     for n, name in enumerate(columns[ids[0]] if ids else []):
-        if lower(name) == "capacity":
+        if is_capacities(name):
             open_columns -= {k for k in open_columns if columns[k][n] and k != ids[0]}
     found = list(kinds)
     for k in sorted(open_columns):
@@ -220,7 +225,7 @@ def refuse_successors(kinds, keys, names, found, rows, given):
     if place is None:
         place = next((k for k, key in enumerate(keys) if KINDS.get(key) == "id" and lower(names[k]) not in given), None)
     cells = [[cell.strip(BLANKS) for cell in row] for row in rows]
-    limits = [row for row in cells if place is not None and place < len(row) and lower(row[place]) == "capacity"]
+    limits = [row for row in cells if place is not None and place < len(row) and is_capacities(row[place])]
     for k, key in enumerate(keys):
         has_one = lower(names[k]) in given or any(k < len(row) and row[k] for row in limits)
         if found[k] == "resource" and key in SUCCESSORS and not has_one:
@@ -274,7 +279,7 @@ class Table:
         return cells[self.id_at].strip(BLANKS) if self.id_at < len(cells) else ""
 
     def is_capacity(self, name):
-        return self.id_at is not None and lower(name) == "capacity"
+        return self.id_at is not None and is_capacities(name)
 
     def take(self, line, cells, name):
         if self.is_capacity(name):
@@ -491,7 +496,7 @@ def capacities_of(keys, names, kinds, rows, given):
         place = next((k for k, key in enumerate(keys) if KINDS.get(key) == "id" and lower(names[k]) not in given), None)
     found = {k for k, name in enumerate(names) if lower(name) in given}
     for cells in rows:
-        if place is not None and lower(cell_at(cells, place)) == "capacity":
+        if place is not None and is_capacities(cell_at(cells, place)):
             found |= {k for k in range(len(keys)) if cell_at(cells, k) and k != place}
     return found, place
 
@@ -583,7 +588,7 @@ def with_waits(found, given):
     if "id" not in kinds or "predecessors" not in kinds:
         return found
     ids, at = kinds.index("id"), kinds.index("predecessors")
-    rows = [cells for _, cells in found[1:] if lower(cell_at(cells, ids)) != "capacity"]
+    rows = [cells for _, cells in found[1:] if not is_capacities(cell_at(cells, ids))]
     called = [cell_at(cells, kinds.index("name")) if "name" in kinds else "" for cells in rows]
     labels = Labels([cell_at(cells, ids) for cells in rows], called)
     if len(rows) > MOST_ROWS or any(name.startswith("wait+") for name in [*labels.numbers, *called]):
@@ -591,7 +596,7 @@ def with_waits(found, given):
     waits, kept = [], found[:1]
     for line, cells in found[1:]:
         count = len(waits)
-        if lower(cell_at(cells, ids)) != "capacity":
+        if not is_capacities(cell_at(cells, ids)):
             cell = linked(cell_at(cells, at), labels, waits)
         kept.append((line, [*cells[:at], cell, *cells[at + 1 :]] if len(waits) > count else cells))
     last = found[-1][0] + sum(cell.count("\n") for cell in found[-1][1])
@@ -622,7 +627,7 @@ def with_assignments(found, given):
     rows = [cells for _, cells in found[1:]]
     _, ids = capacities_of(keys, names, kinds, rows, given)
     kinds = settled(kinds, keys, names, rows, given)
-    limits = [row for row in rows if ids is not None and lower(cell_at(row, ids)) == "capacity"]
+    limits = [row for row in rows if ids is not None and is_capacities(cell_at(row, ids))]
     given = [lower(name) for name in given]
     for k, key in enumerate(keys):
         numbers = [row for row in limits if number_of(cell_at(row, k)) is not None]
@@ -749,7 +754,7 @@ def in_unit(found, given, unit):
     kinds = settled(kinds, keys, names, rows, given)
     ids, called = [], []
     for cells in rows if "id" in kinds else []:
-        if lower(cell_at(cells, kinds.index("id"))) != "capacity":
+        if not is_capacities(cell_at(cells, kinds.index("id"))):
             ids.append(cell_at(cells, kinds.index("id")))
             called.append(cell_at(cells, kinds.index("name")) if "name" in kinds else "")
     labels = Labels(ids, called) if len(ids) <= MOST_ROWS else Labels([], [])
@@ -838,7 +843,7 @@ HEADS = {
     "predecessors": ["predecessors", "after", "depends on", "Depends On"],
 }
 NOTES = ["Notes", "Start", "Cost", "Bemerkung", "coût", "% Complete", "FIN", "descripción", "Nr", "Tâche", "Days", "Depends", "Weight", "Slack"]
-CAPACITY = ["capacity", "capacity", "Capacity", "CAPACITY"]
+CAPACITY = ["capacity", "capacity", "Capacity", "CAPACITY", "Kapazität", "KAPAZITAET", "capacité", "Capacite", "capacidad"]
 
 
 def drawn_header(draw, kind, words):

@@ -28,6 +28,16 @@ from model import weeks
 COLUMNS = ["id", "duration", "predecessors", "earliest", "fixed", "begun", "remaining", "done", "due"]
 DATES = COLUMNS[3:]
 BAD = ["x", "-1", "1.5", "10000001", "3 d", "1234567890"]
+NAMES = "Resource Names"
+# cells of an absence in the column of names, and their errors
+BAD_NAMES = {
+    "crew A;CREW A": "T20",
+    "crew A[50%]": "T20",
+    "crew A;digger[x]": "T20",
+    "crew A[10000001]": "T20",
+    "digger": "T14 no resource digger",
+    "crew A;dig[2]ger": "T14 no resource dig[2]ger",
+}
 MOST = 10_000_000
 
 
@@ -43,6 +53,8 @@ class Drawn:
         self.now = None if draw.random() < (0.03 if self.has_history() else 0.3) else week.today
         self.rows = [self.row(i) for i in range(week.count())]
         self.rows += [self.absence(absence) for absence in week.absences]
+        # one column with the names of the crews, or one for each crew
+        self.is_named, self.is_loud = draw.random() < 0.3, draw.random() < 0.3
         self.given = self.capacity() if draw.random() < 0.1 else None
         self.header = self.draw.choice(DATES) if draw.random() < 0.1 else None
         self.is_remarked = draw.random() < 0.05
@@ -87,6 +99,9 @@ class Drawn:
     def spoil(self):
         """Replaces a date, or adds one."""
         row = self.draw.choice(self.rows)
+        if self.is_named and row["id"] == "absence" and self.draw.random() < 0.5:
+            row[NAMES] = self.draw.choice(list(BAD_NAMES))
+            return
         column = self.draw.choice(DATES if row["id"] != "absence" else ["earliest", "duration"])
         row[column] = self.draw.choice([*BAD, "interrupted", "2", "0", str(self.week.today + 2)])
 
@@ -95,12 +110,21 @@ class Drawn:
         return [row for row in self.rows if row["id"] != "absence"]
 
     def columns(self):
-        return COLUMNS[:1] + ["name"] * self.has_names + COLUMNS[1:] + self.crews
+        crews = [NAMES] if self.is_named else self.crews
+        return COLUMNS[:1] + ["name"] * self.has_names + COLUMNS[1:] + crews
+
+    def named(self, row):
+        """A row with a cell of names: the crews, each with its amount in brackets unless it is 1."""
+        amounts = [(crew, row[crew]) for crew in self.crews if row.get(crew)]
+        cell = ";".join(crew + ("" if n == 1 else f"[{n}]") for crew, n in amounts)
+        is_upper = self.is_loud and row["id"] == "absence"
+        return {NAMES: cell.upper() if is_upper else cell} | row
 
     def text(self, rows=None):
         columns = self.columns() + ["remark"] * self.is_remarked
         capacities = {"id": "capacity"} | dict(zip(self.crews, self.week.capacities))
         rows = [capacities, *({"remark": "see 2"} | row for row in rows or self.rows)]
+        rows = [self.named(row) for row in rows] if self.is_named else rows
         lines = [[str(row.get(column, "")) for column in columns] for row in rows]
         heads = ["Tag" if column == self.header else column for column in columns]
         return "".join(",".join(line) + "\n" for line in [heads, *lines])
@@ -156,6 +180,8 @@ def check_absence(row, line):
         number(row.get("earliest", ""))
         if number(row["duration"]) is None:
             raise ValueError
+        if BAD_NAMES.get(row.get(NAMES)) == "T20":
+            raise ValueError
     except ValueError:
         raise Wrong(f"T20 line {line} number") from None
 
@@ -170,7 +196,8 @@ def error_of(case):
                 check_row(row, case.now, place + 3)
     except Wrong as wrong:
         return str(wrong)
-    return None
+    unknown = (BAD_NAMES[row[NAMES]] for row in case.rows if NAMES in row)
+    return next(unknown, None)
 
 
 def week_of(case):

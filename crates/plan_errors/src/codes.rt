@@ -298,7 +298,7 @@ impl Code {
         match self {
             Code::TooLong => "the file is too large",
             Code::NotText => "the file isn't text",
-            Code::MissingHead => "a line of the header is missing",
+            Code::MissingHead => "a header is missing; a list has duration, or order and machine",
             Code::Unsupported => "the kind of project isn't supported",
             Code::MissingSection => "a section is missing",
             Code::BadNumber => "a number is missing or malformed",
@@ -314,10 +314,10 @@ impl Code {
             Code::NoTableText => "the table isn't UTF-8 text",
             Code::NoDurations => "a required column is missing",
             Code::ColumnTwice => "two columns have the same header",
-            Code::BadDuration => "a duration isn't a number",
+            Code::BadDuration => "a duration isn't a number; capacities are in the row capacity",
             Code::BadId => "an id is empty or malformed",
             Code::IdTwice => "two rows have the same id",
-            Code::NoPredecessor => "a predecessor is no row of the table",
+            Code::NoPredecessor => "a predecessor is no row, or a lag is in a list without ids",
             Code::BadNeed => "a need isn't a number",
             Code::NoCapacity => "a resource has no capacity",
             Code::TableCycle => "the rows form a cycle",
@@ -700,18 +700,20 @@ impl Code {
             }
             Code::BadMachine => "Correct the number.",
             Code::LongTable => "Delete rows, or split the project.",
-            Code::NoTableText => "Save the table as CSV UTF-8, and delete line breaks in names.",
+            Code::NoTableText => {
+                "Save the table as CSV UTF-8, and delete line breaks in names. A table in Windows-1252 needs a header that is known or mapped."
+            }
             Code::NoDurations => {
                 "Add a header line with this column, or read another header as this one with --map. In a list of orders, delete all other columns."
             }
             Code::ColumnTwice => "Rename or delete one.",
             Code::BadDuration => {
-                "Correct the duration. For fractions use a finer time unit, for example hours, or the option --unit. A row of capacities has the id capacity."
+                "Correct the duration. For fractions use a finer time unit, for example hours, or the option --unit. The row of the capacities has the id capacity."
             }
             Code::BadId => "Shorten the id, or replace its blanks.",
             Code::IdTwice => "Give each row its own id.",
             Code::NoPredecessor => {
-                "Correct the predecessor, or add its row. A lag is a number of days. Links such as A+2SS aren't supported."
+                "Correct the predecessor, or add its row. A lag is a number of days, and requires a column of ids. Links such as A+2SS aren't supported."
             }
             Code::BadNeed => {
                 "Correct the cell. If the column isn't a resource, delete it or its header."

@@ -5,7 +5,7 @@ use clap::{Arg, ArgAction, Command, value_parser};
 use std::alloc::{AllocError, Global};
 
 // The number of the release.
-const RELEASE: &str = "0.12.0";
+const RELEASE: &str = "0.13.0";
 
 // The start of the help.
 const HELP_START: &str =
@@ -76,9 +76,12 @@ enum Form {
     Now,
     /// An option with the goal of the plan of a list of activities.
     Goal,
-    /// The same two options, which require `--solve`.
+    /// An option with the name of a file of earlier starts of a list of activities.
+    Like,
+    /// The same three options, which require `--solve`.
     SolvedNow,
     SolvedGoal,
+    SolvedLike,
     /// An option with the capacity of a resource, any number of times.
     Capacity,
     /// The same for a command that also takes job shops, which have no such resources.
@@ -219,19 +222,19 @@ const FILE_OR_LIST_HELP: &str = "the input file, or a list (CSV), or - for stand
 
 const PROJECT_RULE: Argument = Argument {
     name: "RULE",
-    form: Form::Text,
+    form: Form::Name,
     help: "the priority rule: lft, slk, spt, mts or num",
 };
 
 const SHOP_RULE: Argument = Argument {
     name: "RULE",
-    form: Form::Text,
+    form: Form::Name,
     help: "the priority rule: spt, mwkr or fcfs",
 };
 
 const RULE: Argument = Argument {
     name: "RULE",
-    form: Form::Text,
+    form: Form::Name,
     help: "the priority rule: lft, slk, spt, mts or num; for a job shop spt, mwkr or fcfs",
 };
 
@@ -308,6 +311,13 @@ const GOAL: Argument = Argument {
         [default: makespan]",
 };
 
+const LIKE: Argument = Argument {
+    name: "like",
+    form: Form::Like,
+    help: "for a list of activities: take the activities in the order of the starts in this file, a \
+        table with ids, each as early as it can be; or - for standard input",
+};
+
 const SOLVED_NOW: Argument = Argument {
     name: "now",
     form: Form::SolvedNow,
@@ -319,6 +329,12 @@ const SOLVED_GOAL: Argument = Argument {
     name: "goal",
     form: Form::SolvedGoal,
     help: "with --solve, for a list of activities: makespan or tardiness, as for plan solve",
+};
+
+const SOLVED_LIKE: Argument = Argument {
+    name: "like",
+    form: Form::SolvedLike,
+    help: "with --solve, for a list of activities: keep the order of these starts, as for plan solve",
 };
 
 // The options of commands that read lists.
@@ -707,6 +723,7 @@ const SCHEDULE_COMMANDS: [Entry; 5] = [
             plan solve --capacity R1=6 examples/house.sm\n  \
             plan solve --conflicts 1000 examples/shops.txt ft06\n  \
             plan solve --now 8 --goal tardiness examples/week.csv\n  \
+            plan solve --now 8 --like old.txt examples/week.csv\n  \
             plan solve --start 2027-05-03 --days mon-fri --now 2027-05-11 examples/site.csv",
         arguments: &[
             FILE_OR_LIST,
@@ -723,6 +740,7 @@ const SCHEDULE_COMMANDS: [Entry; 5] = [
             },
             NOW,
             GOAL,
+            LIKE,
             LIST_START,
             MARKED_DAYS,
             DATED_HOLIDAYS,
@@ -799,12 +817,12 @@ const SCHEDULE_COMMANDS: [Entry; 5] = [
             RULE,
             Argument {
                 name: "START",
-                form: Form::Text,
+                form: Form::Name,
                 help: "the first date, for example 2024-03-01",
             },
             Argument {
                 name: "MARKS",
-                form: Form::Text,
+                form: Form::Name,
                 help: "the working days: mon-fri or mon,wed,fri; or seven digits, Monday first: \
                     1 for a working day, 0 for a free day",
             },
@@ -815,6 +833,7 @@ const SCHEDULE_COMMANDS: [Entry; 5] = [
             SOLVE_SECONDS,
             SOLVED_NOW,
             SOLVED_GOAL,
+            SOLVED_LIKE,
             HOLIDAYS,
             WEEKDAYS,
             PER_DAY,
@@ -858,6 +877,7 @@ const SCHEDULE_COMMANDS: [Entry; 5] = [
             SOLVE_SECONDS,
             SOLVED_NOW,
             SOLVED_GOAL,
+            SOLVED_LIKE,
             Argument {
                 name: "start",
                 form: Form::ReportStart,
@@ -1101,6 +1121,15 @@ fn arg_of<'a>(alloc: Global, argument: &Argument) -> Result<Arg<'a>, AllocError>
             .long(argument.name)
             .value_name("GOAL")
             .value_parser(GOALS)
+            .conflicts_with("INSTANCE")?,
+        Form::Like => arg
+            .long(argument.name)
+            .value_name("STARTS")
+            .conflicts_with("INSTANCE")?,
+        Form::SolvedLike => arg
+            .long(argument.name)
+            .value_name("STARTS")
+            .requires_arg("solve")?
             .conflicts_with("INSTANCE")?,
         Form::SolvedNow => arg
             .long(argument.name)

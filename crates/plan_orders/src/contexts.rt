@@ -59,11 +59,22 @@ fn task_context<'a>(task: Task<'a>, file: &'a str) -> Context<'a> {
     }
 }
 
+// Returns a context with the file of an earlier plan, if its order is kept.
+fn with_like<'a>(context: Context<'a>, week: &WeekWords<'a>) -> Context<'a> {
+    match week.like {
+        Some(name) => Context {
+            starts: Some(name),
+            ..context
+        },
+        None => context,
+    }
+}
+
 // Returns a context with the dates and the holidays of a list with dates.
 fn week_context<'a>(context: Context<'a>, week: &WeekWords<'a>) -> Context<'a> {
     let context = Context {
         holidays: week.holidays,
-        ..context
+        ..with_like(context, week)
     };
     match week.dates {
         Some(dates) => with_dates(context, dates),
@@ -113,16 +124,16 @@ fn texts_context<'a>(task: Task<'a>, file: &'a str, texts: &'a [NamedText<'a>]) 
     context
 }
 
-// Returns a context with the dates of two lists with dates, if there are some.
+// Returns a context with the dates of two lists with dates, or with the file of an earlier plan, if
+// there are some.
 fn with_week<'a>(context: Context<'a>, week: Option<WeekWords<'a>>) -> Context<'a> {
-    match week {
-        Some(
-            WeekWords {
-                dates: Some(dates),
-                ..
-            },
-        ) => with_dates(context, dates),
-        _ => context,
+    let Some(week) = week else {
+        return context;
+    };
+    let context = with_like(context, &week);
+    match week.dates {
+        Some(dates) => with_dates(context, dates),
+        None => context,
     }
 }
 
@@ -218,7 +229,7 @@ impl<'a> FileOrder<'a> {
                 log: Some(log),
                 ..file_context(file)
             },
-            FileOrder::Print(print, ..) => print_context(print),
+            FileOrder::Print(print, _, week) => with_week(print_context(print), week),
             FileOrder::New(_) | FileOrder::Explain(_) => Context::NONE,
         }
     }

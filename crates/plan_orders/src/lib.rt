@@ -19,4 +19,4 @@ pub use orders::{
     order_of, overrides_of, rows_of, texts_of,
 };
 pub use outputs::{FileId, Found, Way, way_to_write};
-pub use styles::{moments_of, style_of};
+pub use styles::{lacks_per_day, moments_of, style_of};

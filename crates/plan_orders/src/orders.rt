@@ -29,6 +29,8 @@ pub struct WeekWords<'a> {
     pub now: Option<Now<'a>>,
     /// The goal, if it is given.
     pub goal: Option<Goal>,
+    /// The name of the file of an earlier plan whose order is kept, if it is given.
+    pub like: Option<&'a str>,
     /// The dates of the calendar of `solve`, `check` or `compare`, without holidays, if they are
     /// given.
     pub dates: Option<Dates<'a>>,
@@ -147,20 +149,49 @@ fn print_input(print: &Print<'_>) -> Option<(&'static str, &'static str)> {
     named_input(print.file, starts, print.holidays)
 }
 
+// Returns the name of the file of holidays among texts.
+fn holidays_in<'a>(texts: &'a [NamedText<'a>]) -> Option<&'a str> {
+    for text in texts {
+        if text.role == Role::Holidays {
+            return Some(text.name);
+        }
+    }
+    None
+}
+
+// Returns the names of two arguments that are standard input, if one is that of an earlier plan.
+fn like_input(
+    file: &str,
+    holidays: Option<&str>,
+    week: Option<WeekWords<'_>>,
+) -> Option<(&'static str, &'static str)> {
+    match week {
+        Some(
+            WeekWords {
+                like: Some("-"),
+                ..
+            },
+        ) => named_input(file, "-", holidays),
+        _ => None,
+    }
+}
+
 impl<'a> FileOrder<'a> {
     /// Returns the names of two arguments that are standard input, if there are two.
     pub fn shared_input(&self) -> Option<(&'static str, &'static str)> {
         match *self {
-            FileOrder::Print(print, ..) => print_input(&print),
-            FileOrder::Texts { file, texts, .. } => texts_input(file, texts),
-            FileOrder::Solve {
-                file: "-",
-                week: WeekWords {
-                    holidays: Some("-"),
-                    ..
-                },
+            FileOrder::Print(print, _, week) => {
+                print_input(&print).or(like_input(print.file, print.holidays, week))
+            }
+            FileOrder::Texts {
+                file,
+                texts,
+                week,
                 ..
-            } => Some(("FILE", "HOLIDAYS")),
+            } => texts_input(file, texts).or(like_input(file, holidays_in(texts), week)),
+            FileOrder::Solve { file, week, .. } => {
+                named_input(file, week.like.unwrap_or(""), week.holidays)
+            }
             FileOrder::Check {
                 file,
                 starts,
@@ -403,6 +434,7 @@ fn week_words<'a>(arguments: &'a ArgMatches<'_>, dates: Option<Dates<'a>>) -> We
     WeekWords {
         now: arguments.get_str("now").and_then(now_of),
         goal: arguments.get_str("goal").and_then(goal_of),
+        like: arguments.get_str("like"),
         dates,
         holidays: match dates {
             Some(_) => arguments.get_str("holidays"),

@@ -6,8 +6,9 @@ use crate::misuse::Misuse;
 use crate::status::Status;
 use clap::ArgMatches;
 use plan_orders::{
-    Lists, OfficeOrder, Order, capacities_of, command, events_of, help, list_options_of,
-    misplaced_option, moments_of, order_of, overrides_of, rows_of, style_of, texts_of, version,
+    Lists, OfficeOrder, Order, capacities_of, command, events_of, help, lacks_per_day,
+    list_options_of, misplaced_option, moments_of, order_of, overrides_of, rows_of, style_of,
+    texts_of, version,
 };
 use std::alloc::Global;
 use std::env;
@@ -51,6 +52,9 @@ fn run_matches<O: Offices>(
     let options = options.map_err(|bad| Misuse::of_option(alloc, bad))?;
     if let Some(option) = misplaced_option(&matches) {
         return Err(Misuse::NeedsCalendarFile(option));
+    }
+    if lacks_per_day(&matches) {
+        return Err(Misuse::NeedsPerDay);
     }
     let texts = texts_of(alloc, &matches)?;
     let style = match style_of(alloc, &matches) {

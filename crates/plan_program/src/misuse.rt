@@ -34,6 +34,8 @@ pub enum Misuse {
     BadNow(String),
     /// The option with this name is given, and the output isn't a calendar file.
     NeedsCalendarFile(&'static str),
+    /// Dates of units that aren't days, without the units of a working day.
+    NeedsPerDay,
 }
 
 impl From<AllocError> for Misuse {
@@ -107,6 +109,10 @@ impl Misuse {
                 "T is a number from 0 to 10000000, or a date such as 2026-11-30",
             ),
             Misuse::NeedsCalendarFile(option) => print_misplaced(rt, option),
+            Misuse::NeedsPerDay => print_misuse(
+                rt,
+                "--unit with dates requires --per-day, for example --unit 0.125 --per-day 8",
+            ),
             Misuse::OneInput(first, second) => print_one_input(rt, first, second),
         }
     }

@@ -134,7 +134,7 @@ pub(crate) fn do_check_file(
         has_status,
         starts: &starts,
     };
-    let order = week_order(subject, 1, rows, words, today);
+    let order = week_order(subject, 1, rows, words, today, None);
     let mut line = ProgressLine::new(rt);
     let status = do_read(rt, check, order, calendar.as_ref(), &mut line, &file)?;
     line.print_notes();

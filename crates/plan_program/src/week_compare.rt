@@ -154,7 +154,7 @@ pub(crate) fn do_compare_files(
         starts: Pair { a: &a, b: &b },
         new: &new,
     };
-    match week_order(subject, 1, rows, words, today) {
+    match week_order(subject, 1, rows, words, today, None) {
         Some(order) => do_asked(rt, comparison, &order, calendar.as_ref(), line),
         None => Ok(do_lists(rt, comparison, line)?),
     }

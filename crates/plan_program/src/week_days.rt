@@ -3,7 +3,9 @@
 use crate::errors::FileFault;
 use crate::instants::{instants_in, today_in};
 use crate::progress::ProgressLine;
-use crate::weeks::{do_plain, do_week_list, keep_note, list_options, usage, week_in, week_order};
+use crate::weeks::{
+    do_plain, do_week_list, keep_note, like_in, list_options, usage, week_in, week_order,
+};
 use plan_cli::{
     Dates, NamedText, Options, Origin, Role, Rows, SystemInputs, Task, Unlogged, read_named,
 };
@@ -66,6 +68,7 @@ fn days_order<'a>(
     rows: Rows,
     words: WeekWords<'_>,
     today: Option<u32>,
+    like: Option<&'a [u8]>,
 ) -> Option<WeekOrder<'a>> {
     match task {
         Task::Days {
@@ -77,7 +80,7 @@ fn days_order<'a>(
             origin: Origin::Solved { conflicts },
             subject,
             ..
-        } => week_order(subject, conflicts, rows, words, today),
+        } => week_order(subject, conflicts, rows, words, today, like),
         _ => None,
     }
 }
@@ -147,7 +150,7 @@ fn do_undated(
     line: &mut ProgressLine<'_>,
     file: &[u8],
 ) -> Result<(), FileFault> {
-    if let Some(order) = days_order(task, rows, words, None) {
+    if let Some(order) = days_order(task, rows, words, None, None) {
         let reading = WeekReading {
             options: list_options(task, options),
             calendar: None,
@@ -167,6 +170,7 @@ fn do_dated(
     dates: Dates<'_>,
     rows: Rows,
     words: WeekWords<'_>,
+    like: Option<&[u8]>,
     line: &mut ProgressLine<'_>,
     file: &[u8],
 ) -> Result<(), FileFault> {
@@ -175,7 +179,7 @@ fn do_dated(
         Err(fault) => return do_undated(rt, options, task, rows, words, fault, line, file),
     };
     let today = today_in(rt, words.now, Some(&calendar))?;
-    match days_order(task, rows, words, today) {
+    match days_order(task, rows, words, today, like) {
         Some(order) => do_read(rt, options, task, rows, &order, &calendar, line, file),
         None => Ok(do_plain(rt, options, task, rows, line, &mut Unlogged, file)?),
     }
@@ -202,6 +206,17 @@ pub(crate) fn do_days_file(
         holidays: &holidays,
     };
     let task = with_dates(task, dates);
+    let like = like_in(rt, words)?;
     let file = read_named(rt.alloc(), &SystemInputs::new(rt), About::Plan, path)?;
-    do_dated(rt, options, task, dates, rows, words, line, &file)
+    do_dated(
+        rt,
+        options,
+        task,
+        dates,
+        rows,
+        words,
+        like.as_deref(),
+        line,
+        &file,
+    )
 }

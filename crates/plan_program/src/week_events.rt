@@ -22,7 +22,7 @@ fn is_dated(
     words: WeekWords<'_>,
     file: &[u8],
 ) -> Result<bool, FileFault> {
-    let Some(order) = print_week(print, words, None) else {
+    let Some(order) = print_week(print, words, None, None) else {
         return Ok(false);
     };
     let calendar = instants_in(rt, dates).ok();
@@ -78,7 +78,8 @@ pub(crate) fn do_events_file<'a>(
         marks: dates.marks,
         holidays: &holidays,
     };
-    if words.now.is_some() || words.goal.is_some() || is_dated(rt, print, dates, words, &file)? {
+    let is_asked = words.now.is_some() || words.goal.is_some() || words.like.is_some();
+    if is_asked || is_dated(rt, print, dates, words, &file)? {
         return Err(usage(rt, "--format ics doesn't support lists with dates")?);
     }
     let print = print_of(print, dates, events);

@@ -4,7 +4,7 @@ use crate::errors::FileFault;
 use crate::instants::{instants_in, today_in};
 use crate::progress::ProgressLine;
 use crate::read_input::ReadInput;
-use crate::weeks::{keep_note, usage, week_in, week_order};
+use crate::weeks::{keep_note, like_in, usage, week_in, week_order};
 use plan_cli::{Dates, Rows, SystemInputs, read_named};
 use plan_errors::{About, CliFault, write_text};
 use plan_io::StdSink;
@@ -33,6 +33,8 @@ struct Report<'a> {
     print: Print<'a>,
     shown: Shown<'a>,
     words: WeekWords<'a>,
+    /// The text of an earlier plan, if its order is kept.
+    like: Option<&'a [u8]>,
     file: &'a [u8],
 }
 
@@ -101,10 +103,11 @@ pub(crate) fn print_week<'a>(
     print: Print<'a>,
     words: WeekWords<'_>,
     today: Option<u32>,
+    like: Option<&'a [u8]>,
 ) -> Option<WeekOrder<'a>> {
     match print.origin {
         NamedOrigin::Solved { conflicts } => {
-            week_order(print.subject, conflicts, Rows::Plain, words, today)
+            week_order(print.subject, conflicts, Rows::Plain, words, today, like)
         }
         NamedOrigin::Rule(_) | NamedOrigin::Default | NamedOrigin::Starts(_) => None,
     }
@@ -118,7 +121,7 @@ fn do_read(
     line: &mut ProgressLine<'_>,
 ) -> Result<(), FileFault> {
     let today = today_in(rt, report.words.now, calendar)?;
-    if let Some(order) = print_week(report.print, report.words, today) {
+    if let Some(order) = print_week(report.print, report.words, today, report.like) {
         let reading = WeekReading {
             options: report.print.options,
             calendar,
@@ -141,7 +144,7 @@ fn do_undated(
     fault: CliFault,
     line: &mut ProgressLine<'_>,
 ) -> Result<(), FileFault> {
-    if let Some(order) = print_week(report.print, report.words, None) {
+    if let Some(order) = print_week(report.print, report.words, None, None) {
         let reading = WeekReading {
             options: report.print.options,
             calendar: None,
@@ -182,6 +185,7 @@ pub(crate) fn do_report_file(
         Some(name) => read_named(rt.alloc(), &inputs, About::Holidays, name)?,
         None => Vec::new(rt.alloc()),
     };
+    let like = like_in(rt, words)?;
     let file = read_named(rt.alloc(), &inputs, About::Plan, print.file)?;
     let shown = Shown {
         title: shown.title,
@@ -193,6 +197,7 @@ pub(crate) fn do_report_file(
         print: print_of(print, shown),
         shown,
         words,
+        like: like.as_deref(),
         file: &file,
     };
     do_report(rt, report, line)

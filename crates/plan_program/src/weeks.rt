@@ -44,14 +44,26 @@ pub(crate) fn list_options<'a>(
     }
 }
 
-/// Returns the order of a search within a conflict limit for a list with dates, from an instant on;
-/// `None` for a job shop.
+/// Reads the file of an earlier plan, if its order is kept.
+pub(crate) fn like_in(rt: &HostRuntime, words: WeekWords<'_>) -> Result<Option<Vec<u8>>, CliFault> {
+    match words.like {
+        Some(name) => {
+            let text = read_named(rt.alloc(), &SystemInputs::new(rt), About::Starts, name)?;
+            Ok(Some(text))
+        }
+        None => Ok(None),
+    }
+}
+
+/// Returns the order of a search within a conflict limit for a list with dates, from an instant on
+/// and like an earlier plan; `None` for a job shop.
 pub(crate) fn week_order<'a>(
     subject: Subject<'a>,
     conflicts: u64,
     rows: Rows,
     words: WeekWords<'_>,
     today: Option<u32>,
+    like: Option<&'a [u8]>,
 ) -> Option<WeekOrder<'a>> {
     let Subject::Project(capacities) = subject else {
         return None;
@@ -59,6 +71,7 @@ pub(crate) fn week_order<'a>(
     Some(WeekOrder {
         today,
         goal: words.goal,
+        like,
         capacities,
         conflicts,
         format: match rows {
@@ -75,9 +88,10 @@ pub(crate) fn usage(rt: &HostRuntime, words: &str) -> Result<FileFault, AllocErr
 
 /// Returns the error of an option for lists of activities on another file.
 pub(crate) fn no_list(rt: &HostRuntime, order: &WeekOrder<'_>) -> Result<FileFault, AllocError> {
-    match order.today {
-        Some(_) => usage(rt, "--now requires a list of activities"),
-        None => usage(rt, "--goal requires a list of activities"),
+    match (order.today, order.like) {
+        (Some(_), _) => usage(rt, "--now requires a list of activities"),
+        (None, Some(_)) => usage(rt, "--like requires a list of activities"),
+        (None, None) => usage(rt, "--goal requires a list of activities"),
     }
 }
 
@@ -195,6 +209,7 @@ fn solve_order<'a>(
     rows: Rows,
     words: WeekWords<'_>,
     today: Option<u32>,
+    like: Option<&'a [u8]>,
 ) -> Option<WeekOrder<'a>> {
     match task {
         Task::Solve { conflicts, subject }
@@ -202,7 +217,7 @@ fn solve_order<'a>(
             origin: Origin::Solved { conflicts },
             subject,
             ..
-        } => week_order(subject, conflicts, rows, words, today),
+        } => week_order(subject, conflicts, rows, words, today, like),
         _ => None,
     }
 }
@@ -249,8 +264,9 @@ pub(crate) fn do_solve_file(
 ) -> Result<(), FileFault> {
     let calendar = calendar_in(rt, words)?;
     let today = today_in(rt, words.now, calendar.as_ref())?;
+    let like = like_in(rt, words)?;
     let file = read_named(rt.alloc(), &SystemInputs::new(rt), About::Plan, path)?;
-    match solve_order(task, rows, words, today) {
+    match solve_order(task, rows, words, today, like.as_deref()) {
         Some(order) => {
             let calendar = calendar.as_ref();
             do_read(rt, options, task, rows, &order, calendar, line, log, &file)

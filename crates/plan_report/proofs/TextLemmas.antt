@@ -83,13 +83,13 @@ json_read sheet text starts says =
     (ap (table_by (has_ids sheet) sheet.columns) says.json) (table_read forms.Json sheet (table_with (has_ids sheet) sheet.columns says.value) starts says.said)
 
 by_said : (f : Form) (sheet : Sheet) (text starts : List ℕ) → starts_by f sheet text ≡ Ok starts → SaysBy f sheet text starts
-by_said forms.Numbers sheet text starts e = numbers_said (length sheet.entries) text starts e
+by_said forms.Numbers sheet text starts e = numbers_said (length sheet.entries) (without_mark text) starts e
 by_said forms.Table sheet text starts e = table_said forms.Table sheet text starts e
 by_said forms.Csv sheet text starts e = table_said forms.Csv sheet text starts e
 by_said forms.Json sheet text starts e = json_said sheet text starts e
 
 by_read : (f : Form) (sheet : Sheet) (text starts : List ℕ) → SaysBy f sheet text starts → starts_by f sheet text ≡ Ok starts
-by_read forms.Numbers sheet text starts says = numbers_read (length sheet.entries) text starts says
+by_read forms.Numbers sheet text starts says = numbers_read (length sheet.entries) (without_mark text) starts says
 by_read forms.Table sheet text starts says = table_read forms.Table sheet text starts says
 by_read forms.Csv sheet text starts says = table_read forms.Csv sheet text starts says
 by_read forms.Json sheet text starts says = json_read sheet text starts says

@@ -169,7 +169,7 @@ pub record SaysJson (sheet : Sheet) (text starts : List ℕ) : Type 0 where
 
 -- a text of a form gives starts
 abbrev pub SaysBy : Form → Sheet → List ℕ → List ℕ → Type 0
-SaysBy forms.Numbers sheet text starts = SaysNumbers (length sheet.entries) text starts
+SaysBy forms.Numbers sheet text starts = SaysNumbers (length sheet.entries) (without_mark text) starts
 SaysBy forms.Table sheet text starts = SaysTable forms.Table sheet text starts
 SaysBy forms.Csv sheet text starts = SaysTable forms.Csv sheet text starts
 SaysBy forms.Json sheet text starts = SaysJson sheet text starts
@@ -200,7 +200,7 @@ json_starts sheet text = do
   table_starts forms.Json sheet table
 
 abbrev pub starts_by : Form → Sheet → List ℕ → Result (List ℕ) Fault
-starts_by forms.Numbers sheet text = numbers_in (length sheet.entries) text
+starts_by forms.Numbers sheet text = numbers_in (length sheet.entries) (without_mark text)
 starts_by forms.Table sheet text = table_starts forms.Table sheet text
 starts_by forms.Csv sheet text = table_starts forms.Csv sheet text
 starts_by forms.Json sheet text = json_starts sheet text

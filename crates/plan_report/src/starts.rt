@@ -262,7 +262,7 @@ fn read_starts(alloc: Global, sheet: &Sheet<'_>, text: &[u8]) -> Result<Vec<u64>
 {
     check_text(text)?;
     match form_of(sheet, text) {
-        Form::Numbers => read_numbers(alloc, sheet.entries.len(), text),
+        Form::Numbers => read_numbers(alloc, sheet.entries.len(), without_mark(text)),
         Form::Table => table_starts(alloc, Form::Table, sheet, text),
         Form::Csv => table_starts(alloc, Form::Csv, sheet, text),
         Form::Json => json_starts(alloc, sheet, text),

@@ -44,9 +44,9 @@ fn push_name(alloc: Global, names: &mut Vec<Vec<u8>>, name: &[u8]) -> Result<(),
     Ok(())
 }
 
-// Names, and those of parts behind them.
+/// Returns names, and those of parts behind them.
 #[tactic(auto, unfolding(crate::specs::Assignments::names_in))]
-fn with_names(
+pub fn with_names(
     alloc: Global,
     names: Vec<Vec<u8>>,
     parts: &[Vec<u8>],
@@ -89,9 +89,9 @@ fn push_amount(text: &mut Vec<u8>, name: &[u8], part: &[u8]) -> Result<(), Alloc
     Ok(())
 }
 
-// All amounts of a resource in parts.
+/// Returns all amounts of a resource in parts, each with a blank behind it.
 #[tactic(auto, unfolding(crate::specs::Assignments::amounts_from))]
-fn amounts_of(alloc: Global, name: &[u8], parts: &[Vec<u8>]) -> Result<Vec<u8>, AllocError>
+pub fn amounts_of(alloc: Global, name: &[u8], parts: &[Vec<u8>]) -> Result<Vec<u8>, AllocError>
     ensures { IfOk result (λ v. v.items ≡ spec.amounts_from name.now []
         (map (λ part. part.items) parts.now)) }
 {
@@ -220,9 +220,9 @@ fn is_assignments(body: &Body<'_>, k: usize, head: &Head) -> bool
         && !any_number(body.rows, body.place, k)
 }
 
-// The first column that has names of resources.
+/// Returns the first column that has names of resources. The columns are settled.
 #[tactic(auto, unfolding(crate::specs::Assignments::place_from))]
-fn place_of(body: &Body<'_>, heads: &[Head]) -> Option<usize>
+pub fn place_of(body: &Body<'_>, heads: &[Head]) -> Option<usize>
     ensures { result ≡ spec.place_from (body_of body.now) 0 (map head_of heads.now) }
 {
     for (k, head) in heads.iter().enumerate() {

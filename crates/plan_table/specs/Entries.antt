@@ -11,11 +11,12 @@ use Rattle.plan_table.specs.declared.header.Column.TheVariants as columns
 use Rattle.plan_table.specs.declared.entries.Entries as declared
 use Rattle.plan_table.specs.Csv.{Row}
 use Rattle.plan_table.specs.Reading.{Fault, fault, check, ◌>>=◌}
-use Rattle.plan_table.specs.Cells.{same_name, amount}
+use Rattle.plan_table.specs.Cells.{amount}
 use Rattle.plan_table.specs.Header.{Head, same_kind}
 use Rattle.plan_table.specs.Limits.{most_rows}
 use Rattle.plan_table.specs.Predecessors.{Label}
 use Rattle.plan_table.specs.Rows.{first_cell, activity_read}
+use Rattle.plan_table.specs.Synonyms.{is_capacity_word}
 use Rattle.plan_table.specs.Table.{Activity, activity_of}
 
 -- a row in which nothing stands
@@ -52,7 +53,7 @@ name_of (Some place) cells = trim (first_cell (drop place cells))
 
 -- the row of the capacities, without regard to ASCII case
 abbrev pub is_capacity : Option ℕ → List ℕ → Bool
-is_capacity place id = is_some place && same_name id (codes "capacity")
+is_capacity place id = is_some place && is_capacity_word id
 
 -- the row of an activity
 abbrev pub is_activity : Option ℕ → List ℕ → List (List ℕ) → Bool

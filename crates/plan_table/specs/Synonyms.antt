@@ -151,6 +151,21 @@ successor_words = codes "successors" ∷ codes "nachfolger" ∷ codes "successeu
 abbrev pub is_successor_word : List ℕ → Bool
 is_successor_word key = list_any (λ word. same_name word key) successor_words
 
+-- words for the id of the row of the capacities
+abbrev pub capacity_words : List (List ℕ)
+capacity_words =
+    codes "capacity"
+    ∷ (codes "kapazit" ++ a_umlaut ++ codes "t")
+    ∷ codes "kapazitaet"
+    ∷ (codes "capacit" ++ e_acute)
+    ∷ codes "capacite"
+    ∷ codes "capacidad"
+    ∷ []
+
+-- an id is a word for the row of the capacities
+abbrev pub is_capacity_word : List ℕ → Bool
+is_capacity_word id = list_any (λ word. same_name word id) capacity_words
+
 -- the kind of the first of some synonyms with this word
 abbrev pub kind_in : List ℕ → List Synonym → Option Column
 kind_in key [] = None

@@ -11,12 +11,13 @@ ghost use Rattle.plan_table.specs.Reading.{Gives};
 ghost use Rattle.plan_table.specs.Rows.{first_cell};
 ghost use Rattle.plan_table.specs.Table.{activity_of};
 
-use crate::cells::{amount, same_name, word_fault};
+use crate::cells::{amount, word_fault};
 use crate::fault::{ReadError, TableCode};
 use crate::header::{Column, Head, same_kind};
 use crate::predecessors::Label;
 use crate::records::Row;
 use crate::rows::{Ids, read_activity, split_first};
+use crate::synonyms::is_capacity_word;
 use crate::table::Activity;
 use plan_psplib::trim;
 use std::alloc::{AllocError, Global};
@@ -60,7 +61,7 @@ pub fn filled_from(rows: &[Row]) -> &[Row]
 fn is_capacity(place: Option<usize>, id: &[u8]) -> bool
     ensures { result ≡ spec.is_capacity place id.now }
 {
-    place.is_some() && same_name(id, b"capacity")
+    place.is_some() && is_capacity_word(id)
 }
 
 /// The cell at a place, an empty one if there is none.

@@ -8,13 +8,13 @@ ghost use Rattle.plan_table.specs.Overrides.{override_of};
 ghost use Rattle.plan_table.specs.Reading.{Gives};
 ghost use Rattle.plan_table.specs.Settlement as spec;
 
-use crate::cells::{same_name, word_fault};
+use crate::cells::word_fault;
 use crate::entries::{cell_at, id_place};
 use crate::fault::{ReadError, TableCode};
 use crate::header::{Column, Head, check_heads, has_kind, read_heads, same_kind};
 use crate::overrides::{Override, given};
 use crate::records::Row;
-use crate::synonyms::{is_note_word, is_successor_word, synonym_kind};
+use crate::synonyms::{is_capacity_word, is_note_word, is_successor_word, synonym_kind};
 use plan_psplib::trim;
 use std::alloc::{AllocError, Global};
 
@@ -38,7 +38,7 @@ pub fn is_capacities(place: Option<usize>, row: &Row) -> bool
     ensures { result ≡ spec.is_capacities place (row_of row.now) }
 {
     match place {
-        Some(place) => same_name(cell_of(row, place), b"capacity"),
+        Some(place) => is_capacity_word(cell_of(row, place)),
         None => false,
     }
 }

@@ -244,3 +244,20 @@ pub fn is_successor_word(key: &[u8]) -> bool
 {
     is_among(&SUCCESSOR_WORDS, key)
 }
+
+/// Words for the id of the row of the capacities, in English, German, French and Spanish.
+const CAPACITY_WORDS: [&[u8]; 6] = [
+    b"capacity",
+    b"kapazit\xc3\xa4t",
+    b"kapazitaet",
+    b"capacit\xc3\xa9",
+    b"capacite",
+    b"capacidad",
+];
+
+/// Whether an id is a word for the row of the capacities.
+pub fn is_capacity_word(id: &[u8]) -> bool
+    ensures { result ≡ spec.is_capacity_word id.now }
+{
+    is_among(&CAPACITY_WORDS, id)
+}

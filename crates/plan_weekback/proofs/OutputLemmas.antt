@@ -17,8 +17,8 @@ use Rattle.plan_weekback.specs.Sameness.{MeansList}
 use Rattle.plan_weekback.specs.declared.readings.WeekReading.{WeekReading}
 use Rattle.plan_weekback.specs.declared.readings.WeekText.{WeekText}
 use Rattle.plan_weekfile.specs.Lines.{TellsDates}
-use Rattle.plan_weekfile.specs.Orders.{goal_or_makespan}
-use Rattle.plan_weekfile.specs.Weeks.{IsWeekWith, TellsNoWeek, TellsUnplanned}
+use Rattle.plan_weekfile.specs.Plans.{IsPlanBy, TellsNoPlanBy}
+use Rattle.plan_weekfile.specs.Weeks.{IsWeekWith, TellsNoWeek}
 use Rattle.plan_weekfile.specs.declared.order.WeekOrder.{WeekOrder}
 use Rattle.plan_weeklist.specs.Faults.{fault_of}
 use Rattle.plan_weeklist.specs.Lists.{IsNoWeekList, IsWeekList}
@@ -28,7 +28,6 @@ use Rattle.plan_weeklist.specs.declared.fault.WeekFault.{WeekFault}
 use Rattle.plan_weeklist.specs.declared.list.WeekList.{WeekList}
 use Rattle.plan_weeklist.specs.declared.listed.ListFault.TheVariants as faults
 use Rattle.plan_weeklist.specs.declared.listed.ListedWeek.{ListedWeek}
-use Rattle.plan_weeks.specs.WeekPlans.{IsPlanned}
 use Rattle.plan_weeks.specs.declared.planning.WeekPlan.{WeekPlan}
 use Rattle.plan_weekview.specs.DaysOutputs.{TellsDays}
 
@@ -74,10 +73,10 @@ week_refused order reading calendar file text t e is same told =
 
 -- the error of its plan
 pub plan_refused : (order : WeekOrder) (reading : WeekReading) (calendar : Option Workdays) (file text : List ℕ) (t : WeekText) (listed : ListedWeek) (e : CliFault)
-    → IsWeekText reading file t → text ≡ text_of t file → IsWeekWith order.capacities.now order.today text listed → Refuses (TellsUnplanned listed) e
+    → IsWeekText reading file t → text ≡ text_of t file → IsWeekWith order.capacities.now order.today text listed → Refuses (TellsNoPlanBy order listed) e
     → Refuses (RefusesWeekBack order reading calendar file) e
 plan_refused order reading calendar file text t listed e is same week told =
-    refuses_as (TellsUnplanned listed) (RefusesWeekBack order reading calendar file) e
+    refuses_as (TellsNoPlanBy order listed) (RefusesWeekBack order reading calendar file) e
     (λ line tells. inr (text, is_read reading file text t is same, inl (inr (listed, week, tells)))) told
 
 -- the first check that the dates of a text fail is an error of its week
@@ -88,7 +87,7 @@ dates_of_week (first ∷ more) today text line (fault, fails, tells) = inl (faul
 -- an error of the list is one of the week, a day that is too late, or one of the columns
 no_list : (order : WeekOrder) (reading : WeekReading) (calendar : Option Workdays) (file text line : List ℕ) (listed : ListedWeek) (plan : WeekPlan)
     → IsRead reading file text → IsWeekWith order.capacities.now order.today text listed
-    → IsPlanned (goal_or_makespan order.goal) listed.week plan → TellsNoList order reading calendar text listed plan file line
+    → IsPlanBy order listed plan → TellsNoList order reading calendar text listed plan file line
     → RefusesWeekBack order reading calendar file line
 no_list order reading calendar file text line listed plan read week planned (inl (inl tells)) =
     inr (text, read, inl (inl (dates_of_week order.capacities.now order.today text line tells)))
@@ -100,7 +99,7 @@ no_list order reading calendar file text line listed plan read week planned (inr
 -- the error of its list
 pub list_refused : (order : WeekOrder) (reading : WeekReading) (calendar : Option Workdays) (file text : List ℕ) (t : WeekText) (listed : ListedWeek)
     (plan : WeekPlan) (e : CliFault) → IsWeekText reading file t → text ≡ text_of t file → IsWeekWith order.capacities.now order.today text listed
-    → IsPlanned (goal_or_makespan order.goal) listed.week plan → Refuses (TellsNoList order reading calendar text listed plan file) e
+    → IsPlanBy order listed plan → Refuses (TellsNoList order reading calendar text listed plan file) e
     → Refuses (RefusesWeekBack order reading calendar file) e
 list_refused order reading calendar file text t listed plan e is same week planned told =
     refuses_as (TellsNoList order reading calendar text listed plan file) (RefusesWeekBack order reading calendar file) e
@@ -143,7 +142,7 @@ plan_shown calendar today text file made listed plan entries late are asked back
 -- the list with the columns of a plan
 pub list_shown : (order : WeekOrder) (reading : WeekReading) (calendar : Option Workdays) (file text made : List ℕ) (t : WeekText) (listed : ListedWeek)
     (plan : WeekPlan) → IsWeekText reading file t → text ≡ text_of t file → IsWeekWith order.capacities.now order.today text listed
-    → IsPlanned (goal_or_makespan order.goal) listed.week plan → ShowsPlan calendar order.today text listed plan file made
+    → IsPlanBy order listed plan → ShowsPlan calendar order.today text listed plan file made
     → MeansList order.capacities.now order.today reading made listed → ShowsWeekBack order reading calendar file made
 list_shown order reading calendar file text made t listed plan is same week planned shown means = (
   text,

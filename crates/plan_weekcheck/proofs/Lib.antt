@@ -1,3 +1,1 @@
-mod OpenedLemmas
-mod StartLemmas
 mod OutputLemmas

@@ -4,7 +4,7 @@ use Rattle.plan_documents.proofs.ErrorLemmas.{refuses_as}
 use Rattle.plan_errors.specs.declared.fault.CliFault.{CliFault}
 use Rattle.plan_errors.specs.Output.{Refuses}
 use Rattle.plan_weekcheck.specs.Outputs.{IsVerdictOn, ShowsVerdict, RefusesCheck, verdict_text}
-use Rattle.plan_weekcheck.specs.Starts.{TellsNoOpenStarts}
+use Rattle.plan_weekstarts.specs.Starts.{TellsNoOpenStarts}
 use Rattle.plan_weekfile.specs.declared.order.WeekOrder.{WeekOrder}
 use Rattle.plan_weekfile.specs.Weeks.{IsWeekWith, TellsNoWeek}
 use Rattle.plan_weeklist.specs.declared.listed.ListedWeek.{ListedWeek}

@@ -1,5 +1,2 @@
-pub mod Opened
-pub mod Kept
-pub mod Starts
 pub mod Sentences
 pub mod Outputs

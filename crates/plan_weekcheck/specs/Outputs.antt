@@ -5,7 +5,7 @@ use Rattle.plan_formats.specs.TableText.{text_of}
 use Rattle.plan_formats.specs.declared.format.Format.{Format}
 use Rattle.plan_views.specs.LineLists.{verdict_view_of}
 use Rattle.plan_weekcheck.specs.Sentences.{sentence_of}
-use Rattle.plan_weekcheck.specs.Starts.{SaysOpenStarts, TellsNoOpenStarts}
+use Rattle.plan_weekstarts.specs.Starts.{SaysOpenStarts, TellsNoOpenStarts}
 use Rattle.plan_weekfile.specs.declared.order.WeekOrder.{WeekOrder}
 use Rattle.plan_weekfile.specs.Weeks.{IsWeekWith, TellsNoWeek}
 use Rattle.plan_weeklist.specs.declared.listed.ListedWeek.{ListedWeek}

@@ -3,15 +3,15 @@
 ghost use Rattle.std.specs.Prelude.{◌≡◌, IfErr, IfOk};
 ghost use Rattle.plan_errors.specs.Output.{Refuses};
 ghost use Rattle.plan_weekcheck.specs.Outputs as spec;
-ghost use Rattle.plan_weekcheck.specs.Starts.{SaysOpenStarts, TellsNoOpenStarts};
+ghost use Rattle.plan_weekstarts.specs.Starts.{SaysOpenStarts, TellsNoOpenStarts};
 
-use crate::reading::read_open_starts;
 use crate::sentences::sentence_of;
 use plan_errors::CliFault;
 use plan_formats::{Format, format_table, table_text};
 use plan_views::verdict_view;
 use plan_weekfile::{WeekOrder, listed_week};
 use plan_weeklist::ListedWeek;
+use plan_weekstarts::read_open_starts;
 use plan_weekverdict::{WeekVerdict, all_starts, check_week};
 use std::alloc::{AllocError, Global};
 

@@ -4,7 +4,7 @@ use Rattle.plan_documents.proofs.ErrorLemmas.{refuses_as}
 use Rattle.plan_errors.specs.declared.fault.CliFault.{CliFault}
 use Rattle.plan_errors.specs.Output.{Refuses}
 use Rattle.plan_views.specs.IdComparisons.{IdStart}
-use Rattle.plan_weekcheck.specs.Starts.{SaysOpenStarts}
+use Rattle.plan_weekstarts.specs.Starts.{SaysOpenStarts}
 use Rattle.plan_weekcompare.specs.Outputs.{RefusesComparison, ShowsComparison, comparison_text}
 use Rattle.plan_weekcompare.specs.Schedules.{GivesStarts, IsNamedWeek, IsSchedule, TellsNoIds, TellsNoList, TellsNoNamedWeek, TellsNoSchedule, TellsNoStarts}
 use Rattle.plan_weekcompare.specs.Shown.{shown_starts}

@@ -12,8 +12,8 @@ use Rattle.plan_week.specs.declared.week.State.{State}
 use Rattle.plan_week.specs.declared.week.State.TheVariants.{Open, Begun, Done}
 use Rattle.plan_week.specs.declared.week.Week.{Week}
 use Rattle.plan_week.specs.Weeks.{is_open, project_of, state_of}
-use Rattle.plan_weekcheck.specs.Opened.{open_durations}
-use Rattle.plan_weekcheck.specs.Starts.{SaysFor, SaysOpen, SaysOpenStarts, inner, open_sheet, open_text}
+use Rattle.plan_weekstarts.specs.Opened.{open_durations}
+use Rattle.plan_weekstarts.specs.Starts.{SaysFor, SaysOpen, SaysOpenStarts, inner, open_sheet, open_text}
 use Rattle.plan_weekcompare.proofs.InstantLemmas.{IsEarlyState, week_early}
 use Rattle.plan_weekcompare.specs.Schedules.{GivesStarts, IsNamedWeek}
 use Rattle.plan_weekcompare.specs.Shown.{AreInTime, start_in}

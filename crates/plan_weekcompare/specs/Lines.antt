@@ -4,7 +4,7 @@ use Rattle.plan_errors.specs.Faults.{refusal_line}
 use Rattle.plan_errors.specs.Output.{Refuses}
 use Rattle.plan_errors.specs.declared.fault.CliFault.{CliFault}
 use Rattle.plan_errors.specs.declared.fault.CliFault.TheVariants as fault
-use Rattle.plan_weekcheck.specs.Starts.{limit_line}
+use Rattle.plan_weekstarts.specs.Starts.{limit_line}
 use Rattle.plan_weekcompare.specs.declared.faults.Side.{Side}
 use Rattle.plan_weekcompare.specs.declared.faults.Side.TheVariants as side
 

@@ -1,7 +1,7 @@
 -- The schedule that a list with dates and a text of starts give.
 use Rattle.std.specs.Prelude.{◌≡◌, ◌⊎◌, ℕ, true, false, List, codes}
 use Rattle.plan_views.specs.IdComparisons.{IdStart}
-use Rattle.plan_weekcheck.specs.Starts.{SaysOpenStarts, TellsNoOpenStarts}
+use Rattle.plan_weekstarts.specs.Starts.{SaysOpenStarts, TellsNoOpenStarts}
 use Rattle.plan_weekcompare.specs.Lines.{IsLineAs, list_line, starts_line}
 use Rattle.plan_weekcompare.specs.Shown.{shown_starts}
 use Rattle.plan_weekcompare.specs.declared.faults.Side.{Side}

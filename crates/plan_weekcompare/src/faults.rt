@@ -3,7 +3,7 @@
 ghost use Rattle.std.specs.Prelude.{◌≡◌, bytes_eq, IfOk};
 ghost use Rattle.plan_errors.specs.Faults.{IsAbout, refusal_line};
 ghost use Rattle.plan_errors.specs.Output.{Refuses};
-ghost use Rattle.plan_weekcheck.specs.Starts.{limit_line};
+ghost use Rattle.plan_weekstarts.specs.Starts.{limit_line};
 ghost use Rattle.plan_weekcompare.specs.Lines as spec;
 
 use plan_errors::{About, CliFault, Part, Refusal};

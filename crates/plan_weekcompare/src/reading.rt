@@ -2,15 +2,15 @@
 
 ghost use Rattle.std.specs.Prelude.{◌≡◌, true, IfErr, IfOk};
 ghost use Rattle.plan_errors.specs.Output.{Refuses};
-ghost use Rattle.plan_weekcheck.specs.Starts.{TellsNoOpenStarts};
 ghost use Rattle.plan_weekcompare.specs.Schedules as spec;
 ghost use Rattle.plan_weekcompare.specs.Shown.{AreInTime, shown_starts};
+ghost use Rattle.plan_weekstarts.specs.Starts.{TellsNoOpenStarts};
 
 use crate::faults::{Side, list_fault, starts_fault};
 use plan_errors::{About, CliFault, Code, refuse_words};
-use plan_weekcheck::read_open_starts;
 use plan_weekfile::{WeekOrder, listed_week};
 use plan_weeklist::ListedWeek;
+use plan_weekstarts::read_open_starts;
 use plan_weekverdict::all_starts;
 use std::alloc::Global;
 

@@ -9,6 +9,7 @@ use Rattle.plan_week.specs.declared.week.Week.{Week}
 use Rattle.plan_weekfile.specs.declared.order.WeekOrder.{WeekOrder}
 use Rattle.plan_weekfile.specs.Lines.{IsLimited, TellsList, TellsPlan}
 use Rattle.plan_weekfile.specs.Outputs.{RefusesWeek}
+use Rattle.plan_weekfile.specs.Plans.{TellsNoPlanBy}
 use Rattle.plan_weekfile.specs.Weeks.{IsNoSoundWeek, IsWeekWith, TellsNoCapacity, TellsNoGiven, TellsNoOwn, TellsNoWeek, TellsUnplanned}
 use Rattle.plan_weeklist.specs.declared.listed.ListFault.{ListFault}
 use Rattle.plan_weeklist.specs.declared.listed.ListedWeek.{ListedWeek}
@@ -60,7 +61,7 @@ no_week order text e told =
 
 -- so is the error of its plan
 pub no_plan : (order : WeekOrder) (text : List ℕ) (listed : ListedWeek) (e : CliFault)
-    → IsWeekWith order.capacities.now order.today text listed → Refuses (TellsUnplanned listed) e
+    → IsWeekWith order.capacities.now order.today text listed → Refuses (TellsNoPlanBy order listed) e
     → Refuses (RefusesWeek order text) e
 no_plan order text listed e is told =
-    refuses_as (TellsUnplanned listed) (RefusesWeek order text) e (λ line tells. inr (listed, is, tells)) told
+    refuses_as (TellsNoPlanBy order listed) (RefusesWeek order text) e (λ line tells. inr (listed, is, tells)) told

@@ -1,5 +1,6 @@
 mod FaultLemmas
 mod FileLemmas
 mod KindLemmas
+mod PlanLemmas
 mod SoundLemmas
 mod WeekLemmas

@@ -10,13 +10,12 @@ use Rattle.plan_views.specs.LinkColumns.{Links}
 use Rattle.plan_week.specs.declared.week.Week.{Week}
 use Rattle.plan_weekfile.specs.Links.{week_links}
 use Rattle.plan_weekfile.specs.declared.order.WeekOrder.{WeekOrder}
-use Rattle.plan_weekfile.specs.Orders.{goal_or_makespan}
 use Rattle.plan_weekfile.specs.Outputs.{ShowsWeek}
+use Rattle.plan_weekfile.specs.Plans.{IsPlanBy}
 use Rattle.plan_weekfile.specs.Texts.{formatted, linked_view, plan_text}
 use Rattle.plan_weekfile.specs.Weeks.{AreCapacities, IsGivenWeek, IsWeekWith, KeepsAllButCapacities, TellsNoGiven, TellsNoWeek}
 use Rattle.plan_weeklist.specs.declared.listed.ListedWeek.{ListedWeek}
 use Rattle.plan_weeklist.specs.ListedLists.{IsListedWeek}
-use Rattle.plan_weeks.specs.WeekPlans.{IsPlanned}
 use Rattle.plan_weeks.specs.WeekTables.{ids_from}
 use Rattle.plan_weeks.specs.declared.planning.WeekPlan.{WeekPlan}
 
@@ -55,7 +54,7 @@ formatted_text format listed plan ids links table text named linked shown is =
 
 -- the text of a plan
 pub shown_week : (order : WeekOrder) (text output : List ℕ) (listed : ListedWeek) (plan : WeekPlan)
-    → IsWeekWith order.capacities.now order.today text listed → IsPlanned (goal_or_makespan order.goal) listed.week plan
+    → IsWeekWith order.capacities.now order.today text listed → IsPlanBy order listed plan
     → output ≡ plan_text order.format listed plan → ShowsWeek order text output
 shown_week order text output listed plan week planned is =
     (listed, plan, record { week = week; planned = planned; shown = is })

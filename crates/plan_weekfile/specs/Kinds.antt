@@ -37,8 +37,8 @@ abbrev pub IsList : List ℕ → Bool → Type 0
 IsList text is = OfList [] text (λ list.
     (kind : Option ListKind) × IsKind list kind × (is ≡ is_activities kind))
 
--- whether a text is planned with its dates: any list of activities is, if an instant or a goal is
--- given
+-- whether a text is planned with its dates: any list of activities is, if an instant, a goal or an
+-- earlier plan is given
 abbrev pub HasWeekIf : Bool → List ℕ → Bool → Type 0
 HasWeekIf true = IsList
 HasWeekIf false = HasDates

@@ -4,5 +4,6 @@ pub mod Kinds
 pub mod Lines
 pub mod Weeks
 pub mod Links
+pub mod Plans
 pub mod Texts
 pub mod Outputs

@@ -48,7 +48,7 @@ fn is_list(alloc: Global, text: &[u8]) -> Result<bool, CliFault>
 }
 
 /// Whether a file is planned with its dates: a list of activities that has dates or absences, or
-/// any list of activities if `--now` or `--goal` is given. Errors: `T1`, `T18`.
+/// any list of activities if `--now`, `--goal` or `--like` is given. Errors: `T1`, `T18`.
 pub fn has_week(alloc: Global, order: &WeekOrder<'_>, text: &[u8]) -> Result<bool, CliFault>
     ensures known { IfOk result (λ is. spec.HasWeek order.now text.now is) }
     ensures refused { IfErr result (Refuses (TellsNoList [] text.now)) }

@@ -23,15 +23,18 @@ pub struct WeekOrder<'a> {
     pub conflicts: u64,
     /// The format (`--format`), or none for the text.
     pub format: Option<Format>,
+    /// The text of an earlier plan (`--like`), if it is given: its activities are planned in the
+    /// order of their starts. It is a table with ids as `plan solve` prints it, or CSV or JSON.
+    pub like: Option<&'a [u8]>,
 }
 
 impl<'a> WeekOrder<'a> {
-    /// Whether `--now` or `--goal` is given. They need a list of activities, and any such list is
-    /// planned then.
+    /// Whether `--now`, `--goal` or `--like` is given. They need a list of activities, and any such
+    /// list is planned then.
     pub fn is_asked(&self) -> bool
         ensures { result ≡ spec.is_asked self.now }
     {
-        self.today.is_some() || self.goal.is_some()
+        self.today.is_some() || self.goal.is_some() || self.like.is_some()
     }
 
     // Returns the goal: the makespan if none is given.

@@ -1,5 +1,6 @@
--- The columns of dates in a list.
+-- The columns of dates in a list, and that of names of resources.
 use Rattle.std.specs.Prelude.{ℕ, ◌+◌, ◌==◌, ◌&&◌, ◌||◌, Bool, true, false, if◌then◌else◌, List, [], ◌∷◌, Option, Some, None, codes, not, is_none}
+use Rattle.plan_spreadsheet.specs.Assignments as assignments
 use Rattle.plan_table.specs.declared.header.Column.TheVariants as kinds
 use Rattle.plan_table.specs.Cells.{same, same_name}
 use Rattle.plan_table.specs.Csv.{Row}
@@ -30,6 +31,7 @@ columns_of body heads = record {
   done = dated_from body (codes "done") 0 heads;
   due = dated_from body (codes "due") 0 heads;
   late = dated_from body (codes "late") 0 heads;
+  names = assignments.place_from body 0 heads;
 }
 
 -- a column is column k

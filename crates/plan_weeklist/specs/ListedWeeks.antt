@@ -5,7 +5,7 @@ use Rattle.plan_kernel.specs.declared.input.Absence.{Absence}
 use Rattle.plan_week.specs.declared.week.State.{State}
 use Rattle.plan_week.specs.declared.week.State.TheVariants.{Open, Begun, Done}
 use Rattle.plan_week.specs.declared.week.Week.{Week}
-use Rattle.plan_table.specs.Cells.{same}
+use Rattle.plan_table.specs.Cells.{same, same_name}
 use Rattle.plan_table.specs.Table.{Activity, Resource, Table}
 use Rattle.plan_weeklist.specs.declared.dates.Beginning.{Beginning}
 use Rattle.plan_weeklist.specs.declared.dates.Beginning.TheVariants.{Missing, At, Interrupted}
@@ -118,11 +118,12 @@ arcs_to count all k a = map (arc_from count all k) a.predecessors
 
 -- ---- absences
 
--- the first resource with a name, if the first one that is left has the number k
+-- the first resource with a name, without regard to ASCII case, if the first one that is left has
+-- the number k. No two columns of a list have headers that differ in case alone.
 abbrev pub resource_from : List ℕ → ℕ → List Resource → Option ℕ
 resource_from name k [] = None
 resource_from name k (r ∷ others) =
-    if same r.name name then Some k else resource_from name (k + 1) others
+    if same_name r.name name then Some k else resource_from name (k + 1) others
 
 -- the absence of a resource; a note is no resource
 abbrev pub absence_by : AbsenceRow → Shortage → Option ℕ → Result Absence Fault

@@ -1,5 +1,7 @@
 -- The rows of a list: those of activities, each with its dates, and those of absences.
 use Rattle.std.specs.Prelude.{ℕ, ◌+◌, ◌&&◌, ◌||◌, Bool, if◌then◌else◌, List, [], ◌∷◌, ◌++◌, Option, Some, None, Result, Ok, map, not}
+use Rattle.plan_psplib.specs.Lines.{trim}
+use Rattle.plan_spreadsheet.specs.Assignments.{amounts_from, names_in, parts}
 use Rattle.plan_table.specs.declared.header.Column.TheVariants as kinds
 use Rattle.plan_table.specs.Csv.{Row}
 use Rattle.plan_table.specs.Entries.{is_blank_row}
@@ -11,7 +13,7 @@ use Rattle.plan_weeklist.specs.declared.rows.Shortage as declared_shortage
 use Rattle.plan_weeklist.specs.declared.rows.AbsenceRow as declared_absence
 use Rattle.plan_weeklist.specs.declared.rows.DatedRow as declared_row
 use Rattle.plan_weeklist.specs.declared.rows.WeekRows as declared
-use Rattle.plan_weeklist.specs.Columns.{has_dates, is_absence}
+use Rattle.plan_weeklist.specs.Columns.{has_dates, is_absence, is_place}
 use Rattle.plan_weeklist.specs.Dates.{cell_in, date_at, date_in, dates_read, number_in, number_or}
 use Rattle.plan_weeklist.specs.Faults.{Fault, ◌>>=◌}
 
@@ -64,11 +66,35 @@ abbrev pub shortages_of : List ℕ → Option ℕ → List Shortage
 shortages_of resource None = []
 shortages_of resource (Some amount) = record { resource = resource; amount = amount } ∷ []
 
--- the absences so far, with the one that a row has in column k
+-- the absences so far, with that of a resource that parts of a cell name: its amount is the number
+-- that plan_spreadsheet puts into the column of this resource
+abbrev pub named_shortage : ℕ → List (List ℕ) → List Shortage → List ℕ → Result (List Shortage) Fault
+named_shortage line parts before name =
+    number_in line (trim (amounts_from name [] parts)) >>= λ amount. Ok (before ++ record { resource = name; amount = amount } ∷ [])
+
+-- the absences so far, with those of resources that parts of a cell name
+unfoldable pub named_from : ℕ → List (List ℕ) → List Shortage → List (List ℕ) → Result (List Shortage) Fault
+named_from line parts before [] = Ok before
+named_from line parts before (name ∷ names) = do
+  more ← named_shortage line parts before name
+  named_from line parts more names
+
+-- the absences so far, with those of all resources that a cell names
+abbrev pub named_read : ℕ → List Shortage → List ℕ → Result (List Shortage) Fault
+named_read line before cell = named_from line (parts cell) before (names_in [] (parts cell))
+
+-- the absences so far, with that of the resource of a column, if a cell has an amount
+abbrev pub amount_read : ℕ → List Shortage → List ℕ → List ℕ → Result (List Shortage) Fault
+amount_read line before resource cell =
+    date_in line cell >>= λ amount. Ok (before ++ shortages_of resource amount)
+
+-- the absences so far, with those that a row has in column k: of the resources that it names, or of
+-- the one of its header
 unfoldable pub shortage_read : Columns → Row → List Shortage → ℕ → Head → Result (List Shortage) Fault
 shortage_read columns row before k head =
-    if tells_absence columns k head
-    then (date_in row.line (cell_of k row) >>= λ amount. Ok (before ++ shortages_of head.name amount)) else Ok before
+    if not (tells_absence columns k head) then Ok before
+    else if is_place columns.names k then named_read row.line before (cell_of k row)
+    else amount_read row.line before head.name (cell_of k row)
 
 -- the absences in the columns from column k on, appended to the earlier ones
 unfoldable pub shortages_from : Columns → Row → List Shortage → ℕ → List Head → Result (List Shortage) Fault

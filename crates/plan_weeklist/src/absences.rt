@@ -11,16 +11,16 @@ use crate::fault::{WeekCode, WeekError};
 use crate::numbers::word_fault;
 use crate::rows::{AbsenceRow, Shortage};
 use plan_kernel::Absence;
-use plan_table::{Resource, same};
+use plan_table::{Resource, same_name};
 use std::alloc::Global;
 
-// The first resource with a name.
+// The first resource with a name, without regard to ASCII case.
 fn resource_by(name: &[u8], resources: &[Resource]) -> Option<usize>
     ensures place { result ≡ spec.resource_from name.now 0 (map resource_of resources.now) }
     ensures within { IfSome result (λ k. k < length resources.now) }
 {
     for (k, resource) in resources.iter().enumerate() {
-        if same(resource.name.as_bytes(), name) {
+        if same_name(resource.name.as_bytes(), name) {
             return Some(k);
         }
     }

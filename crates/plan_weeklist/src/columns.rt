@@ -1,4 +1,4 @@
-//! The columns of dates in a list.
+//! The columns of dates in a list, and that of names of resources.
 
 ghost use Rattle.std.specs.Prelude.{◌≡◌, ◌++◌, [], map, IfOk, OnOk};
 ghost use Rattle.std.specs.Option.{option_to_list};
@@ -9,11 +9,12 @@ ghost use Rattle.plan_table.specs.Settlement.{body_of};
 ghost use Rattle.plan_table.specs.declared.header.Column.TheVariants as columns;
 ghost use Rattle.plan_weeklist.specs.Columns as spec;
 
+use plan_spreadsheet::names_place;
 use plan_table::{Body, Column, Head, Row, cell_of, has_capacity, same, same_kind, same_name};
 use std::alloc::{AllocError, Global};
 
-/// The columns of the ids and of the durations, those of dates, and that of the tardiness in an
-/// earlier plan.
+/// The columns of the ids and of the durations, those of dates, that of the tardiness in an earlier
+/// plan, and that of names of resources.
 #[derive(Clone, Copy, Drop)]
 pub struct Columns {
     pub ids: Option<usize>,
@@ -25,6 +26,7 @@ pub struct Columns {
     pub done: Option<usize>,
     pub due: Option<usize>,
     pub late: Option<usize>,
+    pub names: Option<usize>,
 }
 
 // Whether column `k` has dates of a kind.
@@ -58,7 +60,7 @@ fn durations_place(heads: &[Head]) -> Option<usize>
     None
 }
 
-/// Returns the columns of dates of a list with these columns.
+/// Returns the columns of dates and of names of a list with these columns.
 pub fn columns_of(body: &Body<'_>, heads: &[Head]) -> Columns
     ensures { result ≡ spec.columns_of (body_of body.now) (map head_of heads.now) }
 {
@@ -72,11 +74,12 @@ pub fn columns_of(body: &Body<'_>, heads: &[Head]) -> Columns
         done: dated_place(body, b"done", heads),
         due: dated_place(body, b"due", heads),
         late: dated_place(body, b"late", heads),
+        names: names_place(body, heads),
     }
 }
 
-// Whether a column is one of those of dates.
-fn is_place(place: Option<usize>, k: usize) -> bool
+/// Whether a column is column `k`.
+pub fn is_place(place: Option<usize>, k: usize) -> bool
     ensures { result ≡ spec.is_place place k }
 {
     match place {

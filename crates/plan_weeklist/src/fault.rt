@@ -11,7 +11,7 @@ use std::alloc::{AllocError, AllocFailed, Global};
 pub enum WeekCode {
     /// T1: the plain list has more bytes than plan_table reads.
     TooLong,
-    /// T14: an absence of something that is no resource of the list; the word is its header.
+    /// T14: an absence of something that is no resource of the list; the word is its header or name.
     NoResource,
     /// T17: something has begun or is done, and it isn't known what is today.
     NoToday,

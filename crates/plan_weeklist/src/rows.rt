@@ -7,10 +7,12 @@ ghost use Rattle.plan_weeklist.specs.Dates as dates;
 ghost use Rattle.plan_weeklist.specs.Faults.{Gives};
 ghost use Rattle.plan_weeklist.specs.Rows as spec;
 
-use crate::columns::{Columns, has_dates, is_absence};
+use crate::columns::{Columns, has_dates, is_absence, is_place};
 use crate::dates::{Dates, number_or, read_dates};
 use crate::fault::WeekError;
 use crate::numbers::{cell_in, date_at, date_in, number_in};
+use plan_psplib::trim;
+use plan_spreadsheet::{amounts_of, cell_parts, with_names};
 use plan_table::{Column, Head, Row, cell_of, is_blank_row, is_capacities, same_kind};
 use std::alloc::Global;
 
@@ -51,7 +53,78 @@ fn tells_absence(columns: &Columns, k: usize, head: &Head) -> bool
     same_kind(Column::Resource, head.column) && !has_dates(columns, k)
 }
 
-// Adds the absence that a row has in column `k`.
+// Adds the absence of a resource that parts of a cell name.
+fn push_named(
+    alloc: Global,
+    line: u64,
+    parts: &[Vec<u8>],
+    before: &mut Vec<Shortage>,
+    name: &[u8],
+) -> Result<(), WeekError>
+    ensures { Gives (λ _. map spec.shortage_of before.new.items) result
+        (spec.named_shortage line (map (λ part. part.items) parts.now)
+        (map spec.shortage_of before.old.items) name.now) }
+{
+    let amounts = amounts_of(alloc, name, parts)?;
+    let amount = number_in(alloc, line, trim(&amounts))?;
+    let resource = Vec::from_slice(alloc, name)?;
+    before.push(Shortage { resource, amount })?;
+    Ok(())
+}
+
+// Adds the absences of resources that parts of a cell name.
+#[tactic(auto, unfolding(crate::specs::Rows::named_from))]
+fn push_names(
+    alloc: Global,
+    line: u64,
+    parts: &[Vec<u8>],
+    before: &mut Vec<Shortage>,
+    names: &[Vec<u8>],
+) -> Result<(), WeekError>
+    ensures { Gives (λ _. map spec.shortage_of before.new.items) result
+        (spec.named_from line (map (λ part. part.items) parts.now)
+        (map spec.shortage_of before.old.items) (map (λ name. name.items) names.now)) }
+{
+    for name in names {
+        push_named(alloc, line, parts, before, name)?;
+    }
+    Ok(())
+}
+
+// Adds the absences of all resources that a cell names.
+fn read_names(
+    alloc: Global,
+    line: u64,
+    before: &mut Vec<Shortage>,
+    cell: &[u8],
+) -> Result<(), WeekError>
+    ensures { Gives (λ _. map spec.shortage_of before.new.items) result
+        (spec.named_read line (map spec.shortage_of before.old.items) cell.now) }
+{
+    let parts = cell_parts(alloc, cell)?;
+    let names = with_names(alloc, Vec::new(alloc), &parts)?;
+    push_names(alloc, line, &parts, before, &names)
+}
+
+// Adds the absence of the resource of a column, if a cell has an amount.
+fn read_amount(
+    alloc: Global,
+    line: u64,
+    before: &mut Vec<Shortage>,
+    resource: &[u8],
+    cell: &[u8],
+) -> Result<(), WeekError>
+    ensures { Gives (λ _. map spec.shortage_of before.new.items) result
+        (spec.amount_read line (map spec.shortage_of before.old.items) resource.now cell.now) }
+{
+    if let Some(amount) = date_in(alloc, line, cell)? {
+        let resource = Vec::from_slice(alloc, resource)?;
+        before.push(Shortage { resource, amount })?;
+    }
+    Ok(())
+}
+
+// Adds the absences that a row has in column `k`.
 #[tactic(auto, unfolding(crate::specs::Rows::shortage_read))]
 fn read_shortage(
     alloc: Global,
@@ -68,11 +141,16 @@ fn read_shortage(
     if !tells_absence(columns, k, head) {
         return Ok(());
     }
-    if let Some(amount) = date_in(alloc, row.line, cell_of(row, k))? {
-        let resource = Vec::from_slice(alloc, head.name.as_bytes())?;
-        before.push(Shortage { resource, amount })?;
+    if is_place(columns.names, k) {
+        return read_names(alloc, row.line, before, cell_of(row, k));
     }
-    Ok(())
+    read_amount(
+        alloc,
+        row.line,
+        before,
+        head.name.as_bytes(),
+        cell_of(row, k),
+    )
 }
 
 // Returns the absences of a row in all columns.

@@ -4,11 +4,10 @@ use Rattle.std.specs.Prelude.{Option}
 use Rattle.plan_documents.proofs.ErrorLemmas.{refuses_as}
 use Rattle.plan_errors.specs.declared.fault.CliFault.{CliFault}
 use Rattle.plan_errors.specs.Output.{Refuses}
-use Rattle.plan_weekfile.specs.Orders.{goal_or_makespan}
-use Rattle.plan_weekfile.specs.Weeks.{IsWeekWith, TellsNoWeek, TellsUnplanned}
+use Rattle.plan_weekfile.specs.Plans.{IsPlanBy, TellsNoPlanBy}
+use Rattle.plan_weekfile.specs.Weeks.{IsWeekWith, TellsNoWeek}
 use Rattle.plan_weekfile.specs.declared.order.WeekOrder.{WeekOrder}
 use Rattle.plan_weeklist.specs.declared.listed.ListedWeek.{ListedWeek}
-use Rattle.plan_weeks.specs.WeekPlans.{IsPlanned}
 use Rattle.plan_weeks.specs.declared.planning.WeekPlan.{WeekPlan}
 use Rattle.plan_weeksheet.specs.declared.page.PageDays.{PageDays}
 use Rattle.plan_table.specs.Names.{Name}
@@ -30,15 +29,15 @@ list_refused order days text e told =
 
 -- the error of a plan
 pub plan_refused : (order : WeekOrder) (days : Option PageDays) (text : List ℕ) (listed : ListedWeek) (e : CliFault)
-    → IsWeekWith order.capacities.now order.today text listed → Refuses (TellsUnplanned listed) e
+    → IsWeekWith order.capacities.now order.today text listed → Refuses (TellsNoPlanBy order listed) e
     → Refuses (RefusesReport order days text) e
 plan_refused order days text listed e is told =
-    refuses_as (TellsUnplanned listed) (RefusesReport order days text) e
+    refuses_as (TellsNoPlanBy order listed) (RefusesReport order days text) e
     (λ line tells. inl (inr (listed, is, tells))) told
 
 -- the error of its page
 pub page_refused : (order : WeekOrder) (days : Option PageDays) (text : List ℕ) (listed : ListedWeek) (plan : WeekPlan) (e : CliFault)
-    → IsWeekWith order.capacities.now order.today text listed → IsPlanned (goal_or_makespan order.goal) listed.week plan
+    → IsWeekWith order.capacities.now order.today text listed → IsPlanBy order listed plan
     → Refuses (HidesPage days listed plan) e → Refuses (RefusesReport order days text) e
 page_refused order days text listed plan e is planned told =
     refuses_as (HidesPage days listed plan) (RefusesReport order days text) e
@@ -46,7 +45,7 @@ page_refused order days text listed plan e is planned told =
 
 -- its page
 pub page_shown : (order : WeekOrder) (title : List ℕ) (days : Option PageDays) (text output : List ℕ) (listed : ListedWeek) (plan : WeekPlan)
-    → IsWeekWith order.capacities.now order.today text listed → IsPlanned (goal_or_makespan order.goal) listed.week plan
+    → IsWeekWith order.capacities.now order.today text listed → IsPlanBy order listed plan
     → ShowsPage title days listed plan output → ShowsReport order title days text output
 page_shown order title days text output listed plan is planned shown = (listed, plan, record { week = is; planned = planned }, shown)
 

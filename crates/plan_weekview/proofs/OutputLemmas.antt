@@ -7,11 +7,10 @@ use Rattle.plan_errors.specs.Output.{Refuses}
 use Rattle.plan_gantt.specs.declared.days.DaysFault.{DaysFault}
 use Rattle.plan_gantt.specs.declared.days.DaysFault.TheVariants as days
 use Rattle.plan_week.specs.declared.week.Week.{Week}
-use Rattle.plan_weekfile.specs.Orders.{goal_or_makespan}
 use Rattle.plan_weekfile.specs.Outputs.{RefusesWeek}
-use Rattle.plan_weekfile.specs.Weeks.{IsWeekWith, TellsNoWeek, TellsUnplanned}
+use Rattle.plan_weekfile.specs.Plans.{IsPlanBy, TellsNoPlanBy}
+use Rattle.plan_weekfile.specs.Weeks.{IsWeekWith, TellsNoWeek}
 use Rattle.plan_weekfile.specs.declared.order.WeekOrder.{WeekOrder}
-use Rattle.plan_weeks.specs.WeekPlans.{IsPlanned}
 use Rattle.plan_weeks.specs.declared.planning.WeekPlan.{WeekPlan}
 use Rattle.plan_weekview.specs.WeekDays.{HasWeekDayBeyond}
 use Rattle.plan_formats.specs.TableFormats.{format_text}
@@ -49,15 +48,15 @@ list_refused order calendar text e told =
 
 -- the error of a plan
 pub plan_refused : (order : WeekOrder) (calendar : Workdays) (text : List ℕ) (listed : ListedWeek) (e : CliFault)
-    → IsWeekWith order.capacities.now order.today text listed → Refuses (TellsUnplanned listed) e
+    → IsWeekWith order.capacities.now order.today text listed → Refuses (TellsNoPlanBy order listed) e
     → Refuses (RefusesWeekDays order calendar text) e
 plan_refused order calendar text listed e is told =
-    refuses_as (TellsUnplanned listed) (RefusesWeekDays order calendar text) e
+    refuses_as (TellsNoPlanBy order listed) (RefusesWeekDays order calendar text) e
     (λ line tells. inl (inr (listed, is, tells))) told
 
 -- the error of its working days
 pub days_refused : (order : WeekOrder) (calendar : Workdays) (text : List ℕ) (listed : ListedWeek) (plan : WeekPlan) (e : CliFault)
-    → IsWeekWith order.capacities.now order.today text listed → IsPlanned (goal_or_makespan order.goal) listed.week plan
+    → IsWeekWith order.capacities.now order.today text listed → IsPlanBy order listed plan
     → Refuses (TellsBeyond calendar listed.week plan) e → Refuses (RefusesWeekDays order calendar text) e
 days_refused order calendar text listed plan e is planned told =
     refuses_as (TellsBeyond calendar listed.week plan) (RefusesWeekDays order calendar text) e
@@ -65,6 +64,6 @@ days_refused order calendar text listed plan e is planned told =
 
 -- the text of its working days
 pub days_shown : (order : WeekOrder) (calendar : Workdays) (text output : List ℕ) (listed : ListedWeek) (plan : WeekPlan)
-    → IsWeekWith order.capacities.now order.today text listed → IsPlanned (goal_or_makespan order.goal) listed.week plan
+    → IsWeekWith order.capacities.now order.today text listed → IsPlanBy order listed plan
     → ShowsTable order.format calendar listed plan output → ShowsWeekDays order calendar text output
 days_shown order calendar text output listed plan is planned shown = (listed, plan, record { week = is; planned = planned }, shown)

@@ -11,12 +11,11 @@ use Rattle.plan_gantt.specs.declared.days.DaysFault.{DaysFault}
 use Rattle.plan_gantt.specs.declared.days.DaysFault.TheVariants as days
 use Rattle.plan_week.specs.declared.week.Week.{Week}
 use Rattle.plan_weekfile.specs.Links.{week_links}
-use Rattle.plan_weekfile.specs.Orders.{goal_or_makespan}
 use Rattle.plan_weekfile.specs.Outputs.{RefusesWeek}
+use Rattle.plan_weekfile.specs.Plans.{IsPlanBy}
 use Rattle.plan_weekfile.specs.Weeks.{IsWeekWith}
 use Rattle.plan_weekfile.specs.declared.order.WeekOrder.{WeekOrder}
 use Rattle.plan_weeklist.specs.declared.listed.ListedWeek.{ListedWeek}
-use Rattle.plan_weeks.specs.WeekPlans.{IsPlanned}
 use Rattle.plan_weeks.specs.WeekTables.{ids_from, named, planned}
 use Rattle.plan_weeks.specs.declared.planning.WeekPlan.{WeekPlan}
 use Rattle.plan_weekview.specs.WeekDays.{AreWeekDays, HasWeekDayBeyond}
@@ -45,11 +44,11 @@ ShowsTable format calendar listed plan output =
     (table : Table) × AreWeekDays calendar listed.week plan table
     × (output ≡ days_text format listed table)
 
--- a plan for the goal of an order, of the week that the list says
+-- a plan for an order, of the week that the list says
 pub record IsPlanOfOrder (order : WeekOrder) (text : List ℕ) (listed : ListedWeek)
     (plan : WeekPlan) : Type 0 where
   pub week : IsWeekWith order.capacities.now order.today text listed
-  pub planned : IsPlanned (goal_or_makespan order.goal) listed.week plan
+  pub planned : IsPlanBy order listed plan
 
 -- a text shows the working days of such a plan
 abbrev pub ShowsWeekDays : WeekOrder → Workdays → List ℕ → List ℕ → Type 0

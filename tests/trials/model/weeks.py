@@ -328,6 +328,43 @@ def least_tardiness(week, found=None):
     )
 
 
+def is_active(week, starts):
+    """Whether starts are a plan in which no activity can begin earlier by itself."""
+    if not is_plan(week, starts):
+        return False
+    for i, state in enumerate(week.states):
+        if isinstance(state, Open):
+            for start in range(starts[i]):
+                if is_plan(week, [*starts[:i], start, *starts[i + 1 :]]):
+                    return False
+    return True
+
+
+def next_of(week, left, keys):
+    """The activity with the least key whose predecessors all have a start, the first one of several."""
+    ready = [
+        i
+        for i in left
+        if not any(second == i and first in left for first, second, _ in week.arcs)
+    ]
+    return min(ready, key=lambda i: (keys[i], i))
+
+
+def in_order(week, earlier):
+    """The plan that takes the activities in the order of earlier starts, each as early as it can be;
+    new ones come last. None if that isn't a plan. No activity has an appointment."""
+    starts = [week.settled(i) for i in range(week.count())]
+    use = Use(week, starts)
+    left = [i for i, start in enumerate(starts) if start is None]
+    keys = [float("inf") if start is None else start for start in earlier]
+    while left:
+        i = next_of(week, left, keys)
+        left.remove(i)
+        starts[i] = use.earliest(i, ready_at(week, starts, i))
+        use.put(i, starts[i], 1)
+    return starts if is_plan(week, starts) else None
+
+
 def drawn(seed, most=7, long=4):
     """A week of at most so many activities."""
     draw = random.Random(seed)

@@ -1,0 +1,3 @@
+mod OpenedLemmas
+mod StartLemmas
+mod EarlierLemmas

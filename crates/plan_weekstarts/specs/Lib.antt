@@ -1,0 +1,4 @@
+pub mod Opened
+pub mod Kept
+pub mod Starts
+pub mod Earlier
