@@ -77,7 +77,7 @@ keys_are week earlier keys starts plan known made are is =
     let within : i < count (project_of week) = omega (arith, inside, project_count week) in
     made.each i inside
     ∙ start_same week.today (get_or keys i 0) (get_or plan i 0) (state_of week i)
-      (λ on. known.each i inside ∙ ap (λ (o : Option ℕ). number_or 4294967295 o) (are i within on)) (is.states i within))
+    (λ on. known.each i inside ∙ ap (λ (o : Option ℕ). number_or 4294967295 o) (are i within on)) (is.states i within))
 
 -- the earlier starts are a plan
 pub first_known : (week : Week) (earlier : List (Option ℕ)) (keys : List ℕ) (starts : Vec ℕ Global) → AreKeys week earlier keys → AreStartsBy week keys starts.items

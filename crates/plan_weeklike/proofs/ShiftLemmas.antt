@@ -41,18 +41,18 @@ awaited_least : (week : Week) (s : List ℕ) (i t : ℕ)
     → awaited week s i ≤ t
 awaited_least week s i t enough =
     greatest_least (length week.arcs.items) (λ j. awaited_by week s i (get_or week.arcs.items j no_arc)) t (λ j inside. each j (get_or week.arcs.items j no_arc) (enough j inside)) where
-  each : (j : ℕ) (arc : Arc) → (arc.to ≡ i → (arc.from ≡ i → ⊥) → end_of week s arc.from + arc.lag ≤ t) → awaited_by week s i arc ≤ t
-  each j arc late = elim (cases_eq arc.from i) [
-    | inl own ↦ omega (arith, cond-true (nat_eq arc.from i) 0 (cond (nat_eq arc.to i) (end_of week s arc.from + arc.lag) 0) (eq-eqb arc.from i own))
-    | inr from ↦ elim (cases_eq arc.to i) [
-      | inl to ↦ omega (arith, waits week s i arc to from, late to from)
-      | inr apart ↦ omega (
-        arith,
-        cond-false (nat_eq arc.from i) 0 (cond (nat_eq arc.to i) (end_of week s arc.from + arc.lag) 0) (ne_eqb arc.from i from),
-        cond-false (nat_eq arc.to i) (end_of week s arc.from + arc.lag) 0 (ne_eqb arc.to i apart),
-      )
-    ]
-  ]
+      each : (j : ℕ) (arc : Arc) → (arc.to ≡ i → (arc.from ≡ i → ⊥) → end_of week s arc.from + arc.lag ≤ t) → awaited_by week s i arc ≤ t
+      each j arc late = elim (cases_eq arc.from i) [
+        | inl own ↦ omega (arith, cond-true (nat_eq arc.from i) 0 (cond (nat_eq arc.to i) (end_of week s arc.from + arc.lag) 0) (eq-eqb arc.from i own))
+        | inr from ↦ elim (cases_eq arc.to i) [
+          | inl to ↦ omega (arith, waits week s i arc to from, late to from)
+          | inr apart ↦ omega (
+            arith,
+            cond-false (nat_eq arc.from i) 0 (cond (nat_eq arc.to i) (end_of week s arc.from + arc.lag) 0) (ne_eqb arc.from i from),
+            cond-false (nat_eq arc.to i) (end_of week s arc.from + arc.lag) 0 (ne_eqb arc.to i apart),
+          )
+        ]
+      ]
 
 -- ---- moved starts
 

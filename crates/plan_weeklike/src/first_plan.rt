@@ -34,11 +34,7 @@ fn number_or(other: u32, number: Option<u32>) -> u32
 }
 
 // Returns the start of each activity in an earlier plan. Activities without one come last.
-fn keys_of(
-    alloc: Global,
-    week: &Week,
-    earlier: &[Option<u32>],
-) -> Result<Vec<u32>, AllocError>
+fn keys_of(alloc: Global, week: &Week, earlier: &[Option<u32>]) -> Result<Vec<u32>, AllocError>
     ensures { IfOk result (λ keys. spec.AreKeys week.now earlier.now keys.items) }
 {
     let mut keys = Vec::new(alloc);

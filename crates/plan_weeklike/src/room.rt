@@ -156,13 +156,7 @@ fn first_or(room: bool, first: u64, next: u64) -> u64
 
 // Returns the first start from an instant on at which an activity fits beside the others while it
 // lasts. `start` is its start in the plan.
-pub(crate) fn first_room(
-    week: &Week,
-    starts: &[u32],
-    activity: usize,
-    start: u32,
-    from: u64,
-) -> u32
+pub(crate) fn first_room(week: &Week, starts: &[u32], activity: usize, start: u32, from: u64) -> u32
     requires plan { weeks.IsWeekPlan week.now starts.now }
     requires inside { activity < problems.count (weeks.project_of week.now) }
     requires start { start ≡ slice_index starts.now activity }

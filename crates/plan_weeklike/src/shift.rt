@@ -100,11 +100,7 @@ fn shift_round(week: &Week, turns: &[u32], starts: &mut [u32]) -> bool
 /// Returns a plan in which no activity can start earlier by itself: the activities move to their
 /// earliest starts until none moves. The first ones move first.
 #[tactic(auto, using(crate::proofs::PassLemmas::as_it_is, crate::proofs::PassLemmas::in_turn))]
-pub(crate) fn shifted(
-    alloc: Global,
-    week: &Week,
-    first: Vec<u32>,
-) -> Result<Vec<u32>, AllocError>
+pub(crate) fn shifted(alloc: Global, week: &Week, first: Vec<u32>) -> Result<Vec<u32>, AllocError>
     requires { weeks.IsWeekPlan week.now first.items }
     ensures improves { IfOk result (λ starts. spec.Improves week.now first.items starts.items) }
     ensures active { IfOk result (λ starts. plans.IsActive week.now starts.items) }

@@ -13,8 +13,8 @@ pub loop-instant-preserved : goal.loop-instant-preserved
 loop-instant-preserved c =
     let week = c.args.week.now in
     let step = search_step week c.args.starts.now c.args.activity c.args.from c.loop-instant.first c.loop-instant.instant c.next_change-next.result c.first_or-first.result c.has_room-room.result
-        c.requires.plan c.requires.inside c.requires.since c.loop-instant.invariant.searched (omega (arith, c.loop-instant-test.true, c.rest_of-lasts.ensures))
-        c.next_change-next.ensures.later c.next_change-next.ensures.quiet c.has_room-room.ensures.yes c.has_room-room.ensures.no c.first_or-first.ensures in
+    c.requires.plan c.requires.inside c.requires.since c.loop-instant.invariant.searched (omega (arith, c.loop-instant-test.true, c.rest_of-lasts.ensures))
+    c.next_change-next.ensures.later c.next_change-next.ensures.quiet c.has_room-room.ensures.yes c.has_room-room.ensures.no c.first_or-first.ensures in
     record {
       searched = step;
       early = omega (arith, step.no_later, c.requires.start);
