@@ -1,5 +1,5 @@
 -- The starts of open activities in an earlier plan.
-use Rattle.std.proofs.Common.{◌≡◌, ◌∙◌, ◌<◌, ◌≤◌, ℕ, true, List, [], ◌∷◌, Option, Some, None, Ok, Err, inl, inr, ap, get_or, length, map, refl, subst, sym, arith}
+use Rattle.std.proofs.Common.{◌≡◌, ◌∙◌, ◌<◌, ◌≤◌, ℕ, true, List, [], ◌∷◌, Option, Some, None, inl, inr, ap, get_or, length, map, refl, subst, sym, arith, true≢false}
 use Rattle.std.specs.Prelude.{IsTrue}
 use Rattle.std.proofs.lemmas.List.{get_or-map}
 use Rattle.plan_documents.proofs.ErrorLemmas.{refuses_as}
@@ -10,10 +10,9 @@ use Rattle.plan_errors.specs.declared.refusal.Refusal.{Refusal}
 use Rattle.plan_errors.specs.Faults.{refusal_line}
 use Rattle.plan_errors.specs.Output.{Refuses}
 use Rattle.plan_net.specs.Network.{Net}
-use Rattle.plan_psplib.specs.declared.text.fault.Fault.{Fault}
+use Rattle.plan_psplib.proofs.OnceLemmas.{never_both}
 use Rattle.plan_report.proofs.TextLemmas.{starts_once, starts_read}
-use Rattle.plan_report.specs.Sheet.{Sheet}
-use Rattle.plan_report.specs.StartsText.{SaysStarts, starts_in}
+use Rattle.plan_report.specs.StartsText.{starts_in}
 use Rattle.plan_sgs.specs.Problem.{count}
 use Rattle.plan_week.specs.declared.week.State.{State}
 use Rattle.plan_week.specs.declared.week.State.TheVariants.{Open, Begun, Done}
@@ -30,8 +29,8 @@ use Rattle.plan_weekverdict.specs.Starts.{AreAllStarts, open_before, start_by}
 -- an open activity has the given start
 pub open_start : (today given : ℕ) (s : State) → IsTrue (is_open s) → start_by today given s ≡ given
 open_start today given (Open earliest fixed) is = refl
-open_start today given (Begun began remaining) is = absurd is
-open_start today given (Done ended) is = absurd is
+open_start today given (Begun began remaining) is = absurd (true≢false (sym is))
+open_start today given (Done ended) is = absurd (true≢false (sym is))
 
 -- the starts of all activities have those of the open ones at their places
 pub placed : (week : Week) (given all : List ℕ) (earlier : List (Option ℕ)) → AreAllStarts week given all → earlier ≡ map Some all
@@ -92,16 +91,12 @@ read_taken listed durations text given net is some same said =
 pub table_taken : (listed : ListedWeek) (text : List ℕ) → is_table text ≡ true → IsTaken listed text
 table_taken listed text is = inr is
 
-ok_isnt_err : {A E : Type 0} (r : Result A E) (x : A) (e : E) → r ≡ Ok x → r ≡ Err e → ⊥
-ok_isnt_err (Ok y) x e is isnt = absurd isnt
-ok_isnt_err (Err f) x e is isnt = absurd is
-
 pub unread : (listed : ListedWeek) (durations text : List ℕ) (net : Net) (refusal : Refusal) (earlier : List (Option ℕ)) → durations ≡ open_durations listed.week
     → 0 < length durations → net ≡ network_of durations
     → Refuses (TellsNoStarts (sheet_in listed net) (open_text listed text)) (cli.Refused refusal) → GivesEarlier listed text earlier
 unread listed durations text net refusal earlier is some same (first, fails, line) given said =
     let here : SaysIn listed net text given = said_by listed durations text given net is some same said in
-    absurd (ok_isnt_err (starts_in (sheet_in listed net) (open_text listed text)) here.0 (record { code = first.code; line = first.line })
+    absurd (never_both (starts_in (sheet_in listed net) (open_text listed text)) here.0 (record { code = first.code; line = first.line })
     (starts_read (sheet_in listed net) (open_text listed text) here.0 here.1) fails.0)
 
 -- ---- errors

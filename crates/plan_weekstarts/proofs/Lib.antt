@@ -1,3 +1,3 @@
 mod OpenedLemmas
 mod StartLemmas
-mod EarlierLemmas
+pub mod EarlierLemmas

@@ -49,7 +49,7 @@ fn proposed(
 /// doesn't have. The text is one of starts as for `read_open_starts`. If it doesn't give the starts
 /// of all open activities, it can be a printed table or CSV with ids. Rows of other activities are
 /// ignored. Errors: those of `read_open_starts`.
-#[tactic(auto, using(crate::proofs::EarlierLemmas::none_open, crate::proofs::EarlierLemmas::none_taken, crate::proofs::EarlierLemmas::read_earlier, crate::proofs::EarlierLemmas::read_taken, crate::proofs::EarlierLemmas::table_taken, crate::proofs::EarlierLemmas::unread, crate::proofs::EarlierLemmas::limit_told, crate::proofs::EarlierLemmas::starts_told, crate::proofs::EarlierLemmas::again_told))]
+#[tactic(auto, using(crate::proofs::EarlierLemmas::none_open, crate::proofs::EarlierLemmas::none_taken, crate::proofs::EarlierLemmas::table_taken, crate::proofs::EarlierLemmas::limit_told, crate::proofs::EarlierLemmas::starts_told))]
 pub fn earlier_starts(
     alloc: Global,
     listed: &ListedWeek,
