@@ -5,7 +5,7 @@ use clap::{Arg, ArgAction, Command, value_parser};
 use std::alloc::{AllocError, Global};
 
 // The number of the release.
-const RELEASE: &str = "0.13.0";
+const RELEASE: &str = "0.14.0";
 
 // The start of the help.
 const HELP_START: &str =
