@@ -1,5 +1,5 @@
 -- Bounds for a goal, and the plan with them.
-use Rattle.std.proofs.Common.{◌≡◌, ◌∙◌, ℕ, ◌+◌, ◌-◌, ◌≤◌, ◌<◌, ◌^◌, List, Vec, Option, Some, None, Result, Ok, Err, get_or, refl, sym, ap, subst, arith}
+use Rattle.std.proofs.Common.{◌≡◌, ◌∙◌, ℕ, ◌≤◌, ◌<◌, ◌^◌, List, Vec, Option, Some, None, Result, Ok, Err, get_or, sym, ap, subst, arith}
 use Rattle.std.specs.Result.{IfOk, IfErr}
 use Rattle.std.specs.declared.alloc.Global.{Global}
 use Rattle.plan_sgs.specs.Problem.{count}
@@ -12,15 +12,14 @@ use Rattle.plan_week.specs.declared.tardiness.TardyAnswer.TheVariants.{Tardy, No
 use Rattle.plan_week.specs.declared.week.Week.{Week}
 use Rattle.plan_week.specs.Tardiness.{tardiness_of, greatest_tardiness}
 use Rattle.plan_week.specs.TardinessAnswers.{IsTardinessBound}
-use Rattle.plan_week.specs.Tightening.{IsBoundWithin, IsTightest}
+use Rattle.plan_week.specs.Tightening.{IsTightest}
 use Rattle.plan_week.specs.WeekAnswers.{IsBoundedOf, IsLowerBound}
 use Rattle.plan_week.specs.Weeks.{project_of, end_of, IsWeekPlan, makespan_of}
 use Rattle.plan_weeks.specs.declared.planning.WeekPlan.{WeekPlan}
-use Rattle.plan_weeks.specs.declared.planning.Lateness.{Lateness}
 use Rattle.plan_weeks.specs.declared.fault.PlanFault.{PlanFault}
 use Rattle.plan_weeks.specs.declared.fault.PlanFault.TheVariants as faults
 use Rattle.plan_weeks.specs.Faults.{plan_fault_of}
-use Rattle.plan_weeks.specs.WeekPlans.{IsTimely, IsNoPlan}
+use Rattle.plan_weeks.specs.WeekPlans.{IsNoPlan}
 use Rattle.plan_weeklike.specs.ActivePlans.{IsActive, AreEarlier, KeepsActive, StartsNoLater, HasNoEarlierPlan, IsLack}
 use Rattle.plan_weeklike.specs.Bounds.{IsBoundBy, IsLeastBy, IsTooLong}
 use Rattle.plan_weeklike.specs.Moves.{Improves, IsFirstPlan}

@@ -1,13 +1,13 @@
 -- Plans that get earlier.
-use Rattle.std.proofs.Common.{◌≡◌, ◌∙◌, ℕ, ◌+◌, ◌≤◌, ◌<◌, inl, inr, Bool, true, false, ◌||◌, List, Some, None, length, get_or, set, refl, sym, ap, subst, arith}
+use Rattle.std.proofs.Common.{◌≡◌, ◌∙◌, ℕ, ◌+◌, ◌≤◌, ◌<◌, inl, inr, Bool, true, false, ◌||◌, List, None, length, get_or, set, refl, sym, ap, subst, arith}
 use Rattle.std.specs.Bool.{IsTrue, IsFalse}
 use Rattle.std.specs.List.{sum}
-use Rattle.std.proofs.lemmas.Bool.{cases_lt, cases_eq, both_ways}
+use Rattle.std.proofs.lemmas.Bool.{cases_eq, both_ways}
 use Rattle.std.proofs.lemmas.List.{get_or-set_same, get_or-set_other}
 use Rattle.std.proofs.lemmas.List.Sums.{sum_by-set}
 use Rattle.plan_sgs.specs.Problem.{count}
 use Rattle.plan_week.specs.declared.week.Week.{Week}
-use Rattle.plan_week.specs.Weeks.{project_of, state_of, is_open, KeepsState, IsWeekPlan}
+use Rattle.plan_week.specs.Weeks.{project_of, state_of, KeepsState, IsWeekPlan}
 use Rattle.plan_weeklike.specs.ActivePlans.{IsAtEarliest, IsActive}
 use Rattle.plan_weeklike.specs.Moves.{movable, IsMovable, IsEarliestStart, Improves, IsShifted, IsRound}
 use Rattle.plan_weeklike.proofs.WeekLemmas.{one_start}

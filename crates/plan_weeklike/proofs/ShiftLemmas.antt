@@ -1,8 +1,7 @@
 -- A move of one activity to its earliest start.
-use Rattle.std.proofs.Common.{◌≡◌, ◌∙◌, ℕ, ◌+◌, ◌≤◌, ◌<◌, ◌&&◌, ◌⊎◌, inl, inr, List, Some, None, true, cond, nat_eq, nat_le, nat_lt, length, get_or, set, refl, sym, ap, subst, arith}
+use Rattle.std.proofs.Common.{◌≡◌, ◌∙◌, ℕ, ◌+◌, ◌≤◌, ◌<◌, ◌&&◌, inl, inr, List, None, cond, nat_eq, nat_le, nat_lt, length, get_or, set, sym, ap, subst, arith}
 use Rattle.std.specs.Bool.{IsTrue}
-use Rattle.std.specs.List.{All}
-use Rattle.std.proofs.lemmas.Bool.{cases_lt, cases_eq, cond-true, cond-false, eq-eqb, ne_eqb}
+use Rattle.std.proofs.lemmas.Bool.{cases_eq, cond-true, cond-false, eq-eqb, ne_eqb}
 use Rattle.std.proofs.lemmas.List.{get_or-set_same, get_or-set_other, get_or_default, length-set}
 use Rattle.plan_sgs.specs.Problem.{count, need, capacity}
 use Rattle.plan_sgs.proofs.TotalLemmas.{greatest_above, greatest_least}
@@ -11,7 +10,7 @@ use Rattle.plan_week.specs.declared.week.State.{State}
 use Rattle.plan_week.specs.declared.week.State.TheVariants.{Open}
 use Rattle.plan_week.specs.declared.week.Week.{Week}
 use Rattle.plan_week.specs.Weeks.{project_of, state_of, rest_of, is_open, end_of, needed_by, needed, missing, KeepsState, KeepsArc, IsWeekPlan}
-use Rattle.plan_weeklike.specs.Moves.{no_arc, awaited_by, awaited, ready, IsMovable, beside, HasRoom, IsFirstRoom, IsEarliestStart}
+use Rattle.plan_weeklike.specs.Moves.{no_arc, awaited_by, awaited, ready, IsMovable, HasRoom, IsFirstRoom, IsEarliestStart}
 use Rattle.plan_weeklike.proofs.WeekLemmas.{movable_open}
 use Rattle.plan_weeklike.proofs.RoomLemmas.{span_in, span_out, span_most, span_cases, beside_within, needed_moved}
 

@@ -4,7 +4,7 @@ use Rattle.std.specs.Bool.{IsTrue}
 use Rattle.std.specs.declared.alloc.Global.{Global}
 use Rattle.std.proofs.lemmas.List.{get_or_past, get_or-map, get_or_default, length-map}
 use Rattle.std.proofs.lemmas.Option.{none-some}
-use Rattle.plan_sgs.specs.Problem.{count, duration, need, capacity}
+use Rattle.plan_sgs.specs.Problem.{count, need, capacity}
 use Rattle.plan_week.specs.declared.week.State.{State}
 use Rattle.plan_week.specs.declared.week.State.TheVariants.{Open, Begun, Done}
 use Rattle.plan_week.specs.declared.week.Week.{Week}

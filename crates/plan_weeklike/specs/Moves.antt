@@ -7,7 +7,7 @@ use Rattle.plan_kernel.specs.declared.input.Absence.{Absence}
 use Rattle.plan_week.specs.declared.week.State.{State}
 use Rattle.plan_week.specs.declared.week.State.TheVariants.{Open, Begun, Done}
 use Rattle.plan_week.specs.declared.week.Week.{Week}
-use Rattle.plan_week.specs.Weeks.{project_of, state_of, rest_of, is_open, end_of, needed_by, missing, no_absence, IsWeekPlan}
+use Rattle.plan_week.specs.Weeks.{project_of, state_of, rest_of, end_of, needed_by, missing, no_absence, IsWeekPlan}
 use Rattle.plan_weekverdict.specs.Starts.{start_by}
 use Rattle.plan_weekverdict.specs.declared.verdict.WeekVerdict.{WeekVerdict}
 use Rattle.plan_weekverdict.specs.declared.verdict.WeekVerdict.TheVariants.{Misplaced, Broken, Over, Feasible}

@@ -107,7 +107,7 @@ fn with_bounds<W: Watcher>(
 ///
 /// If the earlier starts are a plan, the activities move from there to their earliest starts. Else
 /// a plan is generated in the order of the earlier starts. New activities come last. No plan is
-/// found if the generator finds none, or if the plan ends at 2^32 or later.
+/// found if the generator finds none, or if a tardiness is 2^32 or more.
 #[tactic(auto, using(crate::proofs::GoalLemmas::active_after, crate::proofs::GoalLemmas::keeps_after, crate::proofs::GoalLemmas::later_after, crate::proofs::GoalLemmas::lack_first))]
 pub fn plan_like<W: Watcher>(
     alloc: Global,
