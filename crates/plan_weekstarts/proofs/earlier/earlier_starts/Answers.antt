@@ -1,4 +1,5 @@
-use Rattle.std.proofs.Common.{rules, ◌∙◌, ◌<◌, ℕ, List, ap, length, subst}
+use Rattle.std.proofs.Common.{◌∙◌, ◌<◌, ℕ, List, ap, arith, length, subst, sym}
+use Rattle.std.proofs.lemmas.Bool.{eqb-false}
 use Rattle.std.proofs.lemmas.Result.{err_from_is_err_and}
 use Rattle.plan_documents.specs.Starts.{TellsNoStarts}
 use Rattle.plan_errors.specs.declared.fault.CliFault.{CliFault}
@@ -11,7 +12,8 @@ use Rattle.plan_weekstarts.proofs.earlier.earlier_starts.Goals as goal
 pub returns-in-Ok-clause-same : goal.returns-in-Ok-clause-same
 returns-in-Ok-clause-same c =
     let listed = c.args.listed.now in
-    let some : 0 < length c.in_ok-durations.durations.items = search rules in
+    let some : 0 < length c.in_ok-durations.durations.items =
+    omega (arith, c.in_ok-durations.durations.ok.0, eqb-false _ 0 (sym c.is_empty.ensures ∙ c.if-is_empty.false)) in
     read_earlier listed c.in_ok-durations.durations.items c.args.text.now c.in-Ok.given.items c.in_ok-network.network
     c.in_ok-at_places-in-Ok.field-0.items c.in_ok-durations.ensures some
     (c.in_ok-network.ensures.network ∙ ap network_of c.deref.ensures.value) c.in-Ok.ensures.said
@@ -20,7 +22,8 @@ returns-in-Ok-clause-same c =
 
 pub returns-in-Ok-clause-taken : goal.returns-in-Ok-clause-taken
 returns-in-Ok-clause-taken c =
-    let some : 0 < length c.in_ok-durations.durations.items = search rules in
+    let some : 0 < length c.in_ok-durations.durations.items =
+    omega (arith, c.in_ok-durations.durations.ok.0, eqb-false _ 0 (sym c.is_empty.ensures ∙ c.if-is_empty.false)) in
     read_taken c.args.listed.now c.in_ok-durations.durations.items c.args.text.now c.in-Ok.given.items c.in_ok-network.network
     c.in_ok-durations.ensures some (c.in_ok-network.ensures.network ∙ ap network_of c.deref.ensures.value) c.in-Ok.ensures.said
 
@@ -38,7 +41,8 @@ returns-in_err-proposed-in-Err-Refused-clause-refused c =
 pub returns-in-Err-Refused-clause-same : goal.returns-in-Err-Refused-clause-same
 returns-in-Err-Refused-clause-same c =
     let listed = c.args.listed.now in
-    let some : 0 < length c.in_ok-durations.durations.items = search rules in
+    let some : 0 < length c.in_ok-durations.durations.items =
+    omega (arith, c.in_ok-durations.durations.ok.0, eqb-false _ 0 (sym c.is_empty.ensures ∙ c.if-is_empty.false)) in
     unread listed c.in_ok-durations.durations.items c.args.text.now c.in_ok-network.network c.in-Err-Refused.refusal
     c.in_ok-proposed-in-Err-Refused.field-0.items c.in_ok-durations.ensures some
     (c.in_ok-network.ensures.network ∙ ap network_of c.deref.ensures.value)
