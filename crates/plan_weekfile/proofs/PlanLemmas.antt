@@ -1,12 +1,12 @@
 -- Plans for an order, perhaps in the order of an earlier plan.
-use Rattle.std.proofs.Common.{◌≡◌, ◌∙◌, ◌<◌, ℕ, List, Option, Some, None, ap, get_or, inl, inr, subst, sym}
-use Rattle.std.specs.Prelude.{IsTrue}
+use Rattle.std.proofs.Common.{◌≡◌, ◌∙◌, ℕ, List, Option, Some, None, ap, get_or, inl, inr, subst, sym}
+use Rattle.std.specs.Prelude.{option_map}
+use denote.Ref.{Bor}
 use Rattle.plan_documents.proofs.ErrorLemmas.{refuses_as}
 use Rattle.plan_errors.specs.declared.fault.CliFault.{CliFault}
 use Rattle.plan_errors.specs.Output.{Refuses}
-use Rattle.plan_sgs.specs.Problem.{count}
 use Rattle.plan_solve.specs.Solutions.{IsConflictLimit}
-use Rattle.plan_week.specs.Weeks.{is_open, project_of, state_of}
+use Rattle.plan_week.specs.Weeks.{state_of}
 use Rattle.plan_week.specs.declared.week.Week.{Week}
 use Rattle.plan_weekfile.proofs.FaultLemmas.{unplanned}
 use Rattle.plan_weekfile.specs.Lines.{TellsPlan}
@@ -23,7 +23,7 @@ use Rattle.plan_weeks.specs.declared.planning.WeekPlan.{WeekPlan}
 use Rattle.plan_weekstarts.proofs.EarlierLemmas.{open_start}
 use Rattle.plan_weekstarts.specs.Earlier.{GivesEarlier, IsEarlier, IsTaken}
 use Rattle.plan_weekstarts.specs.Starts.{TellsNoOpenStarts}
-use Rattle.plan_weekverdict.specs.Starts.{AreAllStarts, open_before, start_by}
+use Rattle.plan_weekverdict.specs.Starts.{AreAllStarts, open_before}
 
 -- ---- an earlier plan
 
@@ -73,22 +73,23 @@ unplanned_like like conflicts listed fault e allowed refused told =
 -- ---- an order
 
 -- without an earlier plan
-pub planned_alone : (order : WeekOrder) (listed : ListedWeek) (plan : WeekPlan) → like_of order ≡ None
+pub planned_alone : (order : WeekOrder) (listed : ListedWeek) (plan : WeekPlan) → order.like ≡ None
     → IsPlanned (goal_or_makespan order.goal) listed.week plan → IsPlanBy order listed plan
 planned_alone order listed plan none planned =
-    subst (λ (like : Option (List ℕ)). IsPlanLike (goal_or_makespan order.goal) like listed plan) (sym none)
+    subst (λ (like : Option (Bor (List ℕ))). IsPlanLike (goal_or_makespan order.goal) (option_map (λ text. text.now) like) listed plan) (sym none)
     (record { planned = planned; like_earlier = tt })
 
 pub told_alone : (order : WeekOrder) (listed : ListedWeek) (e : CliFault) → Refuses (TellsUnplanned listed) e → Refuses (TellsNoPlanBy order listed) e
 told_alone order listed e told = unplanned_as (like_of order) listed e told
 
 -- with one
-pub planned_like : (order : WeekOrder) (listed : ListedWeek) (text : List ℕ) (plan : WeekPlan) → like_of order ≡ Some text
-    → IsPlanLike (goal_or_makespan order.goal) (Some text) listed plan → IsPlanBy order listed plan
+pub planned_like : (order : WeekOrder) (listed : ListedWeek) (text : Bor (List ℕ)) (plan : WeekPlan) → order.like ≡ Some text
+    → IsPlanLike (goal_or_makespan order.goal) (Some text.now) listed plan → IsPlanBy order listed plan
 planned_like order listed text plan some planned =
-    subst (λ (like : Option (List ℕ)). IsPlanLike (goal_or_makespan order.goal) like listed plan) (sym some) planned
+    subst (λ (like : Option (Bor (List ℕ))). IsPlanLike (goal_or_makespan order.goal) (option_map (λ text. text.now) like) listed plan) (sym some)
+    planned
 
-pub told_like : (order : WeekOrder) (listed : ListedWeek) (text : List ℕ) (e : CliFault) → like_of order ≡ Some text
-    → Refuses (TellsNoPlanLike (Some text) listed) e → Refuses (TellsNoPlanBy order listed) e
+pub told_like : (order : WeekOrder) (listed : ListedWeek) (text : Bor (List ℕ)) (e : CliFault) → order.like ≡ Some text
+    → Refuses (TellsNoPlanLike (Some text.now) listed) e → Refuses (TellsNoPlanBy order listed) e
 told_like order listed text e some told =
-    subst (λ (like : Option (List ℕ)). Refuses (TellsNoPlanLike like listed) e) (sym some) told
+    subst (λ (like : Option (Bor (List ℕ))). Refuses (TellsNoPlanLike (option_map (λ text. text.now) like) listed) e) (sym some) told

@@ -1,5 +1,5 @@
 -- The week of a list whose needs may be above its capacities, and the errors of each step to it.
-use Rattle.std.proofs.Common.{◌≡◌, ℕ, List, [], Option, Ok, inl, inr, ap, ◌∙◌, subst, sym}
+use Rattle.std.proofs.Common.{◌≡◌, ℕ, List, [], Option, Ok, inr, ap, ◌∙◌, subst, sym}
 use Rattle.plan_encoding.specs.Encodings.{utf8_of}
 use Rattle.plan_spreadsheet.specs.declared.fault.SpreadsheetFault.{SpreadsheetFault}
 use Rattle.plan_spreadsheet.specs.declared.list.PlainList.{PlainList}
@@ -18,7 +18,7 @@ use Rattle.plan_weeklist.specs.declared.listed.ListFault.TheVariants as faults
 use Rattle.plan_weeklist.specs.declared.listed.ListedWeek.{ListedWeek}
 use Rattle.plan_weeklist.specs.ListedLists.{AreLists, AreTables, IsListedWeek, fault_of_table, fault_of_week, table_text}
 use Rattle.plan_weeklist.specs.ListedWeeks.{IsNoWeek, IsWeekOf}
-use Rattle.plan_weeklist.specs.Lists.{IsNoWeekList, IsWeekList, text_of}
+use Rattle.plan_weeklist.specs.Lists.{IsWeekList, text_of}
 use Rattle.plan_weeklist.specs.Rows.{week_rows_of}
 
 -- ---- the steps, by the texts that the program has

@@ -1,6 +1,5 @@
 -- The file of a list with dates, with the options of lists.
-use Rattle.std.specs.Prelude.{◌≡◌, ◌⊎◌, ℕ, Bool, true, false, List, [], Option, Some, None, length}
-use Rattle.std.specs.Prelude.{nat_le}
+use Rattle.std.specs.Prelude.{◌≡◌, ℕ, Bool, true, false, List, [], Option, Some, None}
 use Rattle.plan_documents.specs.ListOptions.{TellsOptions}
 use Rattle.plan_documents.specs.Spreadsheets.{is_short}
 use Rattle.plan_spreadsheet.specs.declared.optioned.OptionedList.{OptionedList}

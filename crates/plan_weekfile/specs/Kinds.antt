@@ -1,5 +1,5 @@
 -- The files that are planned with their dates.
-use Rattle.std.specs.Prelude.{◌≡◌, ◌⊎◌, ℕ, Bool, true, false, if◌then◌else◌, is_some, List, []}
+use Rattle.std.specs.Prelude.{◌≡◌, ◌⊎◌, ℕ, Bool, true, false, is_some, List, []}
 use Rattle.std.specs.Prelude.{Option, Some, None}
 use Rattle.plan_documents.specs.Spreadsheets.{OfList}
 use Rattle.plan_encoding.specs.Encodings.{utf8_of}

@@ -1,4 +1,4 @@
-use Rattle.std.proofs.Common.{List, ℕ, [], None, true, refl, subst}
+use Rattle.std.proofs.Common.{[], None, true, refl, subst}
 use Rattle.plan_encoding.specs.Encodings.{utf8_of}
 use Rattle.plan_weeklist.specs.declared.fault.WeekError.{WeekError}
 use Rattle.plan_weeklist.specs.Lists.{IsNoWeekList}
