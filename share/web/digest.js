@@ -1,2 +1,2 @@
 // The SHA-256 of plan.wasm. Written by share/web/engine/make.
-export const DIGEST = "2411ff58c7df7a662fe1e5017668302044a6eea4cbc538651d2cb572c71a3056";
+export const DIGEST = "1f5b3c2d0a30837161a6bd337ef2134a860a14ad27b022c9612d7ba7df6a1797";

@@ -77,7 +77,7 @@ const MESSAGES = {
       + `pairs of machine and time, in this order, and no others. ${HEADERS}`]),
   T4: ({ word }) => [`Rename or delete one of the two columns ${word}.`,
     "They have the same header, or two words for one column."],
-  T5: ({ row }) => (/^(?:capacity|kapazit(?:\u00e4|ae)t|capacit[\u00e9e]|capacidad)(?!\p{L})/iu.test(row)
+  T5: ({ row }) => (/^(?:kapazit(?:\p{L}|ae)t|capacit\p{L}|capacidad)(?!\p{L})/iu.test(row)
     ? ["Add a column with the header id, and write capacity there.",
       "A row of capacities has no duration."]
     : /^(?:kapazit|capaci)/i.test(row)

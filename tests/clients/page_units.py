@@ -250,6 +250,10 @@ def try_kept(modules, draw):
     same("links of late schedules", ["late" in answer for answer in late], [True] * len(late))
 
 
+# ids of the row of the capacities
+CAPACITY_WORDS = ("capacity", "Kapazit\u00e4t", "capacidad")
+
+
 def drawn_week(draw):
     """A list with dates of some activities, an instant from which on it is planned, and the absences as their
     begins and lengths."""
@@ -264,7 +268,7 @@ def drawn_week(draw):
                                         draw.randrange(2), draw.randrange(2), *dates, draw.choice(["", 9])])))
     absences = [(draw.choice(["", draw.randrange(8)]), draw.randrange(1, 5)) for _ in range(draw.randrange(3))]
     lines += [f"absence,away,{length},,1,,{begin},,,," for begin, length in absences]
-    return "\n".join([*lines, "capacity,,,,2,1,,,,,", ""]), now, absences
+    return "\n".join([*lines, f"{draw.choice(CAPACITY_WORDS)},,,,2,1,,,,,", ""]), now, absences
 
 
 def try_week(modules, draw):
@@ -293,7 +297,7 @@ def try_week(modules, draw):
         sizes.add((len(wanted) < len(found["rows"]), bool(absences)))
     same("kinds of lists", len(sizes), 4)
     # the lag, and the link, keep A from slipping; a column with a capacity has no dates
-    for text, found, link in (("A,2,,1,9\nB,3,A+2,1,\ncapacity,,,1,\n", [[0, 2], [4, 7]], "A+2"),
+    for text, found, link in (("A,2,,1,9\nB,3,A+2,1,\nKAPAZIT\u00e4T,,,1,\n", [[0, 2], [4, 7]], "A+2"),
                               ("A,2,,,9\nB,3,A,,\ncapacity,,,1,\n", [[0, 2], [2, 5]], "A")):
         text = f"id,duration,predecessors,crew,due\n{text}"
         rows = [{"id": name, "start": start, "end": end} for name, (start, end) in zip("AB", found)]
