@@ -723,7 +723,7 @@ const SCHEDULE_COMMANDS: [Entry; 5] = [
             plan solve --capacity R1=6 examples/house.sm\n  \
             plan solve --conflicts 1000 examples/shops.txt ft06\n  \
             plan solve --now 8 --goal tardiness examples/week.csv\n  \
-            plan solve --now 8 --like old.txt examples/week.csv\n  \
+            plan solve --now 8 --like examples/monday.txt examples/week.csv\n  \
             plan solve --start 2027-05-03 --days mon-fri --now 2027-05-11 examples/site.csv",
         arguments: &[
             FILE_OR_LIST,
