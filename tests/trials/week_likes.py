@@ -92,7 +92,7 @@ def try_plan(case, week, found, folder, name, earlier, is_late):
     status, output, errors = plan(folder, *words, "--format", "json")
     whole = whole_starts(week, earlier)
     was_active = whole is not None and weeks.is_active(week, whole)
-    if status == 1 and errors == b"S13 none found\n":
+    if status == 1 and json.loads(errors)["text"] == "S13 none found":
         if was_active or not has_appointment(week):
             raise Wrong(f"{what}: none found")
         return "none found"
