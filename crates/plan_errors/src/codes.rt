@@ -551,7 +551,7 @@ impl Code {
                 "Line N has more cells than the header, or a quote that opens in line N isn't closed."
             }
             Code::NoListResource => {
-                "The option --capacity names a resource that no column of the list has, or an absence has an amount in a column that isn't a resource."
+                "The option --capacity or an absence names a resource that no column of the list has, or an absence has an amount in a column that isn't a resource."
             }
             Code::ManySteps => "The order has more steps than the list has machines.",
             Code::SuccessorColumn => "The column gives successors, and a list has predecessors.",
