@@ -116,11 +116,10 @@ def made(count, complexity, factor, strength, seed):
     return durations, successors, needs, [max(1, amount) for amount in room]
 
 
-def of_set(name):
-    """The names and the parts of the projects of a set."""
+def of_set(name, every=1):
+    """The names and the parts of the projects of a set, or of each so many."""
     count, strengths, seeds = SETS[name]
-    for strength, factor, complexity, seed in itertools.product(
-        strengths, FACTORS, COMPLEXITIES, seeds
-    ):
+    products = itertools.product(strengths, FACTORS, COMPLEXITIES, seeds)
+    for strength, factor, complexity, seed in itertools.islice(products, 0, None, every):
         label = f"{name}-rs{strength}-rf{factor}-nc{complexity}-{seed}"
         yield label, made(count, complexity, factor, strength, seed)

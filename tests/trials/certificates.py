@@ -98,7 +98,7 @@ def shops_as_projects(names):
 
 def projects(count=None, every=1):
     """Projects like J30 of bench/progen.py, under their names there."""
-    drawn = itertools.islice(progen.of_set("J30"), 0, None, every)
+    drawn = progen.of_set("J30", every)
     return [Case(name, files.project(*parts), []) for name, parts in itertools.islice(drawn, count)]
 
 

@@ -70,6 +70,8 @@ enum Form {
     Seconds,
     /// An option with the time limit of a search in seconds, or none.
     SearchSeconds,
+    /// An option with the greatest change of a capacity, or none.
+    By,
     /// An option with the conflict limit of a search, or none.
     Conflicts,
     /// An option with the instant from which on a list of activities is planned.
@@ -579,7 +581,7 @@ const LIST_COMMANDS: [Entry; 2] = [
     },
 ];
 
-const PROJECT_COMMANDS: [Entry; 6] = [
+const PROJECT_COMMANDS: [Entry; 9] = [
     Entry {
         name: "cpm",
         about: "Prints the critical-path dates of a project",
@@ -641,6 +643,60 @@ const PROJECT_COMMANDS: [Entry; 6] = [
             IGNORE,
             UNIT,
             NAMES,
+            FORMAT,
+        ],
+    },
+    Entry {
+        name: "why",
+        about: "Prints what makes a schedule as long as it is, activity by activity",
+        examples: "Examples:\n  \
+            plan why examples/six.sm examples/starts.txt\n  \
+            plan solve examples/house.csv | plan why examples/house.csv -",
+        arguments: &[
+            FILE_OR_LIST,
+            GIVEN_STARTS,
+            CAPACITY,
+            MAP,
+            IGNORE,
+            UNIT,
+            FORMAT,
+        ],
+    },
+    Entry {
+        name: "freeze",
+        about: "Prints the project in which the order of a schedule is fixed by arcs",
+        examples: "Each priority rule and plan cpm give the schedule back, also on a server.\n\n\
+            Examples:\n  \
+            plan freeze examples/six.sm examples/starts.txt\n  \
+            plan solve examples/house.sm | plan freeze examples/house.sm - > frozen.sm",
+        arguments: &[FILE_OR_LIST, GIVEN_STARTS, CAPACITY, MAP, IGNORE, UNIT],
+    },
+    Entry {
+        name: "what-if",
+        about: "Prints the least makespans with less and more of each resource",
+        examples: "Cells:\n  \
+            106       the least makespan\n  \
+            101-104   the least makespan is one of these\n  \
+            -         an activity needs more than there is\n\n\
+            Examples:\n  \
+            plan what-if examples/house.sm\n  \
+            plan what-if --by 3 examples/house.csv",
+        arguments: &[
+            FILE_OR_LIST,
+            Argument {
+                name: "by",
+                form: Form::By,
+                help: "how many more of each resource, 1 to 9 [default: 1]",
+            },
+            Argument {
+                name: "seconds",
+                form: Form::SearchSeconds,
+                help: "time limit of all searches in seconds, 1 to 86400 [default: 10]",
+            },
+            CAPACITY,
+            MAP,
+            IGNORE,
+            UNIT,
             FORMAT,
         ],
     },
@@ -1109,6 +1165,10 @@ fn arg_of<'a>(alloc: Global, argument: &Argument) -> Result<Arg<'a>, AllocError>
             .long(argument.name)
             .value_name("S")
             .value_parser(value_parser!(u32).range(1..=86400)),
+        Form::By => arg
+            .long(argument.name)
+            .value_name("N")
+            .value_parser(value_parser!(u32).range(1..=9)),
         Form::Conflicts => arg
             .long(argument.name)
             .value_name("N")

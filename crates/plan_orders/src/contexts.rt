@@ -225,6 +225,11 @@ impl<'a> FileOrder<'a> {
                 week,
                 ..
             } => check_context(file, starts, &week),
+            FileOrder::Ask { file, starts, .. } => Context {
+                starts: Some(starts),
+                ..file_context(file)
+            },
+            FileOrder::WhatIf { file, .. } => file_context(file),
             FileOrder::Verify { file, log, .. } => Context {
                 log: Some(log),
                 ..file_context(file)

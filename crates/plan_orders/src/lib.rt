@@ -15,8 +15,8 @@ pub use arguments::{command, help, version};
 pub use list_options::{BadOption, ListOptions, list_options_of};
 pub use now::Now;
 pub use orders::{
-    FileOrder, Lists, OfficeOrder, Order, WeekWords, capacities_of, events_of, misplaced_option,
-    order_of, overrides_of, rows_of, texts_of,
+    FileOrder, Lists, OfficeOrder, Order, Question, WeekWords, capacities_of, events_of,
+    misplaced_option, order_of, overrides_of, rows_of, texts_of,
 };
 pub use outputs::{FileId, Found, Way, way_to_write};
 pub use styles::{lacks_per_day, moments_of, style_of};

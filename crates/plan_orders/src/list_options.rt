@@ -99,7 +99,17 @@ fn unit_in<'a>(texts: &[&'a str]) -> Result<Option<u64>, BadOption<'a>> {
 fn listing<'a, 'b>(matches: &'a ArgMatches<'b>) -> Option<&'a ArgMatches<'b>> {
     match matches.subcommand()? {
         (
-            "import" | "solve" | "chart" | "days" | "report" | "check" | "slack" | "compare",
+            "import"
+            | "solve"
+            | "chart"
+            | "days"
+            | "report"
+            | "check"
+            | "slack"
+            | "compare"
+            | "freeze"
+            | "why"
+            | "what-if",
             arguments,
         ) => Some(arguments),
         _ => None,

@@ -38,6 +38,15 @@ pub struct WeekWords<'a> {
     pub holidays: Option<&'a str>,
 }
 
+/// What is asked about the starts in a file.
+#[derive(Clone, Copy, Debug, PartialEq, Eq)]
+pub enum Question {
+    /// The project in which they are frozen.
+    Freeze,
+    /// The chain of activities that makes the plan as long as it is.
+    Why,
+}
+
 /// An order on files.
 #[derive(Clone, Copy)]
 pub enum FileOrder<'a> {
@@ -75,6 +84,21 @@ pub enum FileOrder<'a> {
         has_status: bool,
         /// The options of a list with dates.
         week: WeekWords<'a>,
+    },
+    /// A question about the starts in a file for a project with these capacities.
+    Ask {
+        question: Question,
+        capacities: &'a [Capacity<'a>],
+        file: &'a str,
+        starts: &'a str,
+    },
+    /// The least makespans of a project with other capacities of its resources, up to `by` more, with
+    /// the time limit of all searches in seconds.
+    WhatIf {
+        capacities: &'a [Capacity<'a>],
+        file: &'a str,
+        by: u32,
+        seconds: u32,
     },
     /// A check of the log of a search. The problem is the project in a file, or an instance of a
     /// job shop file.
@@ -198,6 +222,7 @@ impl<'a> FileOrder<'a> {
                 week,
                 ..
             } => named_input(file, starts, week.holidays),
+            FileOrder::Ask { file, starts, .. } => named_input(file, starts, None),
             FileOrder::Verify {
                 file: "-",
                 log: "-",
@@ -384,7 +409,10 @@ fn planning<'a, 'b>(matches: &'a ArgMatches<'b>) -> Option<&'a ArgMatches<'b>> {
             | "days"
             | "report"
             | "slack"
-            | "compare",
+            | "compare"
+            | "freeze"
+            | "why"
+            | "what-if",
             arguments,
         ) => Some(arguments),
         _ => None,
@@ -509,6 +537,8 @@ fn has_formats(name: &str) -> bool {
             | "check"
             | "slack"
             | "compare"
+            | "why"
+            | "what-if"
             | "names"
             | "explain"
     )
@@ -815,6 +845,32 @@ fn slack_order<'a>(arguments: &'a ArgMatches<'_>, lists: Lists<'a>) -> Option<Fi
     Some(texts_order(task, arguments.get_str("FILE")?, lists.texts))
 }
 
+// Returns the order of a question about starts.
+fn question_order<'a>(
+    question: Question,
+    arguments: &'a ArgMatches<'_>,
+    lists: Lists<'a>,
+) -> Option<FileOrder<'a>> {
+    Some(FileOrder::Ask {
+        question,
+        capacities: lists.capacities,
+        file: arguments.get_str("FILE")?,
+        starts: arguments.get_str("STARTS")?,
+    })
+}
+
+// Returns the order of `what-if`.
+fn what_if_order<'a>(arguments: &'a ArgMatches<'_>, lists: Lists<'a>) -> Option<FileOrder<'a>> {
+    let (by, seconds): (Option<u32>, Option<u32>) =
+        (arguments.get_one("by"), arguments.get_one("seconds"));
+    Some(FileOrder::WhatIf {
+        capacities: lists.capacities,
+        file: arguments.get_str("FILE")?,
+        by: by.unwrap_or(1),
+        seconds: seconds.unwrap_or(DEFAULT_SECONDS),
+    })
+}
+
 // Returns the task of `compare`: by ids if an old list is given.
 fn compare_task<'a>(is_by_ids: bool, subject: Subject<'a>) -> Task<'a> {
     let starts = Pair { a: &[], b: &[] };
@@ -1025,6 +1081,9 @@ fn file_order<'a>(
         "verify" => verify_order(arguments),
         "slack" => slack_order(arguments, lists),
         "compare" => compare_order(arguments, lists),
+        "freeze" => question_order(Question::Freeze, arguments, lists),
+        "why" => question_order(Question::Why, arguments, lists),
+        "what-if" => what_if_order(arguments, lists),
         "chart" => chart_order(arguments, lists),
         "days" => days_order(arguments, lists),
         _ => plain_order(name, arguments, lists.capacities),
