@@ -4,6 +4,7 @@ use crate::errors::{FileFault, print_fault};
 use crate::file_log::FileLog;
 use crate::misuse::Misuse;
 use crate::progress::ProgressLine;
+use crate::questions::{do_question, do_what_if};
 use crate::status::Status;
 use crate::verification::do_verify;
 use crate::week_check::do_check_file;
@@ -214,6 +215,18 @@ fn do_file_order(
         } => {
             return do_check_file(rt, options, subject, rows, has_status, week, starts, file);
         }
+        FileOrder::Ask {
+            question,
+            capacities,
+            file,
+            starts,
+        } => do_question(rt, options, question, capacities, rows, starts, file)?,
+        FileOrder::WhatIf {
+            capacities,
+            file,
+            by,
+            seconds,
+        } => do_what_if(rt, options, capacities, rows, by, seconds, file)?,
         FileOrder::Verify {
             file,
             log,

@@ -10,6 +10,7 @@ mod hints;
 mod instants;
 mod misuse;
 mod progress;
+mod questions;
 mod read_input;
 mod status;
 mod verification;
