@@ -6,7 +6,7 @@ use Rattle.std.specs.List.{AllByRecursion, IsDistinct}
 use Rattle.std.specs.List.Sorted.{IsStrictlyIncreasing}
 use Rattle.std.proofs.lemmas.Bool.{cases_lt, ne_eqb}
 use Rattle.std.proofs.lemmas.Map.Keys.{IsDistinct-from_apart}
-use Rattle.std.proofs.lemmas.List.{get_or_default, take_all}
+use Rattle.std.proofs.lemmas.List.{get_or_default, length-map, map_push, take_all}
 use Rattle.std.proofs.lemmas.List.Sums.{sum_by-cons}
 use Rattle.std.proofs.lemmas.List.Elements.{recursion_from_All, Contains-get_or, Contains-append_cases, Contains-append_left, Contains-append_right}
 use Rattle.plan_net.specs.Network.{Net, IsActivity, IsArc, count_of}
@@ -19,7 +19,8 @@ use Rattle.plan_psplib.specs.Project.{AreAmounts}
 use Rattle.plan_table.specs.Jobs.{Job, durations_of, rows_of}
 use Rattle.plan_table.proofs.GoodJobLemmas.{IsGoodJob}
 use Rattle.plan_frozen.specs.FrozenText.{horizon_of}
-use Rattle.plan_frozen.specs.Jobs.{IsJobAt, AreJobsFrom, AreJobsOf}
+use Rattle.plan_frozen.specs.Jobs.{job_in, IsJobAt, AreJobsFrom, AreJobsOf}
+use Rattle.plan_frozen.specs.declared.jobs.Job as declared
 
 -- ---- one job more
 
@@ -31,6 +32,15 @@ jobs_push rows net n [] job are is =
 jobs_push rows net n (first ∷ jobs) job are is =
     let here : n + length (first ∷ jobs) ≡ n + 1 + length jobs = omega arith in
     (are.0, jobs_push rows net (n + 1) jobs job are.1 (subst (λ (k : ℕ). IsJobAt rows net k job) here is))
+
+-- the same for the jobs that the program keeps
+pub jobs_next : (rows : List (List ℕ)) (net : Net) (k : ℕ) (jobs after : List declared.Job) (job : declared.Job) → after ≡ jobs ++ job ∷ []
+    → length jobs ≡ k → AreJobsFrom rows net 1 (map job_in jobs) → IsJobAt rows net (k + 1) (job_in job) → AreJobsFrom rows net 1 (map job_in after)
+jobs_next rows net k jobs after job more whole each is =
+    let seen = length-map jobs job_in in
+    let number : k + 1 ≡ 1 + length (map job_in jobs) = omega (arith, seen, whole) in
+    subst (AreJobsFrom rows net 1) (sym (ap (map job_in) more ∙ map_push job_in jobs job))
+    (jobs_push rows net 1 (map job_in jobs) (job_in job) each (subst (λ (j : ℕ). IsJobAt rows net j (job_in job)) number is))
 
 -- ---- durations and needs
 

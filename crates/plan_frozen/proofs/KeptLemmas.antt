@@ -16,9 +16,8 @@ use Rattle.plan_table.proofs.RowListLemmas.{no_availabilities}
 use Rattle.plan_table.proofs.TextLineLemmas.{rule, head_lines, information_lines, precedence_lines, request_lines, availability_lines}
 use Rattle.plan_table.proofs.HeadLemmas.{head_none_begins, information_none}
 use Rattle.plan_table.proofs.LawLemmas.{IsLaidOut, capacities_row, precedence_none, requests_none, resource_heads_are}
-use Rattle.plan_frozen.specs.FrozenText.{name_lines}
 use Rattle.plan_frozen.proofs.LineLemmas.{lines_trimmed}
-use Rattle.plan_frozen.proofs.NameLemmas.{IsKey, names_kept, names_rest, section_each, activity_is_key, resource_is_key, id_is_key}
+use Rattle.plan_frozen.proofs.NameLemmas.{IsKey, name_lines, names_kept, names_rest, section_each, activity_is_key, resource_is_key, id_is_key}
 
 -- the lines behind a front stand behind lines that don't begin with it
 behind_past : (front : List ℕ) (ls rest : List (List ℕ)) (n : ℕ) → none_begins front ls ≡ true →

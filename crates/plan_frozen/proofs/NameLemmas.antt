@@ -1,6 +1,6 @@
 -- The ids and names of a frozen project are those of the file.
 use Rattle.std.proofs.Common.{◌≡◌, ℕ, ◌+◌, ◌||◌, Bool, true, false, List, [], ◌∷◌, ◌++◌, None, length, map, filter, drop, refl, sym, ap, ◌∙◌, append_assoc, append-nil, cond, codes}
-use Rattle.std.specs.List.{AllByRecursion, cons_option, filter_map}
+use Rattle.std.specs.List.{AllByRecursion, cons_option, filter_map, flat_map}
 use Rattle.std.proofs.lemmas.Bool.{false≢true}
 use Rattle.plan_psplib.specs.Lines.{NumberedLine, is_line_feed, lines, raw_lines, trim, trim_start}
 use Rattle.plan_psplib.specs.Sections.{begins_with, availabilities_title, information_title}
@@ -9,8 +9,36 @@ use Rattle.plan_table.specs.Names.{activity_key, behind, id_key, name_in, name_s
 use Rattle.plan_table.proofs.LineLemmas as plain
 use Rattle.plan_table.proofs.NameLemmas.{gives}
 use Rattle.plan_table.proofs.TextLineLemmas.{rule}
-use Rattle.plan_frozen.specs.FrozenText.{ended, ended_lines, name_lines, named_lines, names_text}
+use Rattle.plan_frozen.specs.FrozenText.{kept_line, kept_text, names_text}
 use Rattle.plan_frozen.proofs.LineLemmas.{Each, raw_line}
+
+-- a line with its end
+abbrev pub ended : List ℕ → List ℕ
+ended line = line ++ 10 ∷ []
+
+abbrev pub ended_lines : List (List ℕ) → List ℕ
+ended_lines ls = flat_map ended ls
+
+-- those of some lines that give an id or a name
+abbrev pub named_lines : List NumberedLine → List (List ℕ)
+named_lines ls = filter is_name_line (map (λ (line : NumberedLine). line.text) ls)
+
+-- the lines of ids and names in a file
+abbrev pub name_lines : List ℕ → List (List ℕ)
+name_lines file = named_lines (name_section file)
+
+kept_is : (ls : List NumberedLine) → kept_text ls ≡ ended_lines (named_lines ls)
+kept_is [] = refl
+kept_is (line ∷ ls) = by_name (is_name_line line.text) (kept_is ls)
+  where
+    by_name : (t : Bool) → kept_text ls ≡ ended_lines (named_lines ls) → cond t (ended line.text) [] ++ kept_text ls ≡ ended_lines (cond t (line.text ∷ named_lines ls) (named_lines ls))
+    by_name true rest = ap (λ (text : List ℕ). ended line.text ++ text) rest
+    by_name false rest = rest
+
+-- the section of the names, by its lines
+pub names_text_is : (file : List ℕ) → names_text file ≡ (codes "PROJECT INFORMATION:\n" ++ ended_lines (name_lines file)) ++ (rule ++ 10 ∷ [])
+unfolding names_text
+names_text_is file = ap (λ (text : List ℕ). (codes "PROJECT INFORMATION:\n" ++ text) ++ (rule ++ 10 ∷ [])) (kept_is (name_section file))
 
 -- ---- the lines of the section of the names
 
@@ -48,9 +76,8 @@ abbrev pub names_rest : List ℕ → List (List ℕ)
 names_rest file = name_lines file ++ rule ∷ []
 
 pub names_raw : (file : List ℕ) → AllByRecursion (Each (λ b. is_line_feed b ≡ false)) (name_lines file) → raw_lines (names_text file) ≡ codes "PROJECT INFORMATION:" ∷ names_rest file
-unfolding names_text
 names_raw file h =
-    ap raw_lines (append_assoc (codes "PROJECT INFORMATION:\n") (ended_lines (name_lines file)) (rule ++ 10 ∷ []))
+    ap raw_lines (names_text_is file ∙ append_assoc (codes "PROJECT INFORMATION:\n") (ended_lines (name_lines file)) (rule ++ 10 ∷ []))
     ∙ plain.raw_line (codes "PROJECT INFORMATION:") (ended_lines (name_lines file) ++ (rule ++ 10 ∷ [])) refl
     ∙ ap (λ (ls : List (List ℕ)). codes "PROJECT INFORMATION:" ∷ ls) (raw_ended (name_lines file) (rule ++ 10 ∷ []) h
     ∙ ap (λ (ls : List (List ℕ)). name_lines file ++ ls) (plain.raw_line rule [] refl))

@@ -22,9 +22,9 @@ use Rattle.plan_table.proofs.TextLineLemmas.{lines_before, IsLines, lines_both, 
 use Rattle.plan_table.proofs.TableTextLemmas.{lines_bytes}
 use Rattle.plan_table.proofs.HeadLemmas.{AreSmall, head_plain, information_plain}
 use Rattle.plan_table.proofs.LawLemmas.{IsLaidOut, IsText, capacities_row, is_some_byte, project_of_jobs, says_project}
-use Rattle.plan_frozen.specs.FrozenText.{ended, ended_lines, frozen_text, front_text, horizon_of, name_lines, names_text}
+use Rattle.plan_frozen.specs.FrozenText.{frozen_text, front_text, horizon_of, names_text}
 use Rattle.plan_frozen.proofs.LineLemmas.{Each, lines_each, lines_trimmed}
-use Rattle.plan_frozen.proofs.NameLemmas.{names_rest, names_raw, section_each, named_each}
+use Rattle.plan_frozen.proofs.NameLemmas.{ended, ended_lines, name_lines, names_rest, names_raw, names_text_is, section_each, named_each}
 
 all_both : {A : Type 0} (P : A → Type 0) (xs ys : List A) → AllByRecursion P xs → AllByRecursion P ys → AllByRecursion P (xs ++ ys)
 all_both P [] ys h k = k
@@ -112,8 +112,7 @@ module _ (file : List ℕ) (plain : All (λ byte. byte ≢ 0) file) where
       (lines_each (λ b. b ≢ 0) file (each_weaker file (recursion_from_All (λ b. b ≢ 0) file plain))))
 
   names_bytes : HasBytes (names_text file)
-  unfolding names_text
-  names_bytes = bytes_append (codes "PROJECT INFORMATION:\n" ++ ended_lines (name_lines file)) (rule ++ 10 ∷ [])
+  names_bytes = ap (list_all is_some_byte) (names_text_is file) ∙ bytes_append (codes "PROJECT INFORMATION:\n" ++ ended_lines (name_lines file)) (rule ++ 10 ∷ [])
       (bytes_append (codes "PROJECT INFORMATION:\n") (ended_lines (name_lines file)) refl (ended_bytes (name_lines file) names_some)) refl
 
   -- ---- the text

@@ -1,6 +1,6 @@
 -- The text of a frozen project: its jobs and capacities in the layout of plan_table, and the ids and
 -- names of another file.
-use Rattle.std.specs.Prelude.{◌≡◌, ℕ, ◌-◌, ◌≤◌, ◌<◌, List, [], ◌∷◌, ◌++◌, All, codes, filter, length, map}
+use Rattle.std.specs.Prelude.{◌≡◌, ℕ, ◌-◌, ◌≤◌, ◌<◌, List, [], ◌∷◌, ◌++◌, if◌then◌else◌, All, codes, length}
 use Rattle.std.specs.List.{flat_map, sum_by}
 use Rattle.plan_net.specs.Network.{Net}
 use Rattle.plan_psplib.specs.Lines.{NumberedLine}
@@ -26,25 +26,18 @@ front_text jobs resources =
     head_text (length jobs) (horizon_of jobs) resources
     ++ information_text (length jobs - 2) (horizon_of jobs)
 
--- a line with its end
-abbrev pub ended : List ℕ → List ℕ
-ended line = line ++ 10 ∷ []
+-- a line with its end, if it gives an id or a name
+abbrev pub kept_line : List ℕ → List ℕ
+kept_line line = if is_name_line line then line ++ 10 ∷ [] else []
 
-abbrev pub ended_lines : List (List ℕ) → List ℕ
-ended_lines ls = flat_map ended ls
+-- those of some lines that give ids or names
+abbrev pub kept_text : List NumberedLine → List ℕ
+kept_text ls = flat_map (λ line. kept_line line.text) ls
 
--- those of some lines that give an id or a name
-abbrev pub named_lines : List NumberedLine → List (List ℕ)
-named_lines ls = filter is_name_line (map (λ line. line.text) ls)
-
--- the lines of ids and names in a file, without the blanks at their ends
-abbrev pub name_lines : List ℕ → List (List ℕ)
-name_lines file = named_lines (name_section file)
-
--- the section of these lines
+-- the section of the lines of ids and names in a file, without the blanks at their ends
 unfoldable pub names_text : List ℕ → List ℕ
 names_text file =
-    codes "PROJECT INFORMATION:\n" ++ ended_lines (name_lines file) ++ rule_line
+    codes "PROJECT INFORMATION:\n" ++ kept_text (name_section file) ++ rule_line
 
 -- the text of a project with these jobs and capacities, and with the ids and names of a file
 unfoldable pub frozen_text : List Job → List ℕ → List ℕ → List ℕ

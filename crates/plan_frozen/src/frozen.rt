@@ -2,7 +2,6 @@
 
 ghost use Rattle.std.specs.Prelude.{◌≡◌, All, IfErr, IfOk, length, map};
 ghost use Rattle.plan_net.specs.Network.{count_of};
-ghost use Rattle.plan_psplib.specs.Project.{SaysProject};
 ghost use Rattle.plan_profile.specs.Usage.{IsInTime};
 ghost use Rattle.plan_sgs.specs.Instances.{planned, problem_of};
 ghost use Rattle.plan_sgs.specs.Problem.{IsActive};

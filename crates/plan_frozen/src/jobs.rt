@@ -34,10 +34,12 @@ fn job_at(alloc: Global, instance: &Instance, network: &Network, j: u32) -> Resu
     ensures { IfOk result (λ job.
         spec.IsJobAt instance.now.project.needs network.now j (spec.job_in job)) }
 {
+    let successors = numbers(alloc, network.succs(j))?;
+    let needs = Vec::from_slice(alloc, instance.needs(j))?;
     Ok(Job {
         duration: network.duration(j),
-        successors: numbers(alloc, network.succs(j))?,
-        needs: Vec::from_slice(alloc, instance.needs(j))?,
+        successors,
+        needs,
     })
 }
 

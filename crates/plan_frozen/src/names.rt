@@ -36,25 +36,25 @@ fn is_name_line(line: &[u8]) -> bool
     line.starts_with(b"name ") || line.starts_with(b"resource ") || line.starts_with(b"id ")
 }
 
-// Appends a line and its end.
-fn push_line(text: &mut Vec<u8>, line: &[u8]) -> Result<(), AllocError>
-    ensures { OnOk result (text.new.items ≡ text.old.items ++ spec.ended line.now) }
+// Appends a line and its end, if it gives an id or a name.
+fn push_name_line(text: &mut Vec<u8>, line: &[u8]) -> Result<(), AllocError>
+    ensures { OnOk result (text.new.items ≡ text.old.items ++ spec.kept_line line.now) }
 {
+    if !is_name_line(line) {
+        return Ok(());
+    }
     text.extend_from_slice(line)?;
-    text.push(b'\n')?;
-    Ok(())
+    text.extend_from_slice(b"\n")
 }
 
 // Appends the lines of ids and names in a file.
 fn push_name_lines(text: &mut Vec<u8>, file: &[u8]) -> Result<(), AllocError>
     ensures { OnOk result (text.new.items
-        ≡ text.old.items ++ spec.ended_lines (spec.name_lines file.now)) }
+        ≡ text.old.items ++ spec.kept_text (table.name_section file.now)) }
 {
     let mut lines = name_section(file);
     while let Some(line) = lines.next_line() {
-        if is_name_line(line.text) {
-            push_line(text, line.text)?;
-        }
+        push_name_line(text, line.text)?;
     }
     Ok(())
 }
@@ -66,8 +66,7 @@ pub fn push_names(text: &mut Vec<u8>, file: &[u8]) -> Result<(), AllocError>
 {
     text.extend_from_slice(b"PROJECT INFORMATION:\n")?;
     push_name_lines(text, file)?;
-    push_line(
-        text,
-        b"************************************************************************",
+    text.extend_from_slice(
+        b"************************************************************************\n",
     )
 }
