@@ -1,8 +1,9 @@
 -- The project that the text of a frozen project says, and its laws.
-use Rattle.std.proofs.Common.{◌≡◌, ◌≢◌, ℕ, ◌≤◌, List, length, map, sum, refl, sym, ap, ◌∙◌, subst, arith}
-use Rattle.std.specs.Prelude.{All}
+use Rattle.std.proofs.Common.{◌≡◌, ◌≢◌, ℕ, ◌≤◌, true, List, [], ◌∷◌, length, map, sum, refl, sym, ap, ◌∙◌, subst, arith}
+use Rattle.std.specs.Prelude.{All, nat_le}
 use Rattle.std.specs.List.{AllByRecursion}
-use Rattle.std.proofs.lemmas.List.Elements.{recursion_from_All}
+use Rattle.std.proofs.lemmas.List.Elements.{All-from_recursion}
+use Rattle.std.proofs.lemmas.Bool.{and_parts, leb-true}
 use Rattle.plan_net.specs.Network.{Net, count_of, lag_of}
 use Rattle.plan_net.specs.Limits.{IsSound}
 use Rattle.plan_psplib.specs.Project.{AreAmounts, Project, SaysProject}
@@ -13,7 +14,7 @@ use Rattle.plan_table.proofs.GoodJobLemmas.{IsGoodJob}
 use Rattle.plan_documents.specs.Documents.{ids_in}
 use Rattle.plan_freeze.specs.Frozen.{IsFrozen}
 use Rattle.plan_freeze.proofs.FrozenLemmas.{allows_order, needs_no_capacities, are_earliest, is_only_active, is_each_serial, is_each_rules}
-use Rattle.plan_frozen.specs.FrozenText.{frozen_text, horizon_of}
+use Rattle.plan_frozen.specs.FrozenText.{are_small, frozen_text, horizon_of}
 use Rattle.plan_frozen.specs.FrozenFile.{IsFrozenText, KeepsNames}
 use Rattle.plan_frozen.specs.FrozenProject as spec
 use Rattle.plan_frozen.proofs.JobLemmas.{good_jobs, job_needs, jobs_few, jobs_horizon, jobs_total}
@@ -21,6 +22,12 @@ use Rattle.plan_frozen.proofs.NetworkLemmas.{jobs_frozen, jobs_sound, unlagged_n
 use Rattle.plan_frozen.proofs.KeptLemmas.{kept_activities, kept_ids, kept_resources}
 use Rattle.plan_frozen.proofs.TextLemmas.{jobs_said, laid_out, rest_is}
 use Rattle.plan_frozen.proofs.IdLemmas.{ids_kept}
+
+small_each : (capacities : List ℕ) → are_small capacities ≡ true → AllByRecursion (λ n. n ≤ 10000) capacities
+small_each [] small = tt
+small_each (n ∷ ns) small =
+    let both = and_parts (nat_le n 10000) (are_small ns) small in
+    (leb-true n 10000 both.0, small_each ns both.1)
 
 module _ (i : Planned) (starts file text : List ℕ) (says : SaysProject file i.project) (made : IsFrozenText i starts file text) where
   abbrev pub jobs : List Job
@@ -51,7 +58,7 @@ module _ (i : Planned) (starts file text : List ℕ) (says : SaysProject file i.
       (omega (arith, fit.0, same), omega (arith, fit.1, same))
 
   low : AllByRecursion (λ n. n ≤ 10000) caps
-  low = recursion_from_All (λ n. n ≤ 10000) caps made.small
+  low = small_each caps made.small
 
   total : sum (durations_of jobs) ≤ 1000000
   total = jobs_total i.project.needs made.net jobs made.frozen.sound made.written.are
@@ -100,7 +107,7 @@ module _ (i : Planned) (starts file text : List ℕ) (says : SaysProject file i.
       network = made.instance.project.network;
       rows = made.instance.project.rows;
       needs = amounts;
-      available = (refl, made.small);
+      available = (refl, All-from_recursion (λ n. n ≤ 10000) caps low);
       resources = resources;
     };
     capacities = refl;

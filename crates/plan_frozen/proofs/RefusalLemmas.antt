@@ -1,6 +1,7 @@
 -- The errors of frozen files.
-use Rattle.std.proofs.Common.{◌≡◌, inl, inr, ℕ, List, Result, Ok, Err, sym, subst}
-use Rattle.std.specs.Prelude.{IfErr}
+use Rattle.std.proofs.Common.{◌≡◌, inl, inr, ℕ, List, Vec, Result, Ok, Err, sym, subst}
+use Rattle.std.specs.Prelude.{IfErr, IfOk}
+use Rattle.std.specs.Global.{Global}
 use Rattle.plan_net.specs.Network.{Net}
 use Rattle.plan_psplib.specs.Project.{Project, SaysProject}
 use Rattle.plan_sgs.specs.Problem.{NeedsFit}
@@ -18,7 +19,7 @@ use Rattle.plan_documents.proofs.ErrorLemmas.{refuses_as}
 use Rattle.plan_freeze.specs.Frozen.{IsFrozen}
 use Rattle.plan_freeze.specs.Refusals.{RefusesStarts}
 use Rattle.plan_freeze.specs.declared.fault.FreezeFault.{FreezeFault}
-use Rattle.plan_frozen.specs.FrozenFile.{GivesStarts, TellsFreezeFault, TellsInactive, TellsNoFrozen, TellsNotFrozen, TellsTextFault, TellsUnfrozen}
+use Rattle.plan_frozen.specs.FrozenFile.{GivesStarts, IsFrozenOf, IsFrozenText, TellsFreezeFault, TellsInactive, TellsNoFrozen, TellsNotFrozen, TellsTextFault, TellsUnfrozen}
 use Rattle.plan_frozen.specs.FrozenText.{RefusesText}
 use Rattle.plan_frozen.specs.declared.fault.TextFault.{TextFault}
 
@@ -40,6 +41,13 @@ pub said_of : (ids names : List Name) (listed starts : List ℕ) (i : Planned) (
 said_of ids names listed starts i net same are said =
     subst (λ (ns : List Name). SaysStarts (id_sheet ns i.project.network) listed starts) are
     (subst (λ (n : Net). SaysStarts (id_sheet ids n) listed starts) same said)
+
+-- the text of the frozen project of the starts that a text gives
+pub frozen_of : (names : List Name) (listed file : List ℕ) (i : Planned) (starts : List ℕ) (r : Result (Vec ℕ Global) CliFault)
+    → GivesStarts names listed i starts → IfOk r (λ (text : Vec ℕ Global). IsFrozenText i starts file text.items)
+    → IfOk r (λ (text : Vec ℕ Global). IsFrozenOf names listed file i text.items)
+frozen_of names listed file i starts (Ok text) said made = (starts, said, made)
+frozen_of names listed file i starts (Err e) said made = tt
 
 -- the starts that a text gives are refused
 pub unfrozen : {A : Type 0} (names : List Name) (listed file : List ℕ) (i : Planned) (starts : List ℕ) (r : Result A CliFault)

@@ -1,11 +1,10 @@
 -- The file of a frozen project, for the bytes of another file and of a text of starts
 -- (docs/definitions.md, "Runs").
-use Rattle.std.specs.Prelude.{◌≡◌, ◌≤◌, ◌⊎◌, ℕ, List, All, Result, Vec, IfOk, length, codes}
+use Rattle.std.specs.Prelude.{◌≡◌, ◌≤◌, ◌⊎◌, ℕ, true, List, Result, Vec, IfOk, length, codes}
 use Rattle.std.specs.Global.{Global}
 use Rattle.plan_net.specs.Network.{Net}
 use Rattle.plan_psplib.specs.Plain.{longest_text}
 use Rattle.plan_psplib.specs.Project.{Project, SaysProject}
-use Rattle.plan_psplib.specs.Tokens.{greatest}
 use Rattle.plan_sgs.specs.Problem.{NeedsFit, IsActive}
 use Rattle.plan_sgs.specs.Instances.{Planned, IsInstance, problem_of}
 use Rattle.plan_freeze.specs.Frozen.{IsFrozen}
@@ -23,7 +22,7 @@ use Rattle.plan_documents.specs.ScheduleRun.{TellsNeed}
 use Rattle.plan_documents.specs.Starts.{TellsNoStarts}
 use Rattle.plan_documents.specs.VerdictText.{infeasible_line}
 use Rattle.plan_documents.specs.declared.capacities.Capacity.{Capacity}
-use Rattle.plan_frozen.specs.FrozenText.{IsTextOf, RefusesText}
+use Rattle.plan_frozen.specs.FrozenText.{IsTextOf, RefusesText, are_small}
 use Rattle.plan_frozen.specs.declared.fault.TextFault.{TextFault}
 use Rattle.plan_frozen.specs.declared.fault.TextFault.TheVariants as writing
 
@@ -61,7 +60,7 @@ pub record IsFrozenText (i : Planned) (starts file text : List ℕ) : Type 0 whe
   pub frozen : IsFrozen i starts net
   pub written : IsTextOf i net file text
   pub short : length text ≤ longest_text
-  pub small : All (λ amount. amount ≤ greatest) i.capacities
+  pub small : are_small i.capacities ≡ true
 
 -- the same for the starts that a text gives
 abbrev pub IsFrozenOf : List Name → List ℕ → List ℕ → Planned → List ℕ → Type 0

@@ -1,7 +1,8 @@
 -- The text of a frozen project: its jobs and capacities in the layout of plan_table, and the ids and
 -- names of another file.
-use Rattle.std.specs.Prelude.{◌≡◌, ℕ, ◌-◌, ◌≤◌, ◌<◌, List, [], ◌∷◌, ◌++◌, if◌then◌else◌, All, codes, length}
-use Rattle.std.specs.List.{flat_map, sum_by}
+use Rattle.std.specs.Prelude.{◌≡◌, ℕ, ◌-◌, ◌<◌, Bool, false, if◌then◌else◌}
+use Rattle.std.specs.Prelude.{List, [], ◌∷◌, ◌++◌, codes, length, nat_le}
+use Rattle.std.specs.List.{flat_map, list_all, sum_by}
 use Rattle.plan_net.specs.Network.{Net}
 use Rattle.plan_psplib.specs.Lines.{NumberedLine}
 use Rattle.plan_psplib.specs.Plain.{longest_text}
@@ -44,6 +45,10 @@ unfoldable pub frozen_text : List Job → List ℕ → List ℕ → List ℕ
 frozen_text jobs capacities file =
     (front_text jobs (length capacities) ++ sections_text jobs capacities) ++ names_text file
 
+-- each capacity is within the limit of a project file
+abbrev pub are_small : List ℕ → Bool
+are_small capacities = list_all (λ amount. nat_le amount greatest) capacities
+
 -- the text of the project of an instance with another network, with the ids and names of a file
 pub record IsTextOf (i : Planned) (net : Net) (file text : List ℕ) : Type 0 where
   pub jobs : List Job
@@ -53,6 +58,6 @@ pub record IsTextOf (i : Planned) (net : Net) (file text : List ℕ) : Type 0 wh
 -- the reason why it can't be read: a capacity or its length is above the limit
 abbrev pub RefusesText : Planned → Net → List ℕ → TextFault → Type 0
 RefusesText i net file fault.NoMemory = Unit {0}
-RefusesText i net file fault.Capacity = All (λ amount. amount ≤ greatest) i.capacities → ⊥
+RefusesText i net file fault.Capacity = are_small i.capacities ≡ false
 RefusesText i net file fault.TooLong =
     (text : List ℕ) × IsTextOf i net file text × (longest_text < length text)

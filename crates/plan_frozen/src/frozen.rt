@@ -30,7 +30,6 @@ use plan_table::{NameLine, resource_names};
 use std::alloc::Global;
 
 // Returns the frozen network of an instance for active starts.
-#[tactic(auto, using(crate::proofs::RefusalLemmas::inactive))]
 fn frozen_network(
     alloc: Global,
     instance: &Instance,
@@ -50,7 +49,6 @@ fn frozen_network(
 
 // Returns the text of the frozen project of an instance for active starts, with the ids and names of
 // a file.
-#[tactic(auto, using(crate::proofs::RefusalLemmas::inactive_unfrozen, crate::proofs::RefusalLemmas::unwritten))]
 fn starts_text(
     alloc: Global,
     instance: &Instance,

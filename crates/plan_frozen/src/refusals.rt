@@ -33,7 +33,6 @@ fn with_cause(alloc: Global, fault: CliFault, cause: &str) -> CliFault
 }
 
 // Returns the error of a capacity that a project file can't have.
-#[tactic(auto, using(plan_documents::proofs::SentenceLemmas::detailed_refuses))]
 fn capacity_refusal(alloc: Global) -> CliFault
     ensures { Refuses (λ line. line ≡ codes "F10 line 0") result }
 {
@@ -46,7 +45,6 @@ fn capacity_refusal(alloc: Global) -> CliFault
 }
 
 // Returns the error of a text that is too long for a project file.
-#[tactic(auto, using(plan_documents::proofs::SentenceLemmas::detailed_refuses))]
 fn length_refusal(alloc: Global) -> CliFault
     ensures { Refuses (λ line. line ≡ codes "F1 line 0") result }
 {

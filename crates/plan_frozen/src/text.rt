@@ -1,8 +1,7 @@
 //! The text of a project with another network.
 
-ghost use Rattle.std.specs.Prelude.{◌≡◌, ◌≤◌, ◌↔◌, ◌++◌, All, length, map, IfErr, IfOk, IsTrue, string_bytes};
+ghost use Rattle.std.specs.Prelude.{◌≡◌, ◌≤◌, ◌++◌, true, length, map, IfErr, IfOk, string_bytes};
 ghost use Rattle.plan_net.specs.Limits.{longest_sum, most_activities};
-ghost use Rattle.plan_psplib.specs.Tokens.{greatest};
 ghost use Rattle.plan_psplib.specs.Plain.{longest_text};
 ghost use Rattle.plan_table.specs.ProjectText.{sections_text};
 ghost use Rattle.plan_frozen.specs.Jobs.{job_in};
@@ -51,16 +50,29 @@ fn named_text(
     Ok(text)
 }
 
+// Returns the text of the project of an instance with another network, of any length.
+fn long_text(
+    alloc: Global,
+    instance: &Instance,
+    network: &Network,
+    file: &[u8],
+) -> Result<Vec<u8>, AllocError>
+    requires { network.now.durations ≡ instance.now.project.network.durations }
+    ensures { IfOk result (λ text. spec.IsTextOf instance.now network.now file.now text.items) }
+{
+    // The proof needs the facts of the networks, which these calls state.
+    let _given = instance.network();
+    let _made = network.len();
+    let jobs = jobs_of(alloc, instance, network)?;
+    let text = named_text(alloc, &jobs, instance.caps(), file)?;
+    Ok(text)
+}
+
 // Tests whether each capacity is within the limit of a file.
 fn are_small(capacities: &[u64]) -> bool
-    ensures { IsTrue result ↔ All (λ amount. amount ≤ greatest) capacities.now }
+    ensures { result ≡ spec.are_small capacities.now }
 {
-    for &amount in capacities {
-        if amount > GREATEST_AMOUNT {
-            return false;
-        }
-    }
-    true
+    capacities.iter().all(|amount| *amount <= GREATEST_AMOUNT)
 }
 
 /// Returns the text of the project of an instance with another network, which has the same
@@ -77,17 +89,13 @@ pub fn project_text(
     requires { network.now.durations ≡ instance.now.project.network.durations }
     ensures text { IfOk result (λ text. spec.IsTextOf instance.now network.now file.now text.items) }
     ensures short { IfOk result (λ text. length text.items ≤ longest_text) }
-    ensures small { IfOk result (λ _. All (λ amount. amount ≤ greatest) instance.now.capacities) }
+    ensures small { IfOk result (λ _. spec.are_small instance.now.capacities ≡ true) }
     ensures refused { IfErr result (spec.RefusesText instance.now network.now file.now) }
 {
-    // The proof needs the facts of the networks, which these calls state.
-    let _given = instance.network().len();
-    let _made = network.len();
     if !are_small(instance.caps()) {
         return Err(TextFault::Capacity);
     }
-    let jobs = jobs_of(alloc, instance, network)?;
-    let text = named_text(alloc, &jobs, instance.caps(), file)?;
+    let text = long_text(alloc, instance, network, file)?;
     if text.len() > LONGEST_TEXT {
         return Err(TextFault::TooLong);
     }

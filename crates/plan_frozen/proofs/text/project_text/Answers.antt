@@ -1,19 +1,5 @@
-use Rattle.std.proofs.Common.{ℕ, ◌≤◌, List, length, map, sym, ◌∙◌, ap, subst, arith}
-use Rattle.std.proofs.lemmas.List.{length-map}
-use Rattle.plan_frozen.specs.FrozenText.{horizon_of}
-use Rattle.plan_frozen.specs.Jobs.{job_in}
-use Rattle.plan_frozen.specs.declared.jobs.Job as declared
-use Rattle.plan_frozen.proofs.JobLemmas.{jobs_few, jobs_horizon}
+use Rattle.std.proofs.Common.{arith}
 use Rattle.plan_frozen.proofs.text.project_text.Goals as goal
 
-pub named_text-requires-clause-total : goal.named_text-requires-clause-total
-named_text-requires-clause-total c =
-    subst (λ (xs : List declared.Job). horizon_of (map job_in xs) ≤ 1000000) (sym c.deref.ensures.value)
-    (jobs_horizon c.args.instance.now.project.needs c.args.network.now (map job_in c.in_ok-jobs.jobs.items) c.len-made.ensures.sound c.in_ok-jobs.ensures)
-
-pub named_text-requires-clause-size : goal.named_text-requires-clause-size
-named_text-requires-clause-size c =
-    let seen = length-map c.in_ok-jobs.jobs.items job_in in
-    let few = jobs_few c.args.instance.now.project.needs c.args.network.now (map job_in c.in_ok-jobs.jobs.items) c.len-made.ensures.sound c.in_ok-jobs.ensures in
-    let same = ap (λ (xs : List declared.Job). length xs) c.deref.ensures.value in
-    omega (arith, seen, few, same)
+pub returns-then-len-gt-LONGEST_TEXT-clause-refused : goal.returns-then-len-gt-LONGEST_TEXT-clause-refused
+returns-then-len-gt-LONGEST_TEXT-clause-refused c = (c.in_ok-text.text.items, c.in_ok-text.ensures, omega arith)
