@@ -30,8 +30,8 @@ use Rattle.plan_frozen.specs.declared.fault.TextFault.TheVariants as writing
 abbrev pub GivesStarts : List Name → List ℕ → Planned → List ℕ → Type 0
 GivesStarts ids listed i starts = SaysStarts (id_sheet ids i.project.network) listed starts
 
--- a text says a project of which this holds, beside the instance in a file with given capacities and
--- the starts that another text gives
+-- a text says a project of which this holds, beside the instance in a file with given capacities
+-- and the starts that another text gives
 abbrev pub SaysFrozen : List Capacity → List ℕ → List ℕ → (Planned → List ℕ → Project → Type 0)
     → List ℕ → Type 0
 SaysFrozen given listed file Holds text = IsOfProject given (λ i read.

@@ -1,5 +1,5 @@
--- The text of a frozen project: its jobs and capacities in the layout of plan_table, and the ids and
--- names of another file.
+-- The text of a frozen project: its jobs and capacities in the layout of plan_table, and the ids
+-- and names of another file.
 use Rattle.std.specs.Prelude.{◌≡◌, ℕ, ◌-◌, ◌<◌, Bool, false, if◌then◌else◌}
 use Rattle.std.specs.Prelude.{List, [], ◌∷◌, ◌++◌, codes, length, nat_le}
 use Rattle.std.specs.List.{flat_map, list_all, sum_by}

@@ -30,11 +30,7 @@ use plan_table::{NameLine, resource_names};
 use std::alloc::Global;
 
 // Returns the frozen network of an instance for active starts.
-fn frozen_network(
-    alloc: Global,
-    instance: &Instance,
-    starts: &[u64],
-) -> Result<Network, CliFault>
+fn frozen_network(alloc: Global, instance: &Instance, starts: &[u64]) -> Result<Network, CliFault>
     requires whole { length starts.now ≡ count_of instance.now.project.network }
     requires limit { All IsInTime starts.now }
     ensures active { IfOk result (λ _. IsActive (problem_of instance.now) starts.now) }
@@ -47,8 +43,8 @@ fn frozen_network(
     }
 }
 
-// Returns the text of the frozen project of an instance for active starts, with the ids and names of
-// a file.
+// Returns the text of the frozen project of an instance for active starts, with the ids and names
+// of a file.
 fn starts_text(
     alloc: Global,
     instance: &Instance,
@@ -99,7 +95,8 @@ fn planned_text(
     requires { length capacities.now ≡ length project.now.available }
     ensures made { IfOk result (λ text. spec.IsFrozenOf (ids_in file.now) listed.now file.now
         (planned project.now capacities.now) text.items) }
-    ensures refused { IfErr result (Refuses (spec.TellsNotFrozen (ids_in file.now) listed.now file.now
+    ensures refused { IfErr result (Refuses
+        (spec.TellsNotFrozen (ids_in file.now) listed.now file.now
         (planned project.now capacities.now))) }
 {
     let instance = instance_with(alloc, project, capacities, file)?;
@@ -142,10 +139,10 @@ fn file_text(
     replaced_text(alloc, listed, &names, given, &project, file)
 }
 
-/// Returns the `.sm` text of the frozen project: the project in a file, with arcs that keep the order
-/// of the starts in a text. The starts are in whole time units up to 10,000,000, in any form that
-/// `plan check` reads. The given capacities replace those of the file. The ids and names are those of
-/// the file.
+/// Returns the `.sm` text of the frozen project: the project in a file, with arcs that keep the
+/// order of the starts in a text. The starts are in whole time units up to 10,000,000, in any form
+/// that `plan check` reads. The given capacities replace those of the file. The ids and names are
+/// those of the file.
 ///
 /// Fails with the errors of the file, of the given capacities, of the needs and of the text of
 /// starts, then with `S10` if the starts aren't feasible or an activity can start earlier. Then

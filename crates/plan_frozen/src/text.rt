@@ -87,7 +87,8 @@ pub fn project_text(
     file: &[u8],
 ) -> Result<Vec<u8>, TextFault>
     requires { network.now.durations ≡ instance.now.project.network.durations }
-    ensures text { IfOk result (λ text. spec.IsTextOf instance.now network.now file.now text.items) }
+    ensures text { IfOk result (λ text.
+        spec.IsTextOf instance.now network.now file.now text.items) }
     ensures short { IfOk result (λ text. length text.items ≤ longest_text) }
     ensures small { IfOk result (λ _. spec.are_small instance.now.capacities ≡ true) }
     ensures refused { IfErr result (spec.RefusesText instance.now network.now file.now) }
