@@ -1,0 +1,12 @@
+pub mod WalkLemmas
+pub mod CapacityLemmas
+pub mod ActiveLemmas
+pub mod FrozenLemmas
+pub mod RowsLemmas
+pub mod RankLemmas
+pub mod KeptLemmas
+pub mod CopyLemmas
+pub mod OrderLemmas
+pub mod MadeLemmas
+pub mod OnceLemmas
+pub mod FaultLemmas

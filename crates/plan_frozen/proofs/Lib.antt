@@ -1,0 +1,11 @@
+pub mod JobLemmas
+pub mod NetworkLemmas
+pub mod LineLemmas
+pub mod NameLemmas
+pub mod KeptLemmas
+pub mod TextLemmas
+pub mod WaitLemmas
+pub mod IdLemmas
+pub mod ProjectLemmas
+pub mod FileLemmas
+pub mod RefusalLemmas

@@ -1,0 +1,13 @@
+pub mod Jobs
+pub mod FrozenText
+pub mod FrozenProject
+pub mod FrozenFile
+pub use Rattle.plan_net.specs.Network
+pub use Rattle.plan_table.specs.Jobs
+pub use Rattle.plan_table.specs.Names
+pub use Rattle.plan_freeze.specs.Frozen
+pub use Rattle.plan_freeze.specs.Refusals
+pub use Rattle.plan_errors.specs.Output
+pub use Rattle.plan_documents.specs.Details
+pub use Rattle.plan_documents.specs.Documents
+pub use Rattle.plan_documents.specs.Plans
