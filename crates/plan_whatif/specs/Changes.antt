@@ -1,5 +1,5 @@
--- Capacities of a project with that of one resource changed. Change 0 is one less, change 1 is none,
--- change 2 is one more, and so on. Resources are numbered from 0.
+-- Capacities of a project with that of one resource changed. Change 0 is one less, change 1 is
+-- none, change 2 is one more, and so on. Resources are numbered from 0.
 use Rattle.std.specs.Prelude.{◌≡◌, ◌≢◌, ℕ, ◌+◌, ◌≤◌, List, length, get_or}
 use Rattle.plan_psplib.specs.Project.{Project}
 use Rattle.plan_sgs.specs.Instances as instances

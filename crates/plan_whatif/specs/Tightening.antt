@@ -1,6 +1,7 @@
--- Bounds that neighbours tighten: a lower bound for more capacity is one for less, and a makespan for
--- less capacity can be reached with more.
-use Rattle.std.specs.Prelude.{◌≡◌, ℕ, ◌+◌, ◌≤◌, ◌<◌, max, min, List, length, get_or, Option, Some, None}
+-- Bounds that neighbours tighten: a lower bound for more capacity is one for less, and a makespan
+-- for less capacity can be reached with more.
+use Rattle.std.specs.Prelude.{◌≡◌, ℕ, ◌+◌, ◌≤◌, ◌<◌, max, min, List, length, get_or}
+use Rattle.std.specs.Prelude.{Option, Some, None}
 use Rattle.plan_whatif.specs.declared.bounds.Bounds.{Bounds}
 
 -- n is the greatest lower bound of the cells of a row from s on and below `end`

@@ -9,8 +9,8 @@ use std::alloc::{AllocError, Global};
 /// By how much a capacity can grow.
 pub const MOST_MORE: usize = 9;
 
-/// Returns the capacities after change `s` of resource `k`, which adds `s` and takes away 1. Returns
-/// `None` if nothing is left that could be taken away.
+/// Returns the capacities after change `s` of resource `k`, which adds `s` and takes away 1, or
+/// `None` if nothing can be taken away.
 pub(crate) fn changed(
     alloc: Global,
     capacities: &[u64],

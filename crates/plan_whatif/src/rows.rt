@@ -36,9 +36,7 @@ fn cell<W: SharedWatcher>(
     if s == 1 {
         return Ok(base);
     }
-    bounds_after(
-        alloc, project, capacities, k, s, conflicts, left, watcher,
-    )
+    bounds_after(alloc, project, capacities, k, s, conflicts, left, watcher)
 }
 
 // Returns the bounds for all changes of resource `k`, which are `base` without a change.
@@ -65,14 +63,23 @@ fn cells<W: SharedWatcher>(
     for s in 0..by + 2 {
         let left = left_at(capacities.len() - k, by, s);
         let bounds = cell(
-            alloc, project, capacities, base, k, s, conflicts, left, watcher,
+            alloc,
+            project,
+            capacities,
+            base,
+            k,
+            s,
+            conflicts,
+            left,
+            watcher,
         )?;
         row.push(bounds)?;
     }
     Ok(row)
 }
 
-// Returns the row of resource `k`. Its bounds without a change, before any is tightened, are `base`.
+// Returns the row of resource `k`. The bounds without a change are `base` before they are
+// tightened.
 fn row<W: SharedWatcher>(
     alloc: Global,
     project: &ProjectDoc,
@@ -90,9 +97,7 @@ fn row<W: SharedWatcher>(
     requires conflicts { IsConflictLimit conflicts }
     ensures { IfOk result (λ row. spec.IsRow project.now capacities.now k by row.items) }
 {
-    let cells = cells(
-        alloc, project, capacities, base, k, by, conflicts, watcher,
-    )?;
+    let cells = cells(alloc, project, capacities, base, k, by, conflicts, watcher)?;
     tightened(alloc, &cells)
 }
 
@@ -116,18 +121,16 @@ fn rows<W: SharedWatcher>(
 {
     let mut rows = Vec::new(alloc);
     for k in 0..capacities.len() {
-        let cells = row(
-            alloc, project, capacities, base, k, by, conflicts, watcher,
-        )?;
+        let cells = row(alloc, project, capacities, base, k, by, conflicts, watcher)?;
         rows.push(cells)?;
     }
     Ok(rows)
 }
 
 /// Returns the bounds of the least makespan of a project, if the capacity of one resource is one
-/// less, the same, one more, and so on up to `by` more. Row `k` is that of resource `k`, cell `s` that
-/// of `s - 1` more. A cell is `None` if an activity of positive duration then needs more than a
-/// capacity, or if the capacity is 0 and there is nothing to take away.
+/// less, the same, one more, and so on up to `by` more. Row `k` is that of resource `k`, cell `s`
+/// that of `s - 1` more. A cell is `None` if an activity of positive duration then needs more than
+/// a capacity, or if the capacity is 0 and nothing can be taken away.
 ///
 /// The bounds without a change are searched once. Each search may have an equal part of the
 /// `conflicts`, at least 1, and of the time of the watcher. The only error is that memory runs out.

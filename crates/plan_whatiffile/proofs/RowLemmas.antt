@@ -43,6 +43,7 @@ pub same_rows : (names : List (Vec ℕ Global)) (texts : List (Vec (Vec ℕ Glob
     → rows_of_texts texts ≡ map (λ row. map cell_text row) (rows_of bounds) → length names ≡ length bounds → length names ≡ length texts
 same_rows names texts bounds are whole =
     let made : length (rows_of_texts texts) ≡ length texts = length-map texts (λ (x : Vec (Vec ℕ Global) Global). texts_of x.items) in
-    let kept : length (map (λ (row : List (Option Bounds)). map cell_text row) (rows_of bounds)) ≡ length (rows_of bounds) = length-map (rows_of bounds) (λ (row : List (Option Bounds)). map cell_text row) in
+    let kept : length (map (λ (row : List (Option Bounds)). map cell_text row) (rows_of bounds)) ≡ length (rows_of bounds) =
+        length-map (rows_of bounds) (λ (row : List (Option Bounds)). map cell_text row) in
     let rows : length (rows_of bounds) ≡ length bounds = length-map bounds (λ (x : Vec (Option Bounds) Global). x.items) in
     whole ∙ sym rows ∙ sym kept ∙ sym (ap (λ (xs : List (List (List ℕ))). length xs) are) ∙ made

@@ -1,5 +1,6 @@
 -- The list of bounds: a row for each resource and each change.
-use Rattle.std.specs.Prelude.{ℕ, ◌-◌, ◌==◌, if◌then◌else◌, List, [], ◌∷◌, Option, Some, None, length, get_or, codes}
+use Rattle.std.specs.Prelude.{ℕ, ◌-◌, ◌==◌, if◌then◌else◌, List, [], ◌∷◌, length, get_or}
+use Rattle.std.specs.Prelude.{Option, Some, None, codes}
 use Rattle.std.specs.List.{flat_map, range_with_len}
 use Rattle.plan_formats.specs.Cells.{Cell, number, below, text, empty}
 use Rattle.plan_formats.specs.Columns.{Column}

@@ -139,11 +139,11 @@ fn plain<'a>() -> Subject<'a>
     Subject::Project(&[])
 }
 
-/// Returns the bounds of the least makespan of a project for changes of one capacity: one less, none,
-/// one more, and so on up to `by` more. As a text it is a table with a row for each resource and a
-/// column for each change. As CSV or JSON it has a row for each resource and each change. A list is
-/// read as the file that `plan import` makes of it. The searches share the `conflicts` and the time
-/// of the watcher.
+/// Returns the bounds of the least makespan of a project for changes of one capacity: one less,
+/// none, one more, and so on up to `by` more. As a text it is a table with a row for each resource
+/// and a column for each change. As CSV or JSON it has a row for each resource and each change. A
+/// list is read as the file that `plan import` makes of it. The searches share the `conflicts` and
+/// the time of the watcher.
 ///
 /// Errors: those of the list or of the project file, then `S1` (a need above a capacity).
 pub fn what_if_output<W: SharedWatcher>(
@@ -160,12 +160,5 @@ pub fn what_if_output<W: SharedWatcher>(
 {
     let of = plain();
     let read = readable(alloc, of, file)?;
-    file_text(
-        alloc,
-        by,
-        format,
-        conflicts,
-        read.text(file),
-        watcher,
-    )
+    file_text(alloc, by, format, conflicts, read.text(file), watcher)
 }
