@@ -1,0 +1,3 @@
+mod CapacityLemmas
+mod TighteningLemmas
+mod RowLemmas

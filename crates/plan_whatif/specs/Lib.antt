@@ -1,0 +1,9 @@
+pub mod Changes
+pub mod Cells
+pub mod Tightening
+pub mod Laws
+pub use Rattle.plan_psplib.specs.Project
+pub use Rattle.plan_sgs.specs.Problem
+pub use Rattle.plan_sgs.specs.Instances
+pub use Rattle.plan_solve.specs.Solutions
+pub use Rattle.plan_solve.specs.Progress

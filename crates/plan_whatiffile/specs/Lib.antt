@@ -1,0 +1,4 @@
+pub mod Texts
+pub mod Grids
+pub mod Lists
+pub mod Outputs
