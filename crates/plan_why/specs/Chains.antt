@@ -97,4 +97,5 @@ AddsUp p s chain = sum (map (time_of p) chain) ≡ makespan p s
 
 -- they do for each chain of each list of starts
 unfoldable pub ChainsAddUp : Type 0
-ChainsAddUp = (p : Problem) (s : List ℕ) (chain : List Reason) → IsChain p s chain → AddsUp p s chain
+ChainsAddUp =
+    (p : Problem) (s : List ℕ) (chain : List Reason) → IsChain p s chain → AddsUp p s chain

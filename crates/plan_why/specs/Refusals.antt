@@ -15,8 +15,8 @@ pub record HasUnitShift (p : Problem) (s : List ℕ) (i : ℕ) : Type 0 where
   pub late : 0 < get_or s i 0
   pub feasible : IsFeasible p (set s i (get_or s i 0 - 1))
 
--- The starts aren't feasible, with their first violation; or reasons lead from an activity that ends
--- at the makespan back to one that can start one instant earlier.
+-- The starts aren't feasible, with their first violation; or reasons lead from an activity that
+-- ends at the makespan back to one that can start one instant earlier.
 abbrev pub RefusesStarts : Problem → List ℕ → WhyFault → Type 0
 RefusesStarts p s NoMemory = Unit {0}
 RefusesStarts p s (NotFeasible v) = IsFirstVerdict p s v × (IsFeasible p s → ⊥)

@@ -33,7 +33,7 @@ fn check_feasible(alloc: Global, instance: &Instance, starts: &[u64]) -> Result<
     }
 }
 
-// Returns the chain that ends with an activity which ends at the makespan, from there back to time 0.
+// Returns the chain from an activity that ends at the makespan back to time 0.
 fn chain_back(
     alloc: Global,
     instance: &Instance,
@@ -62,14 +62,14 @@ fn chain_back(
     Ok(chain)
 }
 
-/// Returns the reasons why a schedule is as long as it is, from an activity that ends at the makespan
-/// back to one that begins at 0. The list has a start for each activity, in whole time units up to
-/// 10,000,000.
+/// Returns the reasons why a schedule is as long as it is, from an activity that ends at the
+/// makespan back to one that begins at 0. The list has a start for each activity, in whole time
+/// units up to 10,000,000.
 ///
 /// A predecessor comes before a resource, and lesser numbers come first. Fails with
-/// [`WhyFault::NotFeasible`] and the verdict if the starts break an arc or overload a resource. Fails
-/// with [`WhyFault::Early`] if the chain comes to an activity that can start one instant earlier. An
-/// active schedule has no such activity.
+/// [`WhyFault::NotFeasible`] and the verdict if the starts break an arc or overload a resource.
+/// Fails with [`WhyFault::Early`] if the chain comes to an activity that can start one instant
+/// earlier. An active schedule has no such activity.
 pub fn chain(
     alloc: Global,
     instance: &Instance,

@@ -1,5 +1,5 @@
-//! The reasons why a schedule of a project is as long as it is: a chain of activities from time 0 to
-//! the makespan.
+//! The reasons why a schedule of a project is as long as it is: a chain of activities from time 0
+//! to the makespan.
 #![tactic(auto)]
 
 mod chains;

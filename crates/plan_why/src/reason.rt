@@ -6,10 +6,11 @@ ghost use Rattle.plan_why.specs.Chains.{activity_of, before_of};
 /// The reason why `activity` starts when it starts. Activities and resources are numbered from 1.
 #[derive(Debug, Clone, Copy, Drop)]
 pub enum Reason {
-    /// It follows `before`: it starts at the end of this predecessor plus the lag in whole time units.
+    /// It follows `before`: it starts at the end of this predecessor plus the lag, in whole time
+    /// units.
     Follows { activity: u32, before: u32, lag: u64 },
-    /// It waits for `resource` until `before` ends. Both need the resource. One instant earlier there
-    /// isn't enough of it.
+    /// It waits for `resource` until `before` ends. Both need the resource. One instant earlier
+    /// there isn't enough of it.
     Waits {
         activity: u32,
         resource: u32,

@@ -33,8 +33,8 @@ fn tight_predecessor(network: &Network, starts: &[u64], j: u32) -> Option<u32>
     None
 }
 
-// Returns the reason that activity `j` follows the first predecessor that ends, with its lag, at its
-// start.
+// Returns the reason that activity `j` follows the first predecessor that ends, with its lag, at
+// its start.
 fn following(instance: &Instance, starts: &[u64], j: u32) -> Option<Reason>
     requires whole { length starts.now ≡ count_of instance.now.project.network }
     requires limit { All IsInTime starts.now }
@@ -121,7 +121,7 @@ fn late_reason(instance: &Instance, starts: &[u64], j: u32) -> Option<Reason>
     waiting(instance, starts, j)
 }
 
-/// Returns the reason why activity `j` starts when it starts, or nothing if it can start one instant
+/// Returns the reason why activity `j` starts when it starts, or `None` if it can start one instant
 /// earlier. A predecessor comes before a resource, and lesser numbers come first.
 pub fn reason_of(instance: &Instance, starts: &[u64], j: u32) -> Option<Reason>
     requires whole { length starts.now ≡ count_of instance.now.project.network }

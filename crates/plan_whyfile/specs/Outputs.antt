@@ -1,5 +1,6 @@
 -- The output of `plan why` for the bytes that it reads.
 use Rattle.std.specs.Prelude.{◌≡◌, ◌⊎◌, ℕ, List, Option, Some, None}
+use denote.Ref.{Bor}
 use Rattle.plan_documents.specs.Documents.{ids_in}
 use Rattle.plan_documents.specs.Lists.{ReadsAs, RefusesAs}
 use Rattle.plan_documents.specs.Plans.{IsOfProject, RefusesFile}
@@ -7,7 +8,7 @@ use Rattle.plan_documents.specs.ScheduleRun.{TellsNeed}
 use Rattle.plan_documents.specs.Starts.{TellsNoStarts}
 use Rattle.plan_documents.specs.VerdictText.{infeasible_line}
 use Rattle.plan_documents.specs.declared.capacities.Capacity.{Capacity}
-use Rattle.plan_documents.specs.declared.documents.Subject.{Subject}
+use Rattle.plan_documents.specs.declared.documents.Subject.TheVariants as subject
 use Rattle.plan_formats.specs.TableFormats.{format_text}
 use Rattle.plan_formats.specs.declared.format.Format.{Format}
 use Rattle.plan_report.specs.IdSheets.{id_sheet}
@@ -46,9 +47,9 @@ abbrev pub IsWhyOf : Option Format → List Capacity → List ℕ → List ℕ �
 IsWhyOf format given listed file = IsOfProject given (IsWhyText format listed file) file
 
 -- the same for a file that may be a list
-abbrev pub ShowsWhy : Option Format → Subject → List Capacity → List ℕ → List ℕ → List ℕ → Type 0
-ShowsWhy format of given listed file output =
-    ReadsAs of file (λ kind s read. IsWhyOf format given listed read output)
+abbrev pub ShowsWhy : Option Format → Bor (List Capacity) → List ℕ → List ℕ → List ℕ → Type 0
+ShowsWhy format given listed file output = ReadsAs (subject.Project given) file
+    (λ kind s read. IsWhyOf format given.now listed read output)
 
 -- ---- errors
 
@@ -80,6 +81,6 @@ abbrev pub RefusesWhyOf : List Capacity → List ℕ → List ℕ → List ℕ �
 RefusesWhyOf given listed file = RefusesFile given (TellsNoWhy (ids_in file) listed) file
 
 -- the same for a file that may be a list
-abbrev pub RefusesWhy : Subject → List Capacity → List ℕ → List ℕ → List ℕ → Type 0
-RefusesWhy of given listed file line =
-    RefusesAs of file (λ s read. RefusesWhyOf given listed read) line
+abbrev pub RefusesWhy : Bor (List Capacity) → List ℕ → List ℕ → List ℕ → Type 0
+RefusesWhy given listed file line =
+    RefusesAs (subject.Project given) file (λ s read. RefusesWhyOf given.now listed read) line

@@ -51,7 +51,8 @@ abbrev pub row_of : Naming → Reason → List Cell
 row_of naming (Follows activity before lag) =
     row naming activity (codes "follows") empty (activity_cell naming before)
 row_of naming (Waits activity resource before) =
-    row naming activity (codes "waits") (resource_cell naming resource) (activity_cell naming before)
+    row naming activity (codes "waits") (resource_cell naming resource)
+    (activity_cell naming before)
 row_of naming (Begins activity) = row naming activity (codes "begins") empty empty
 
 -- the table of reasons

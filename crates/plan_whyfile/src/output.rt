@@ -67,8 +67,8 @@ fn instance_why(
     }
 }
 
-// Returns the reasons for the starts in a text, for an instance. Its error has the names in the file
-// of the instance.
+// Returns the reasons for the starts in a text, for an instance. Its error has the names in the
+// file of the instance.
 #[tactic(auto, using(plan_documents::proofs::SentenceLemmas::detailed_refuses))]
 fn named_why(
     alloc: Global,
@@ -158,10 +158,10 @@ fn file_why(
 /// back to time 0. The output has one sentence on each line. With a format it is a table with the
 /// columns `activity`, `name`, `reason` (`follows`, `waits` or `begins`), `resource` and `of`.
 ///
-/// `starts` has the start times of the activities of the project in `file`, a project file or a list.
-/// A list is read as the file that `plan import` makes of it. Errors: those of `file`, `S8` (no such
-/// resource), `S1` (a need above its capacity), those of `starts`, `S10` (the start times aren't
-/// feasible, or an activity of the chain can start earlier).
+/// `starts` has the start times of the activities of the project in `file`, a project file or a
+/// list. A list is read as the file that `plan import` makes of it. Errors: those of `file`, `S8`
+/// (no such resource), `S1` (a need above its capacity), those of `starts`, `S10` (the start times
+/// aren't feasible, or an activity of the chain can start earlier).
 pub fn why_text(
     alloc: Global,
     format: Option<Format>,
@@ -169,10 +169,10 @@ pub fn why_text(
     starts: &[u8],
     file: &[u8],
 ) -> Result<Vec<u8>, CliFault>
-    ensures shown { IfOk result (λ text. spec.ShowsWhy format (Subject.Project given.entry)
-        given.now starts.now file.now text.items) }
-    ensures refused { IfErr result (Refuses (spec.RefusesWhy (Subject.Project given.entry)
-        given.now starts.now file.now)) }
+    ensures shown { IfOk result (λ text.
+        spec.ShowsWhy format given.entry starts.now file.now text.items) }
+    ensures refused { IfErr result (Refuses
+        (spec.RefusesWhy given.entry starts.now file.now)) }
 {
     let read = readable(alloc, Subject::Project(given), file)?;
     file_why(alloc, format, starts, given, read.text(file))
