@@ -47,9 +47,6 @@ amount_stays p s t k i none = elim (cases_lt t (get_or s i 0)) [
 pub short_until : (p : Problem) (s : List ℕ) (j k : ℕ) → IsFeasible p s → j < count p → 0 < get_or s j 0 → 0 < duration p j → k < length p.capacities
     → ((i : ℕ) → i < count p → UsesUntil p s i k (get_or s j 0) → ⊥) → IsShort p s j k → ⊥
 short_until p s j k feasible inside late lasts within none short = omega (arith, more, before, after, kept, short) where
-  t : ℕ
-  t = get_or s j 0 - 1
-
   next : suc (get_or s j 0 - 1) ≡ get_or s j 0
   next = omega (arith, late)
 
