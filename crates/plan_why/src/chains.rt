@@ -50,6 +50,8 @@ fn chain_back(
         spec.IsChain (problem_of instance.now) starts.now chain.items) }
     ensures refused { IfErr result (RefusesStarts (problem_of instance.now) starts.now) }
 {
+    // The proof needs the facts of the instance, which this call states.
+    let _network = instance.network();
     let mut chain = Vec::new(alloc);
     let mut next = Some(last);
     while let Some(activity) = next {
