@@ -1,0 +1,6 @@
+mod UsageLemmas
+mod ShiftLemmas
+mod RankLemmas
+mod ChainLemmas
+mod InstanceLemmas
+mod FaultLemmas

@@ -1,0 +1,4 @@
+pub mod Naming
+pub mod Sentences
+pub mod Rows
+pub mod Outputs
