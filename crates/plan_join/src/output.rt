@@ -30,6 +30,7 @@ fn read_part(alloc: Global, today: Option<u32>, part: Part<'_>) -> Result<Listed
 }
 
 // Reads the lists of all parts.
+#[tactic(auto, using(crate::proofs::OutputLemmas::more_read, crate::proofs::OutputLemmas::unread))]
 fn read_parts<'a>(
     alloc: Global,
     parts: &[Part<'a>],
@@ -50,7 +51,7 @@ fn read_parts<'a>(
 
 // Checks that a text is read as the union of parts, which have at most as many activities as a list
 // can have.
-#[tactic(auto, using(crate::proofs::OutputLemmas::refuses_named))]
+#[tactic(auto, using(crate::proofs::OutputLemmas::refuses_named, crate::proofs::OutputLemmas::unlisted, crate::proofs::OutputLemmas::another))]
 fn check_union(
     alloc: Global,
     read: &[ReadPart<'_>],
@@ -74,6 +75,7 @@ fn check_union(
 }
 
 // Returns the joined list of parts.
+#[tactic(auto, using(crate::proofs::OutputLemmas::disputed, crate::proofs::OutputLemmas::many, crate::proofs::OutputLemmas::no_text))]
 fn union_text(alloc: Global, read: &[ReadPart<'_>], today: Option<u32>) -> Result<Vec<u8>, CliFault>
     ensures joined { IfOk result (λ text. spec.IsUnionText read.now today text.items) }
     ensures refused { IfErr result (Refuses (spec.TellsNoUnion read.now today)) }
@@ -99,6 +101,7 @@ fn union_text(alloc: Global, read: &[ReadPart<'_>], today: Option<u32>) -> Resul
 /// part; `T4` (two capacities of one resource); `T12` (too many activities); the first error of the
 /// joined list, such as a limit (`T12`) or an id that is too long (`T6`); `T4` (a name has another
 /// meaning in the joined list).
+#[tactic(auto, using(crate::proofs::OutputLemmas::no_part, crate::proofs::OutputLemmas::no_union, crate::proofs::OutputLemmas::is_joined))]
 pub fn joined_list(
     alloc: Global,
     parts: &[Part<'_>],
