@@ -1,0 +1,5 @@
+pub mod UnionLemmas
+pub mod OutputLemmas
+pub mod FaultLemmas
+pub mod RowLemmas
+pub mod PlanLemmas

@@ -1,0 +1,8 @@
+use Rattle.std.proofs.Common.{◌≡◌, take}
+use Rattle.std.specs.List.{flat_map}
+use Rattle.plan_join.specs.Unions.{states_of}
+use Rattle.plan_join.proofs.activities.states_of.Given as goal
+
+-- the states of the parts so far
+abbrev pub invariant-loop-part : goal.invariant-loop-part
+invariant-loop-part l = l.list.items ≡ flat_map states_of (take l.part-index l.read)

@@ -1,0 +1,9 @@
+pub mod Parts
+pub mod Resources
+pub mod Unions
+pub mod Links
+pub mod Comparisons
+pub mod Rows
+pub mod Lines
+pub mod Outputs
+pub mod Plans
