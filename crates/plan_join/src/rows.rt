@@ -53,12 +53,8 @@ fn push_word(
     ensures { OnOk result (text.new.items
         ≡ text.old.items ++ spec.arc_word read.now part.now arc.now) }
 {
-    let id = joined_id(
-        alloc,
-        read,
-        part,
-        id_at(planned(&part.listed), arc.from as usize),
-    )?;
+    let own = id_at(planned(&part.listed), arc.from as usize);
+    let id = joined_id(alloc, read, part, own)?;
     text.extend_from_slice(&id)?;
     push_lag(alloc, text, arc.lag)?;
     text.push(b' ')?;
